@@ -1,0 +1,92 @@
+ghost use Rattle.std.specs.Prelude.{◌≡◌, ℕ, ◌+◌, ◌-◌, ◌*◌, ◌/◌, ◌^◌, ◌<◌, ◌≤◌, ◌++◌, length, decimal};
+ghost use Rattle.arrayvec.specs.ArrayString.{array_string_len};
+ghost use Rattle.decimal_coords.specs.Fixed.{fixed_text, places_text};
+
+use crate::powers::{power_of_ten, split, zeros};
+use arrayvec::ArrayString;
+use itoa::Buffer;
+
+/// Appends `n`, in 64 bits where it has no more.
+fn push_whole(n: u128, out: &mut ArrayString<48>)
+    requires small { n < 10 ^ 30 }
+    requires room { array_string_len out.old ≤ 1 }
+    ensures bytes { out.new.bytes ≡ out.old.bytes ++ decimal n }
+    ensures len { array_string_len out.new ≤ 31 }
+{
+    let mut buffer = Buffer::new();
+    if let Ok(n) = u64::try_from(n) {
+        out.push_str(buffer.format(n));
+    } else {
+        out.push_str(buffer.format(n));
+    }
+}
+
+/// Appends `n / 10^places`.
+fn push_places(n: u128, places: u32, out: &mut ArrayString<48>)
+    requires places { places ≤ 9 }
+    requires small { n / 10 ^ places < 10 ^ 30 }
+    requires room { array_string_len out.old ≤ 1 }
+    ensures { out.new.bytes ≡ out.old.bytes ++ places_text places n }
+{
+    if places == 0 {
+        push_whole(n, out);
+        return;
+    }
+    let parts = split(n, places);
+    push_whole(parts.quotient, out);
+    out.push_str(".");
+    let mut buffer = Buffer::new();
+    let part = buffer.format(parts.rest);
+    out.push_str(zeros(places as usize - part.len()));
+    out.push_str(part);
+}
+
+/// Puts the text of `nano` nanounits in place of `out`'s, rounded half away from zero to `places`
+/// digits after the point, at most 9. With 0 places there is no point. A minus sign stands exactly
+/// where the rounded number is below 0.
+pub fn print_fixed(nano: i128, places: u32, out: &mut ArrayString<48>)
+    requires { places ≤ 9 }
+    ensures { out.new.bytes ≡ fixed_text nano places }
+{
+    let unit = power_of_ten(9 - places);
+    let rounded = split(nano.unsigned_abs() + (unit / 2) as u128, 9 - places).quotient;
+    out.clear();
+    if nano < 0 && rounded > 0 {
+        out.push_str("-");
+    }
+    push_places(rounded, places, out);
+}
+
+#[cfg(test)]
+mod tests {
+    use super::*;
+    use std::test::Fail;
+
+    #[test]
+    fn print_fixed_rounds_half_away(rt: HostRuntime) -> Result<(), Fail> {
+        let texts = [
+            (-5_000_000, 2, "-0.01"),
+            (-4_999_999, 2, "0.00"),
+            (2_500_000_000, 0, "3"),
+            (-2_500_000_000, 0, "-3"),
+            (-499_999_999, 0, "0"),
+            (0, 9, "0.000000000"),
+            (-1, 9, "-0.000000001"),
+            (1, 8, "0.00000000"),
+            (5, 8, "0.00000001"),
+            (123_000_456_789, 9, "123.000456789"),
+            (i64::MAX as i128, 9, "9223372036.854775807"),
+            (i64::MIN as i128, 9, "-9223372036.854775808"),
+            (i64::MIN as i128, 0, "-9223372037"),
+            (i128::MIN, 9, "-170141183460469231731687303715.884105728"),
+            (i128::MAX, 0, "170141183460469231731687303716"),
+        ];
+        let mut out = ArrayString::new();
+        for (nano, places, text) in texts {
+            assert!(rt; places <= 9);
+            print_fixed(nano, places, &mut out);
+            assert_eq!(rt; out.as_str(), text);
+        }
+        Ok(())
+    }
+}

@@ -1,0 +1,75 @@
+//! Exact arithmetic on whole numbers: quotients rounded half away from zero.
+#![tactic(auto)]
+
+ghost use Rattle.std.specs.Prelude.{◌≡◌, ◌^◌, ◌≤◌, pos, ◌≤ℤ◌, unsigned_abs};
+ghost use Rattle.exact_numbers.specs.Rounding.{half_away, HalfAwayIsOne, IsHalfAway};
+
+/// The quotient `num / den` rounded to a whole number, a half away from zero.
+///
+/// `den` is from 1 to 10^28, and `num` is at most 10^37 in size.
+pub fn half_away(num: i128, den: i128) -> i128
+    requires size { unsigned_abs num ≤ 10 ^ 37 }
+    requires low { pos 1 ≤ℤ den }
+    requires high { den ≤ℤ pos (10 ^ 28) }
+    ensures value { result ≡ half_away num (unsigned_abs den) }
+    ensures nearest { IsHalfAway num (unsigned_abs den) result }
+{
+    let unit = den as u128;
+    let size = (num.unsigned_abs() + unit / 2) / unit;
+    if num < 0 {
+        -(size as i128)
+    } else {
+        size as i128
+    }
+}
+
+/// The law that a quotient has exactly one rounding half away from zero, which `half_away` computes.
+pub fn half_away_is_one()
+    ensures { HalfAwayIsOne }
+{}
+
+#[cfg(test)]
+mod tests {
+    use super::*;
+    use std::test::Fail;
+
+    #[test]
+    fn a_half_goes_away_from_zero(rt: HostRuntime) -> Result<(), Fail> {
+        let quotients = [
+            (5, 2, 3),
+            (-5, 2, -3),
+            (1, 2, 1),
+            (-1, 2, -1),
+            (1, 3, 0),
+            (2, 3, 1),
+            (-2, 3, -1),
+            (0, 7, 0),
+            (7, 1, 7),
+            (
+                10_000_000_000_000_000_000_000_000_000_000_000_000,
+                1,
+                10_000_000_000_000_000_000_000_000_000_000_000_000,
+            ),
+            (
+                -10_000_000_000_000_000_000_000_000_000_000_000_000,
+                10_000_000_000_000_000_000_000_000_000,
+                -1_000_000_000,
+            ),
+            (
+                5_000_000_000_000_000_000_000_000_000,
+                10_000_000_000_000_000_000_000_000_000,
+                1,
+            ),
+            (
+                4_999_999_999_999_999_999_999_999_999,
+                10_000_000_000_000_000_000_000_000_000,
+                0,
+            ),
+        ];
+        for (num, den, rounded) in quotients {
+            assert_eq!(rt; half_away(num, den), rounded);
+        }
+        half_away_is_one();
+        Ok(())
+    }
+}

@@ -1,0 +1,3 @@
+pub mod ContentLemmas
+pub mod Filling
+pub mod StoredLemmas

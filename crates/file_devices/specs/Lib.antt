@@ -1,0 +1,9 @@
+pub mod Counts
+pub mod Told
+pub mod Content
+pub mod Named
+pub mod Sure
+pub mod Stored
+pub mod Planned
+pub mod Filled
+pub mod Whole

@@ -1,0 +1,10 @@
+use Rattle.std.proofs.Common.{arith, rules, ◌≤◌}
+use Rattle.las_reader.specs.Files.{whole_records}
+use Rattle.std.proofs.Common.{drop}
+use Rattle.las_reader.proofs.Steps.{gives_view_end}
+use Rattle.las_reader.proofs.reader.LasReader.next.Goals as goal
+
+pub returns-else-given-count-clause-told : goal.returns-else-given-count-clause-told
+returns-else-given-count-clause-told g c = λ file e h.
+    let within : whole_records c.args.self.now.count file ≤ c.args.self.now.count = omega arith in
+    rw c.in-Records.is (gives_view_end c.args.self.now.count c.args.chunk c.in-Records.given (whole_records c.args.self.now.count file) (drop 375 file) c.clear.new.self.items within (omega arith) (search rules))

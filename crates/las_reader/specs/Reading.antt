@@ -1,0 +1,57 @@
+-- A file that is read piece by piece.
+use Rattle.std.specs.Prelude.{◌≡◌, ◌⊎◌, ℕ, ◌+◌, ◌*◌, ◌<◌, ◌≤◌, min, nat_lt, if◌then◌else◌, Bool, true, false, List, [], length, take, drop, Option, Some, None}
+use Rattle.file_devices.specs.declared.devices.Op.TheVariants.{Read}
+use Rattle.cloud_points.specs.declared.point.Point.{Point}
+use Rattle.cloud_points.specs.declared.faults.Make.{Make}
+use Rattle.cloud_points.specs.declared.faults.Make.TheVariants.{Points, EndView, End}
+use Rattle.cloud_points.specs.declared.faults.StageFault.TheVariants as stage
+use Rattle.cloud_points.specs.declared.faults.PointFault.TheVariants.{Cut}
+use Rattle.las_reader.specs.declared.reader.Progress.{Progress}
+use Rattle.las_reader.specs.declared.reader.Progress.TheVariants.{Records, ViewEnded, Ended}
+
+-- what a call gives, and how far the reader is then
+pub record Step : Type 0 where
+  pub made : Make
+  pub points : List Point
+  pub progress : Progress
+
+abbrev pub ends : Bool → Option ℕ → Step
+ends cut None = record { made = End cut None; points = []; progress = Ended cut }
+ends cut (Some k) = record { made = End cut (Some (stage.Point (Cut k))); points = []; progress = Ended cut }
+
+abbrev pub view_ends : Step
+view_ends = record { made = EndView; points = []; progress = ViewEnded }
+
+abbrev pub gives : ℕ → List Point → Step
+gives given points = record { made = Points; points = points; progress = Records (given + length points) }
+
+-- the next step, of at most so many points, in a file whose header counts `count` records and of which these points are whole
+abbrev pub step_of : ℕ → List Point → Progress → ℕ → Step
+step_of count points (Records given) chunk = if nat_lt given (length points) then gives given (take chunk (drop given points))
+    else (if nat_lt given count then ends true (Some given) else view_ends)
+step_of count points ViewEnded chunk = ends false None
+step_of count points (Ended cut) chunk = ends cut None
+
+-- a read that failed
+abbrev pub read_failed : Make
+read_failed = End true (Some (stage.Device Read))
+
+-- a call gave this step
+pub record IsStep (step : Step) (made : Make) (points : List Point) (progress : Progress) : Type 0 where
+  pub made_is : made ≡ step.made
+  pub points_are : points ≡ step.points
+  pub progress_is : progress ≡ step.progress
+
+-- what a call may give, whatever the source holds
+abbrev pub Moves : ℕ → ℕ → Progress → Make → List Point → Progress → Type 0
+Moves count chunk (Records given) Points points after = (0 < length points) × (length points ≤ chunk) × (given + length points ≤ count) × (after ≡ Records (given + length points))
+Moves count chunk (Records given) EndView points after = (points ≡ []) × (after ≡ ViewEnded)
+Moves count chunk (Records given) (End cut fault) points after = (points ≡ []) × (after ≡ Ended true) × (cut ≡ true) × ((fault ≡ Some (stage.Point (Cut given))) ⊎ (fault ≡ Some (stage.Device Read)))
+Moves count chunk ViewEnded made points after = (points ≡ []) × (after ≡ Ended false) × (made ≡ End false None)
+Moves count chunk (Ended cut) made points after = (points ≡ []) × (after ≡ Ended cut) × (made ≡ End cut None)
+
+-- the end of the next records, which a call may ask for
+abbrev pub asked_to : ℕ → ℕ → Progress → ℕ
+asked_to count chunk (Records given) = 375 + 20 * min (given + chunk) count
+asked_to count chunk ViewEnded = 0
+asked_to count chunk (Ended cut) = 0

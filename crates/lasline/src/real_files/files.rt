@@ -1,0 +1,166 @@
+//! The store of the system's files.
+ghost use Rattle.std.specs.Prelude.{◌≡◌, ◌+◌, ◌-◌, ◌^◌, ◌<◌, ◌≤◌, [], None, IfOk, ◌++◌, codes, string_bytes, false};
+ghost use Rattle.file_devices.specs.Counts.{saturating};
+
+use crate::real_files::window::Window;
+use crate::real_files::{RealIn, RealOut};
+use file_devices::{DeviceErr, Files};
+use std::alloc::{AllocError, Global};
+use std::fs::{File, OpenOptions};
+use std::{fs, io};
+
+// How many bytes are read and written together.
+const BLOCK: usize = 65_536;
+
+/// The files of the system, with the runtime's right to open them. Their map isn't told.
+///
+/// A file NAME is written as the new file `NAME.lasline-part`, which gets its name when it is kept and is
+/// removed where it isn't. Where a file of that other name is there already, it stays as it is, and
+/// creating fails.
+#[derive(Drop)]
+pub struct RealFiles<'a, R: std::rt::Files<File = File>> {
+    rt: &'a R,
+    alloc: Global,
+    faults: u64,
+    lent: u64,
+}
+
+// The name that a file is written under until it is kept.
+fn part_of(alloc: Global, name: &str) -> Result<String, AllocError>
+    ensures { IfOk result (λ part. string_bytes part ≡ name.now ++ codes ".lasline-part") }
+{
+    format!(in alloc; "{name}.lasline-part")
+}
+
+impl<'a, R: std::rt::Files<File = File>> RealFiles<'a, R> {
+    /// The store of the files that the runtime can open.
+    pub fn new(rt: &'a R, alloc: Global) -> Self
+        ensures faults { ⟦<RealFiles<'a, R> as Files>⟧.faults result ≡ 0 }
+        ensures lent { ⟦<RealFiles<'a, R> as Files>⟧.lent result ≡ 0 }
+    {
+        RealFiles {
+            rt,
+            alloc,
+            faults: 0,
+            lent: 0,
+        }
+    }
+
+    /// The count of faults: its own, and those of the objects that were taken back.
+    pub fn count(&self) -> u64
+        ensures { result ≡ ⟦<RealFiles<'a, R> as Files>⟧.faults self.now }
+    {
+        self.faults
+    }
+
+    /// How many objects were handed out and not yet taken back.
+    pub fn lent(&self) -> u64
+        ensures { result ≡ ⟦<RealFiles<'a, R> as Files>⟧.lent self.now }
+    {
+        self.lent
+    }
+
+    // Takes an object with this count of faults back.
+    fn take_back(&mut self, faults: u64)
+        ensures lent { self.new.lent ≡ self.old.lent - 1 }
+        ensures faults { self.new.faults ≡ saturating self.old.faults faults }
+        ensures later { self.old.faults ≤ self.new.faults }
+    {
+        self.lent = self.lent.saturating_sub(1);
+        self.faults = self.faults.saturating_add(faults);
+    }
+
+    // Makes a file that isn't there yet.
+    fn create_new(&self, path: &str) -> io::Result<File> {
+        let mut how = OpenOptions::new();
+        how.write(true).create_new(true);
+        how.open(self.rt, path)
+    }
+
+    // Gives the file of a sink its name. All its bytes have gone to the system.
+    fn rename(&self, out: &RealOut, name: &str) -> io::Result<()>
+        requires none_waits { out.now.waiting.items ≡ [] }
+        requires whole { out.now.broken ≡ false }
+    {
+        fs::rename(self.rt, out.part(), name)
+    }
+
+    // Removes the file that a sink was written to.
+    fn remove(&mut self, out: &RealOut)
+        ensures later { self.old.faults ≤ self.new.faults }
+        ensures lent { self.new.lent ≡ self.old.lent }
+    {
+        if fs::remove_file(self.rt, out.part()).is_err() {
+            self.faults = self.faults.saturating_add(1);
+        }
+    }
+}
+
+impl<'a, R: std::rt::Files<File = File>> Files for RealFiles<'a, R> {
+    type In = RealIn;
+
+    type Out = RealOut;
+
+    ghost map = { λ _. None };
+
+    ghost read_to = { λ _. None };
+
+    ghost lent = { λ s. s.lent };
+
+    ghost faults = { λ s. s.faults };
+
+    fn open_in(&mut self, name: &str) -> Result<RealIn, DeviceErr> {
+        if self.lent == u64::MAX {
+            return Err(DeviceErr::Memory);
+        }
+        let window = Window::new(self.alloc, BLOCK)?;
+        match fs::open(self.rt, name) {
+            Ok(file) => {
+                self.lent += 1;
+                Ok(RealIn::new(file, window))
+            }
+            Err(_) => {
+                self.faults = self.faults.saturating_add(1);
+                Err(DeviceErr::Failed)
+            }
+        }
+    }
+
+    fn create(&mut self, name: &str) -> Result<RealOut, DeviceErr> {
+        if self.lent == u64::MAX {
+            return Err(DeviceErr::Memory);
+        }
+        let part = part_of(self.alloc, name)?;
+        let buffer = Vec::with_capacity(self.alloc, BLOCK)?;
+        match self.create_new(part.as_str()) {
+            Ok(file) => {
+                self.lent += 1;
+                Ok(RealOut::new(file, part, buffer, BLOCK))
+            }
+            Err(_) => {
+                self.faults = self.faults.saturating_add(1);
+                Err(DeviceErr::Failed)
+            }
+        }
+    }
+
+    fn keep(&mut self, name: &str, mut out: RealOut) -> Result<(), DeviceErr> {
+        let written = out.flush();
+        self.take_back(out.faults());
+        if written.is_ok() && self.rename(&out, name).is_ok() {
+            return Ok(());
+        }
+        self.faults = self.faults.saturating_add(1);
+        self.remove(&out);
+        Err(DeviceErr::Failed)
+    }
+
+    fn done_in(&mut self, source: RealIn) {
+        self.take_back(source.faults());
+    }
+
+    fn done_out(&mut self, out: RealOut) {
+        self.take_back(out.faults());
+        self.remove(&out);
+    }
+}

@@ -1,0 +1,170 @@
+//! A file that is written through a buffer.
+ghost use Rattle.std.specs.Prelude.{◌≡◌, ◌+◌, ◌-◌, ◌^◌, ◌<◌, ◌≤◌, ◌++◌, [], List, ℕ, length, min, None, true, false, OnOk, OnErr, vec_len, vec_capacity};
+ghost use Rattle.file_devices.specs.Counts.{HasCause, Rose, saturating};
+ghost use Rattle.file_devices.specs.Content.{Appends, AppendsPart, Patches, PatchesSomehow};
+ghost use Rattle.lasline.specs.Untold.{untold};
+ghost use Rattle.lasline.specs.Waiting.{waiting_after};
+
+use file_devices::{Failed, FileSink, Sink};
+use std::fs::File;
+use std::os::unix::fs::FileExt;
+
+/// A file that is written under another name until it is kept.
+///
+/// Pieces wait in a buffer and are written together, so a write that fails may be answered by a later
+/// call. After a failed write every further call fails, and the file can't be kept. Its bytes aren't
+/// told.
+#[derive(Drop)]
+pub struct RealOut {
+    file: File,
+    part: String,
+    waiting: Vec<u8>,
+    room: usize,
+    start: u64,
+    broken: bool,
+    faults: u64,
+    ghost within: { vec_len waiting ≤ room },
+    ghost reserved: { room ≤ vec_capacity waiting },
+    ghost small: { start + vec_len waiting < 2 ^ 64 },
+}
+
+impl RealOut {
+    // A sink over a new file, whose buffer is a vector with room for `room` bytes.
+    pub(crate) fn new(file: File, part: String, buffer: Vec<u8>, room: usize) -> Self
+        requires empty { buffer.items ≡ [] }
+        requires reserved { room ≤ vec_capacity buffer }
+        ensures appended { ⟦<RealOut as Sink>⟧.appended result ≡ 0 }
+        ensures faults { ⟦<RealOut as Sink>⟧.faults result ≡ 0 }
+        ensures whole { result.broken ≡ false }
+    {
+        RealOut {
+            file,
+            part,
+            waiting: buffer,
+            room,
+            start: 0,
+            broken: false,
+            faults: 0,
+        }
+    }
+
+    pub(crate) fn faults(&self) -> u64
+        ensures { result ≡ ⟦<RealOut as Sink>⟧.faults self.now }
+    {
+        self.faults
+    }
+
+    // The name that it is written under.
+    pub(crate) fn part(&self) -> &str {
+        self.part.as_str()
+    }
+
+    // Counts a failed write, after which the file isn't whole.
+    fn fail(&mut self) -> Failed
+        ensures rose { self.new.faults ≡ saturating self.old.faults 1 }
+        ensures later { self.old.faults ≤ self.new.faults }
+        ensures broken { self.new.broken ≡ true }
+        ensures room { self.new.room ≡ self.old.room }
+        ensures appended { self.new.start + vec_len self.new.waiting ≡ self.old.start + vec_len self.old.waiting }
+    {
+        self.faults = self.faults.saturating_add(1);
+        self.broken = true;
+        Failed
+    }
+
+    // Lets a piece wait behind the others. There is room for it.
+    fn wait(&mut self, piece: &[u8])
+        requires room { vec_len self.old.waiting + length piece.now ≤ self.old.room }
+        requires small { self.old.start + (vec_len self.old.waiting + length piece.now) < 2 ^ 64 }
+        ensures waiting { self.new.waiting.items ≡ self.old.waiting.items ++ piece.now }
+        ensures same { (self.new.start ≡ self.old.start) × (self.new.broken ≡ self.old.broken)
+            × (self.new.faults ≡ self.old.faults) }
+    {
+        self.waiting.extend_from_slice(piece).unwrap();
+    }
+
+    // Writes what waits. It fails where this or an earlier write failed, so after Ok all bytes that were
+    // appended have gone to the system.
+    pub(crate) fn flush(&mut self) -> Result<(), Failed>
+        ensures none_waits { OnOk result (self.new.waiting.items ≡ []) }
+        ensures whole { OnOk result (self.new.broken ≡ false) }
+        ensures broken { OnErr result (self.new.broken ≡ true) }
+        ensures appended { self.new.start + vec_len self.new.waiting ≡ self.old.start + vec_len self.old.waiting }
+        ensures room { self.new.room ≡ self.old.room }
+        ensures cause { HasCause self.old.faults self.new.faults result }
+    {
+        if self.broken || self.file.write_all_at(&self.waiting, self.start).is_err() {
+            return Err(self.fail());
+        }
+        self.start += self.waiting.len() as u64;
+        self.waiting.clear();
+        Ok(())
+    }
+}
+
+impl Sink for RealOut {
+    ghost bytes = { λ _. untold };
+
+    ghost appended = { λ s. s.start + vec_len s.waiting };
+
+    ghost faults = { λ s. s.faults };
+
+    fn append(&mut self, piece: &[u8]) -> Result<(), Failed>
+        ensures ok { OnOk result (Appends untold piece.now untold) }
+        ensures part { OnErr result (AppendsPart untold piece.now untold) }
+        ensures count { OnOk result (self.new.start + vec_len self.new.waiting
+            ≡ saturating (self.old.start + vec_len self.old.waiting) (length piece.now)) }
+        ensures no_less { self.old.start + vec_len self.old.waiting ≤ self.new.start + vec_len self.new.waiting }
+        ensures no_more { self.new.start + vec_len self.new.waiting
+            ≤ saturating (self.old.start + vec_len self.old.waiting) (length piece.now) }
+        ensures cause { HasCause self.old.faults self.new.faults result }
+
+        // Nothing is lost on the way to the system, and nothing is written after a failure.
+        ensures waiting { OnOk result (self.new.waiting.items
+            ≡ waiting_after self.old.room self.old.waiting.items piece.now) }
+        ensures whole { OnOk result (self.new.broken ≡ false) }
+        ensures broken { OnErr result (self.new.broken ≡ true) }
+    {
+        let end = self.start + self.waiting.len() as u64;
+        if self.broken || end.checked_add(piece.len() as u64).is_none() {
+            return Err(self.fail());
+        }
+        if piece.len() <= self.room - self.waiting.len() {
+            self.wait(piece);
+            return Ok(());
+        }
+        self.flush()?;
+        if piece.len() <= self.room {
+            self.wait(piece);
+            return Ok(());
+        }
+        if self.file.write_all_at(piece, self.start).is_err() {
+            return Err(self.fail());
+        }
+        self.start += piece.len() as u64;
+        Ok(())
+    }
+
+    ghost counted = { λ s b e. Prim.cc };
+}
+
+impl FileSink for RealOut {
+    fn patch(&mut self, at: u64, piece: &[u8]) -> Result<(), Failed>
+        requires { at + length piece.now ≤ self.old.start + vec_len self.old.waiting }
+        ensures ok { OnOk result (Patches untold at piece.now untold) }
+        ensures err { OnErr result (PatchesSomehow untold at (length piece.now) untold) }
+        ensures count { self.new.start + vec_len self.new.waiting ≡ self.old.start + vec_len self.old.waiting }
+        ensures cause { HasCause self.old.faults self.new.faults result }
+
+        // What waited was written before it, and nothing is written after a failure.
+        ensures none_waits { OnOk result (self.new.waiting.items ≡ []) }
+        ensures whole { OnOk result (self.new.broken ≡ false) }
+        ensures broken { OnErr result (self.new.broken ≡ true) }
+    {
+        self.flush()?;
+        if self.file.write_all_at(piece, at).is_err() {
+            return Err(self.fail());
+        }
+        Ok(())
+    }
+}

@@ -1,0 +1,84 @@
+//! A block of a file that is held in memory.
+ghost use Rattle.std.specs.Prelude.{◌≡◌, ◌+◌, ◌-◌, ◌^◌, ◌<◌, ◌≤◌, ◌↔◌, List, ℕ, length, take, drop, min, IfOk, OnOk, OnErr, IfSome, IfNone, IsSome, vec_len, slice_range};
+
+use file_devices::Failed;
+use std::alloc::{AllocError, Global};
+use std::fs::File;
+use std::os::unix::fs::FileExt;
+
+// The first `held` bytes of the block are those of the file from place `start` on.
+#[derive(Drop)]
+pub(crate) struct Window {
+    block: Vec<u8>,
+    start: u64,
+    held: usize,
+    ghost within: { held ≤ vec_len block },
+    ghost small: { start + held < 2 ^ 64 },
+}
+
+// Copies as much as there is and as there is room for.
+fn copy(bytes: &[u8], into: &mut [u8]) -> usize
+    ensures count { result ≡ min (length bytes.now) (length into.old) }
+    ensures copied { take result into.new ≡ take result bytes.now }
+    ensures rest { drop result into.new ≡ drop result into.old }
+{
+    let count = bytes.len().min(into.len());
+    into[..count].copy_from_slice(&bytes[..count]);
+    count
+}
+
+// Reads into a block, which is of the reader's own since a read of std doesn't say that it leaves the
+// rest of its buffer alone.
+fn read_block(file: &File, at: u64, block: &mut [u8]) -> Result<usize, Failed>
+    ensures within { IfOk result (λ n. n ≤ length block.old) }
+    ensures small { IfOk result (λ n. at + n < 2 ^ 64) }
+{
+    let count = file.read_at(block, at).or(Err(Failed))?;
+    at.checked_add(count as u64).ok_or(Failed)?;
+    Ok(count)
+}
+
+impl Window {
+    // A window that holds nothing yet.
+    pub(crate) fn new(alloc: Global, size: usize) -> Result<Self, AllocError>
+        ensures empty { IfOk result (λ w. w.held ≡ 0) }
+        ensures size { IfOk result (λ w. vec_len w.block ≡ size) }
+    {
+        Ok(Window {
+            block: vec![in alloc; 0u8; size]?,
+            start: 0,
+            held: 0,
+        })
+    }
+
+    // Copies what it holds from a place on, and gives how many bytes they are, or None exactly where it
+    // doesn't hold the place.
+    pub(crate) fn read(&self, at: u64, into: &mut [u8]) -> Option<usize>
+        ensures inside { IsSome result ↔ ((self.now.start ≤ at) × (at < self.now.start + self.now.held)) }
+        ensures count { IfSome result (λ n. n ≡ min (self.now.held - (at - self.now.start)) (length into.old)) }
+        ensures copied { IfSome result (λ n. take n into.new
+            ≡ take n (slice_range self.now.block.items (at - self.now.start) self.now.held)) }
+        ensures rest { IfSome result (λ n. drop n into.new ≡ drop n into.old) }
+        ensures fits { IfSome result (λ n. at + n < 2 ^ 64) }
+        ensures untouched { IfNone result (into.new ≡ into.old) }
+    {
+        if at < self.start || at - self.start >= self.held as u64 {
+            return None;
+        }
+        let from = (at - self.start) as usize;
+        Some(copy(&self.block[from..self.held], into))
+    }
+
+    // Takes the block of the file at a place. After a failure it holds nothing.
+    pub(crate) fn refill(&mut self, file: &File, at: u64) -> Result<(), Failed>
+        ensures start { OnOk result (self.new.start ≡ at) }
+        ensures err { OnErr result (self.new.held ≡ 0) }
+    {
+        self.start = 0;
+        self.held = 0;
+        let count = read_block(file, at, &mut self.block)?;
+        self.start = at;
+        self.held = count;
+        Ok(())
+    }
+}

@@ -1,0 +1,6 @@
+pub mod Pairs
+pub mod Appended
+pub mod LineLemmas
+pub mod Copying
+pub mod Keeping
+pub mod Running

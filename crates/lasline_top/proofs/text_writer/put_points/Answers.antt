@@ -1,0 +1,11 @@
+use Rattle.std.proofs.Common.{◌≡◌, ◌<◌, ◌≤◌, length, take, arith, rules}
+use Rattle.std.proofs.lemmas.List.{take_all}
+use Rattle.lasline_top.proofs.LineLemmas.{putting_more}
+use Rattle.lasline_top.proofs.text_writer.put_points.Goals as goal
+
+pub loop-point-preserved : goal.loop-point-preserved
+loop-point-preserved g c =
+    putting_more c.args.points.now c.loop-point.point-index _ _ _ _ _ _ _ _ (search rules) (search rules) c.in_ok-put_point.ensures.ok c.in_ok-put_point.ensures.cause.later (search rules)
+
+pub returns-clause-ok : goal.returns-clause-ok
+returns-clause-ok g c = rw (take_all c.loop-point.point-index c.args.points.now (omega (arith, c.loop-point-test.false))) at c.loop-point.invariant.put

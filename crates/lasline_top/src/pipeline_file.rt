@@ -1,0 +1,44 @@
+//! The file of a pipeline.
+
+ghost use Rattle.std.specs.Prelude.{◌≡◌, ◌≤◌, List, ℕ, Some, None, Ok, IfOk, IfErr};
+ghost use Rattle.file_devices.specs.Counts.{Rose};
+ghost use Rattle.file_devices.specs.Named.{Names};
+ghost use Rattle.lasline_top.specs.Answer.{text_of};
+ghost use Rattle.lasline_top.specs.Cause.{Because, AtText, Risen, IsNotOut, IsSettled};
+
+use crate::refusal::Refusal;
+use crate::run_report::Place;
+use file_devices::{DeviceErr, Files, Op, WholeErr, read_whole};
+use std::alloc::Global;
+
+/// The most bytes of a pipeline's text.
+const LIMIT: usize = 1_048_576;
+
+/// The text in a pipeline's file, of at most 1,048,576 bytes. The file is given back.
+pub(crate) fn read_text<F: Files>(
+    alloc: Global,
+    files: &mut F,
+    name: &str,
+) -> Result<Vec<u8>, Refusal>
+    ensures ok { IfOk result (λ text. (m : Names) → F.map files.old ≡ Some m → text_of m name.now ≡ Ok text.items) }
+    ensures err { IfErr result (λ refusal. (m : Names) → F.map files.old ≡ Some m
+        → Because (text_of m name.now) (AtText (Rose (F.faults files.old) (F.faults files.new))) refusal) }
+    ensures inside { IfErr result IsNotOut }
+    ensures risen { IfErr result (λ refusal. F.map files.old ≡ None → Risen (Rose (F.faults files.old) (F.faults files.new)) ⊥ refusal) }
+    ensures settled { IsSettled (F.map files.old) (F.map files.new) (F.lent files.old) (F.lent files.new)
+        (F.faults files.old) (F.faults files.new) }
+{
+    let mut source = match files.open_in(name) {
+        Ok(source) => source,
+        Err(DeviceErr::Memory) => return Err(Refusal::Memory),
+        Err(_) => return Err(Refusal::Device(Place::PipelineFile, Op::Open)),
+    };
+    let read = read_whole(alloc, &mut source, LIMIT);
+    files.done_in(source);
+    match read {
+        Ok(Some(text)) => Ok(text),
+        Ok(None) => Err(Refusal::NotBuilt(2)),
+        Err(WholeErr::Memory) => Err(Refusal::Memory),
+        Err(WholeErr::Failed) => Err(Refusal::Device(Place::PipelineFile, Op::Read)),
+    }
+}

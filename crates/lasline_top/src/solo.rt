@@ -1,0 +1,161 @@
+//! The top call.
+
+ghost use Rattle.std.specs.Prelude.{◌≡◌, ◌≤◌, ◌⊎◌, ◌↔◌, List, ℕ, map, Some, None, Ok, Err, IsOk, IsOkAnd, IfOk, IfErr, OnOk, string_bytes, true};
+ghost use Rattle.file_devices.specs.Counts.{Rose};
+ghost use Rattle.file_devices.specs.Content.{Appends, AppendsPart};
+ghost use Rattle.file_devices.specs.Named.{Names};
+ghost use Rattle.file_devices.specs.declared.devices.Op.{Op};
+ghost use Rattle.lasline_top.specs.declared.run_report.Fault.{Fault};
+ghost use Rattle.lasline_top.specs.declared.run_report.Place.{Place};
+ghost use Rattle.lasline_top.specs.Words.{command_of};
+ghost use Rattle.lasline_top.specs.Answer.{plan_of, las_at, answer, las_planned, status_of};
+ghost use Rattle.lasline_top.specs.Reports.{report_of, fault_line};
+ghost use Rattle.lasline_top.specs.Refusals.{status_for};
+ghost use Rattle.lasline_top.specs.declared.refusal.Refusal.{Refusal};
+ghost use Rattle.lasline_top.specs.Shown.{chain_of};
+ghost use Rattle.lasline_top.specs.Cause.{Because, Risen, RisenAt, IsNotOut, ToldWhy, IsDone, IsPartDone, AtText, AtRun, WerePut, IsRun, IsSettled, may_be_kept, may_be_kept_at};
+
+use crate::pipeline_file::read_text;
+use crate::pipeline_json::{PipeErr, Pipeline, read_pipeline};
+use crate::refusal::Refusal;
+use crate::run_engine::run_pipeline;
+use crate::run_report::{Place, fault_text, report_text};
+use crate::status::Status;
+use crate::words::command;
+use file_devices::{Files, Op, Sink};
+use std::alloc::Global;
+
+/// The pipeline that the words name.
+fn read_plan<F: Files>(alloc: Global, words: &[String], files: &mut F) -> Result<Pipeline, Refusal>
+    ensures ok { IfOk result (λ p. (m : Names) → F.map files.old ≡ Some m → plan_of (map string_bytes words.now) m ≡ Ok (chain_of p)) }
+    ensures err { IfErr result (λ refusal. (m : Names) → F.map files.old ≡ Some m
+        → Because (plan_of (map string_bytes words.now) m) (AtText (Rose (F.faults files.old) (F.faults files.new))) refusal) }
+    ensures inside { IfErr result IsNotOut }
+    ensures words_first { (r : ℕ) → command_of (map string_bytes words.now) ≡ Err (Refusal.NotBuilt r) → result ≡ Err (Refusal.NotBuilt r) }
+    ensures risen { IfErr result (λ refusal. F.map files.old ≡ None → Risen (Rose (F.faults files.old) (F.faults files.new)) ⊥ refusal) }
+    ensures settled { IsSettled (F.map files.old) (F.map files.new) (F.lent files.old) (F.lent files.new)
+        (F.faults files.old) (F.faults files.new) }
+{
+    let file = match command(words) {
+        Ok(file) => file,
+        Err(refusal) => return Err(refusal),
+    };
+    let text = match read_text(alloc, files, file) {
+        Ok(text) => text,
+        Err(refusal) => return Err(refusal),
+    };
+    match read_pipeline(alloc, &text) {
+        Ok(pipeline) => Ok(pipeline),
+        Err(PipeErr::Memory) => Err(Refusal::Memory),
+        Err(PipeErr::NotBuilt) => Err(Refusal::NotBuilt(2)),
+    }
+}
+
+/// Does a command and prints its report.
+fn run_command<F: Files, K: Sink>(
+    alloc: Global,
+    words: &[String],
+    files: &mut F,
+    out: &mut K,
+) -> Result<(), Refusal>
+    ensures ok { OnOk result ((m : Names) → F.map files.old ≡ Some m
+        → IsOkAnd (answer (map string_bytes words.now) m) (IsDone (F.map files.old) (F.map files.new) (K.bytes out.old) (K.bytes out.new))) }
+    ensures err { IfErr result (λ refusal. (m : Names) → F.map files.old ≡ Some m → Because (answer (map string_bytes words.now) m)
+        (AtRun (Rose (F.faults files.old) (F.faults files.new)) (Rose (K.faults out.old) (K.faults out.new)) (IsOk (plan_of (map string_bytes words.now) m))
+        (IsOk (las_planned (map string_bytes words.now) m)) (IsOk (answer (map string_bytes words.now) m))) refusal) }
+    ensures words_first { (r : ℕ) → command_of (map string_bytes words.now) ≡ Err (Refusal.NotBuilt r) → result ≡ Err (Refusal.NotBuilt r) }
+    ensures risen { IfErr result (λ refusal. F.map files.old ≡ None → Risen (Rose (F.faults files.old) (F.faults files.new)) (Rose (K.faults out.old) (K.faults out.new)) refusal) }
+    ensures out_risen { IfErr result (λ refusal. (o : Op) → refusal ≡ Refusal.Device Place.Out o → (o ≡ Op.Write) × Rose (K.faults out.old) (K.faults out.new)) }
+    ensures left { IfErr result (λ refusal. (m : Names) → F.map files.old ≡ Some m → (F.map files.new ≡ F.map files.old)
+        ⊎ ((may_be_kept refusal ≡ true) × IsOkAnd (answer (map string_bytes words.now) m) (λ run. WerePut (F.map files.old) run.outputs (F.map files.new)))) }
+    ensures quiet { IfErr result (λ refusal. (K.bytes out.new ≡ K.bytes out.old) ⊎ ((refusal ≡ Refusal.Device Place.Out Op.Write) × ((m : Names) → F.map files.old ≡ Some m
+        → IsOkAnd (answer (map string_bytes words.now) m) (IsPartDone (F.map files.old) (F.map files.new) (K.bytes out.old) (K.bytes out.new))))) }
+    ensures lent { F.lent files.new ≡ F.lent files.old }
+    ensures later { F.faults files.old ≤ F.faults files.new }
+{
+    let pipeline = match read_plan(alloc, words, files) {
+        Ok(pipeline) => pipeline,
+        Err(refusal) => return Err(refusal),
+    };
+    let points = match run_pipeline(alloc, files, &pipeline) {
+        Ok(points) => points,
+        Err(refusal) => return Err(refusal),
+    };
+    match report_text(points, out) {
+        Ok(()) => Ok(()),
+        Err(_) => Err(Refusal::Device(Place::Out, Op::Write)),
+    }
+}
+
+/// Tells why a command was refused, and answers its status.
+fn refused<E: Sink>(refusal: Refusal, err: &mut E) -> Status
+    ensures status { result ≡ status_for refusal }
+    ensures line { ToldWhy (E.bytes err.old) (E.bytes err.new) (E.faults err.old) (E.faults err.new) (fault_line refusal) }
+{
+    match fault_text(refusal, err) {
+        Ok(()) => refusal.status(),
+        Err(_) => refusal.status(),
+    }
+}
+
+/// Does a command on one thread: `run FILE` runs the pipeline in FILE. It always returns, and waits for nobody.
+///
+/// `words` are the command line without the program's name. On `Ok` the outputs of the pipeline are kept in `files` and
+/// the report is appended to `out`; on any other status a line that says why is appended to `err`. Every object that
+/// `files` handed out is given back.
+///
+/// `Data` comes only where the files hold that fault, `NotBuilt` only where what is asked isn't built, `Device` only where
+/// the named device failed or a file to read isn't there, and `Memory` where there was none. After a refusal the files are
+/// as before, but that the output may be kept where its keeping failed or what came after it.
+pub fn lasline_solo<F: Files, K: Sink, E: Sink>(
+    alloc: Global,
+    words: &[String],
+    files: &mut F,
+    out: &mut K,
+    err: &mut E,
+) -> Status
+    // An Ok run has kept exactly the files that are defined, and printed the report.
+    ensures kept { result ≡ Status.Ok → (m : Names) → F.map files.old ≡ Some m
+        → IsOkAnd (answer (map string_bytes words.now) m) (λ run. WerePut (F.map files.old) run.outputs (F.map files.new)) }
+    ensures report { result ≡ Status.Ok → (m : Names) → F.map files.old ≡ Some m
+        → IsOkAnd (answer (map string_bytes words.now) m) (λ run. Appends (K.bytes out.old) run.report (K.bytes out.new)) }
+
+    // Each other answer has its cause.
+    ensures data { (i : ℕ) (f : Fault) → result ≡ Status.Data i f → (m : Names) → F.map files.old ≡ Some m
+        → answer (map string_bytes words.now) m ≡ Err (Refusal.Data i f) }
+    ensures not_built { (r : ℕ) → result ≡ Status.NotBuilt r → (m : Names) → F.map files.old ≡ Some m
+        → answer (map string_bytes words.now) m ≡ Err (Refusal.NotBuilt r) }
+    ensures words_first { (r : ℕ) → command_of (map string_bytes words.now) ≡ Err (Refusal.NotBuilt r) → result ≡ Status.NotBuilt r }
+    ensures device { (p : Place) (o : Op) → result ≡ Status.Device p o → (m : Names) → F.map files.old ≡ Some m
+        → (answer (map string_bytes words.now) m ≡ Err (Refusal.Device p o))
+        ⊎ AtRun (Rose (F.faults files.old) (F.faults files.new)) (Rose (K.faults out.old) (K.faults out.new)) (IsOk (plan_of (map string_bytes words.now) m))
+        (IsOk (las_planned (map string_bytes words.now) m)) (IsOk (answer (map string_bytes words.now) m)) p o }
+    ensures risen { (p : Place) (o : Op) → result ≡ Status.Device p o → F.map files.old ≡ None
+        → RisenAt (Rose (F.faults files.old) (F.faults files.new)) (Rose (K.faults out.old) (K.faults out.new)) p }
+    ensures out_risen { (o : Op) → result ≡ Status.Device Place.Out o → (o ≡ Op.Write) × Rose (K.faults out.old) (K.faults out.new) }
+
+    // Where no device fails, the answer is the one that is defined, or want of memory.
+    ensures complete { (m : Names) → F.map files.old ≡ Some m → (Rose (F.faults files.old) (F.faults files.new) → ⊥)
+        → (Rose (K.faults out.old) (K.faults out.new) → ⊥)
+        → (result ≡ status_of (answer (map string_bytes words.now) m)) ⊎ (result ≡ Status.Memory) }
+
+    // After a refusal the files are as before, but for the output where the answer is right.
+    ensures refused { (result ≡ Status.Ok → ⊥) → (m : Names) → F.map files.old ≡ Some m → (F.map files.new ≡ F.map files.old)
+        ⊎ ((may_be_kept_at result ≡ true) × IsOkAnd (answer (map string_bytes words.now) m) (λ run. WerePut (F.map files.old) run.outputs (F.map files.new))) }
+    ensures quiet { (result ≡ Status.Ok → ⊥) → (K.bytes out.new ≡ K.bytes out.old) ⊎ ((result ≡ Status.Device Place.Out Op.Write) × ((m : Names) → F.map files.old ≡ Some m
+        → IsOkAnd (answer (map string_bytes words.now) m) (IsPartDone (F.map files.old) (F.map files.new) (K.bytes out.old) (K.bytes out.new)))) }
+
+    // The line that says why goes to `err`, and nothing goes there on Ok.
+    ensures silent { result ≡ Status.Ok → E.bytes err.new ≡ E.bytes err.old }
+    ensures told_why { (refusal : Refusal) → result ≡ status_for refusal
+        → ToldWhy (E.bytes err.old) (E.bytes err.new) (E.faults err.old) (E.faults err.new) (fault_line refusal) }
+
+    // Every object that was handed out is given back, and no count falls.
+    ensures lent { F.lent files.new ≡ F.lent files.old }
+    ensures later { F.faults files.old ≤ F.faults files.new }
+{
+    match run_command(alloc, words, files, out) {
+        Ok(()) => Status::Ok,
+        Err(refusal) => refused(refusal, err),
+    }
+}

@@ -1,0 +1,42 @@
+//! How a command ends.
+
+ghost use Rattle.std.specs.Prelude.{◌≡◌};
+
+use crate::run_report::{Fault, Place};
+use file_devices::Op;
+
+/// How a command ends.
+#[derive(Clone, Copy, Debug, PartialEq, Eq)]
+pub enum Status {
+    /// It kept its outputs and printed its report.
+    Ok,
+
+    /// The data of the stage with this number have a fault.
+    Data(u32, Fault),
+
+    /// A device failed, or a file that is to be read isn't there.
+    Device(Place, Op),
+
+    /// There was no memory.
+    Memory,
+
+    /// What was asked isn't built yet: 1 the words, 2 the pipeline, 3 the form of a LAS file.
+    NotBuilt(u8),
+}
+
+impl Status {
+    ghost use Rattle.lasline_top.specs.Codes.{code_of};
+
+    /// The exit code of the program.
+    pub fn code(&self) -> u8
+        ensures { result ≡ code_of self.now }
+    {
+        match self {
+            Status::Ok => 0,
+            Status::Data(_, _) => 3,
+            Status::Device(_, _) => 4,
+            Status::Memory => 5,
+            Status::NotBuilt(_) => 6,
+        }
+    }
+}

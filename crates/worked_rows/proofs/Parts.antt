@@ -1,0 +1,88 @@
+-- The parts of the examples.
+use Rattle.std.proofs.Common.{◌≡◌, ℕ, List, [], ◌∷◌, take, codes, Option, Some, None, Result, Ok, Err, refl, pos, negsuc, ap, ◌∙◌}
+use Rattle.std.specs.Fmt.{digits}
+use Rattle.std.specs.Str.{is_utf8, chars}
+use Rattle.std.proofs.Math.Utf8.{encode}
+use Rattle.json.specs.Json.{value}
+use Rattle.json.specs.Lex.{punctuate, lex}
+use Rattle.json.specs.Text.{content}
+use Rattle.las_reader.specs.declared.las_header.HeaderFault.TheVariants.{NotLas}
+use Rattle.las_reader.specs.Headers.{LasFault, In_header, Not_built, header_of}
+use Rattle.las_reader.specs.Records.{points_from}
+use Rattle.las_reader.specs.Files.{Las, las_of}
+use Rattle.file_devices.specs.declared.devices.Op.TheVariants.{Open}
+use Rattle.lasline_top.specs.declared.run_report.Place.TheVariants.{Stage}
+use Rattle.lasline_top.specs.declared.refusal.Refusal.TheVariants.{Device}
+use Rattle.lasline_top.specs.declared.refusal.Refusal.{Refusal}
+use Rattle.lasline_top.specs.Refusals.{and_then}
+use Rattle.lasline_top.specs.Pipelines.{Chain, pipeline_of}
+use Rattle.lasline_top.specs.Answer.{Run, las_read, converted, piped, run_of, answer}
+use Rattle.worked_rows.specs.Rows.{run_p, files, files_with, pipeline_alone, pipeline_text, file_a, file_of_format_1, file_with_x, file_without_points}
+
+chain_is : pipeline_of pipeline_text ≡ Some (record { from = codes "in.las"; to = codes "o.txt" })
+unfolding is_utf8 chars encode value punctuate lex content
+chain_is = refl
+
+pub empty_array : pipeline_of (codes "[]") ≡ None
+unfolding is_utf8 chars encode value punctuate lex content
+empty_array = refl
+
+pub no_json : pipeline_of (codes "[\"in.las\"") ≡ None
+unfolding is_utf8 chars encode value punctuate lex content
+no_json = refl
+
+pub another_ending : pipeline_of (codes "[\"in.las\",\"o.laz\"]") ≡ None
+unfolding is_utf8 chars encode value punctuate lex content
+another_ending = refl
+
+pub numbered_name : pipeline_of (codes "[\"in.las\",\"o#.txt\"]") ≡ None
+unfolding is_utf8 chars encode value punctuate lex content
+numbered_name = refl
+
+pub two_read : las_of file_a ≡ Ok (record { points = record { x = pos 1000000000; y = pos 2000000000; z = pos 3000000000 } ∷ record { x = negsuc 9999999; y = pos 0; z = pos 50000000 } ∷ []; cut = None })
+unfolding header_of points_from
+two_read = refl
+
+pub none_read : las_of file_without_points ≡ Ok (record { points = []; cut = None })
+unfolding header_of points_from
+none_read = refl
+
+pub cut_at_1 : las_of (take 414 file_a) ≡ Ok (record { points = record { x = pos 1000000000; y = pos 2000000000; z = pos 3000000000 } ∷ []; cut = Some 1 })
+unfolding header_of points_from
+cut_at_1 = refl
+
+pub cut_at_0 : las_of (take 394 file_a) ≡ Ok (record { points = []; cut = Some 0 })
+unfolding header_of points_from
+cut_at_0 = refl
+
+pub other_format : las_of file_of_format_1 ≡ Err Not_built
+unfolding header_of
+other_format = refl
+
+pub short_header : las_of (take 374 file_a) ≡ Err Not_built
+unfolding header_of
+short_header = refl
+
+pub other_signature : las_of file_with_x ≡ Err (In_header NotLas)
+unfolding header_of
+other_signature = refl
+
+pub short_signature : las_of (take 3 file_a) ≡ Err (In_header NotLas)
+unfolding header_of
+short_signature = refl
+
+pub no_bytes : las_of [] ≡ Err (In_header NotLas)
+unfolding header_of
+no_bytes = refl
+
+-- the run of the example's pipeline over a LAS file
+pub run_over : (las : List ℕ) (read : Result Las LasFault) → las_of las ≡ read → answer run_p (files las) ≡ and_then (las_read read) (converted (codes "o.txt"))
+run_over las read is = ap (λ chain. and_then (piped chain) (run_of (files las))) chain_is ∙ ap (λ r. and_then (las_read r) (converted (codes "o.txt"))) is
+
+-- the run of another pipeline
+pub planned : (pipeline : List ℕ) (plan : Option Chain) → pipeline_of pipeline ≡ plan → and_then (piped (pipeline_of pipeline)) (run_of (files_with pipeline file_a)) ≡ and_then (piped plan) (run_of (files_with pipeline file_a))
+planned pipeline plan is = ap (λ chain. and_then (piped chain) (run_of (files_with pipeline file_a))) is
+
+-- the pipeline's file is there, and its LAS file isn't
+pub absent_las : answer run_p pipeline_alone ≡ Err (Device (Stage 0) Open)
+absent_las = ap (λ chain. and_then (piped chain) (run_of pipeline_alone)) chain_is

@@ -1,0 +1,9 @@
+use Rattle.std.proofs.Common.{refl, ◌∙◌}
+use Rattle.std.specs.Fmt.{digits}
+use Rattle.worked_rows.specs.Rows.{file_a, file_without_points}
+use Rattle.worked_rows.proofs.Parts.{run_over, two_read, none_read}
+use Rattle.worked_rows.proofs.whole_files_become_text.Goals as goal
+
+pub returns : goal.returns
+unfolding digits
+returns c = record { two_points = run_over file_a _ two_read; no_points = run_over file_without_points _ none_read }

@@ -1,0 +1,50 @@
+//! Worked examples of the definition of an answer, proved by computing it. They show that the definition says what is
+//! meant: the functions have no code, and each clause of their contracts is one example.
+#![tactic(auto)]
+
+ghost use Rattle.std.specs.Prelude.{◌≡◌, ◌∷◌, [], ℕ, List, take, codes, None, Ok, Err};
+ghost use Rattle.file_devices.specs.Named.{Names};
+ghost use Rattle.file_devices.specs.declared.devices.Op.{Op};
+ghost use Rattle.las_reader.specs.declared.las_header.HeaderFault.{HeaderFault};
+ghost use Rattle.cloud_points.specs.declared.faults.PointFault.{PointFault};
+ghost use Rattle.lasline_top.specs.Answer.{answer};
+ghost use Rattle.lasline_top.specs.declared.refusal.Refusal.{Refusal};
+ghost use Rattle.lasline_top.specs.declared.run_report.Fault.{Fault};
+ghost use Rattle.lasline_top.specs.declared.run_report.Place.{Place};
+ghost use Rattle.worked_rows.specs.Rows.{run_p, file_a, file_of_format_1, file_with_x, file_without_points, files, files_with, pipeline_alone, two_points, no_points};
+
+/// A file of two points becomes 49 bytes of text and a report of three lines; one of no points becomes the names of
+/// the columns.
+pub fn whole_files_become_text()
+    ensures two_points { answer run_p (files file_a) ≡ Ok two_points }
+    ensures no_points { answer run_p (files file_without_points) ≡ Ok no_points }
+{}
+
+/// A file that can't be read whole is refused for its first fault.
+pub fn files_are_refused()
+    ensures last_byte_missing { answer run_p (files (take 414 file_a)) ≡ Err (Refusal.Data 0 (Fault.Point (PointFault.Cut 1))) }
+    ensures no_record_whole { answer run_p (files (take 394 file_a)) ≡ Err (Refusal.Data 0 (Fault.Point (PointFault.Cut 0))) }
+    ensures another_format { answer run_p (files file_of_format_1) ≡ Err (Refusal.NotBuilt 3) }
+    ensures header_cut_short { answer run_p (files (take 374 file_a)) ≡ Err (Refusal.NotBuilt 3) }
+    ensures another_signature { answer run_p (files file_with_x) ≡ Err (Refusal.Data 0 (Fault.Header HeaderFault.NotLas)) }
+    ensures signature_cut_short { answer run_p (files (take 3 file_a)) ≡ Err (Refusal.Data 0 (Fault.Header HeaderFault.NotLas)) }
+    ensures no_bytes { answer run_p (files []) ≡ Err (Refusal.Data 0 (Fault.Header HeaderFault.NotLas)) }
+    ensures absent { answer run_p pipeline_alone ≡ Err (Refusal.Device (Place.Stage 0) Op.Open) }
+{}
+
+/// A pipeline file that isn't there can't be opened, and one of another form isn't built.
+pub fn pipelines_are_refused()
+    ensures absent { answer run_p (λ name. None) ≡ Err (Refusal.Device Place.PipelineFile Op.Open) }
+    ensures empty_array { answer run_p (files_with (codes "[]") file_a) ≡ Err (Refusal.NotBuilt 2) }
+    ensures no_json { answer run_p (files_with (codes "[\"in.las\"") file_a) ≡ Err (Refusal.NotBuilt 2) }
+    ensures another_ending { answer run_p (files_with (codes "[\"in.las\",\"o.laz\"]") file_a) ≡ Err (Refusal.NotBuilt 2) }
+    ensures a_numbered_name { answer run_p (files_with (codes "[\"in.las\",\"o#.txt\"]") file_a) ≡ Err (Refusal.NotBuilt 2) }
+{}
+
+/// Other words than `run FILE` aren't built, whatever files there are.
+pub fn words_are_refused()
+    ensures none { (m : Names) → answer [] m ≡ Err (Refusal.NotBuilt 1) }
+    ensures another_command { (m : Names) → answer (codes "fly" ∷ []) m ≡ Err (Refusal.NotBuilt 1) }
+    ensures no_file { (m : Names) → answer (codes "run" ∷ []) m ≡ Err (Refusal.NotBuilt 1) }
+    ensures one_more { (m : Names) → answer (codes "run" ∷ codes "p.json" ∷ codes "--chunk" ∷ []) m ≡ Err (Refusal.NotBuilt 1) }
+{}
