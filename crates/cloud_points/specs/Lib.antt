@@ -1,1 +1,11 @@
+pub mod Dims
 pub mod Points
+pub mod Flows
+pub mod Marks
+pub mod Meaning
+pub mod Lifted
+pub mod Events
+pub mod Chunks
+pub mod Bodies
+pub mod Makes
+pub mod Queue

@@ -1,12 +1,26 @@
 //! Why a stage ends before its input does, and what a leaf makes next.
 
+use crate::Dim;
 use file_devices::Op;
 
-/// A fault in the points of a stage.
+/// A fault in the points of a stage. The number is a point's in the stage's input, counted from 0 over all views, but for
+/// `Cut`.
 #[derive(Clone, Copy, Debug, PartialEq, Eq)]
 pub enum PointFault {
     /// The file ends before the record with this number, counted from 0, is whole.
     Cut(u64),
+
+    /// The coordinate of a point isn't held by the scale of a file.
+    NotHeld(u64, Dim),
+
+    /// A point's value is outside the range of a dimension, or of its field in a file.
+    ValueOutOfRange(u64, Dim),
+
+    /// A point's expression divides by zero.
+    DivideByZero(u64),
+
+    /// A point's expression has a value above 10^27 in size.
+    ArithOverflow(u64),
 }
 
 /// The fault of a stage: its points', or its device's.

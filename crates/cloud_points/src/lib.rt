@@ -1,12 +1,23 @@
-//! Points, the faults that name them, and the lists in which they travel.
+//! Points, the items that carry them between stages, and what a stage does with them.
 #![tactic(auto)]
 
+mod chunk;
 mod dims;
 mod faults;
+mod flow;
+mod item;
 mod point;
 mod spread;
+mod work;
 
-pub use dims::{Dim, OutOfRange};
+pub use chunk::Chunk;
+pub use dims::{Dim, Kind, OutOfRange};
 pub use faults::{Make, PointFault, StageFault};
+pub use flow::flow_laws;
+pub use item::{Body, Item};
 pub use point::Point;
-pub use spread::{MOST_POINTS, Spread};
+pub use spread::{MOST_POINTS, Spread, put_points};
+pub use work::Work;
+
+#[cfg(test)]
+mod tests;

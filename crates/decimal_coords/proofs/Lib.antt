@@ -1,3 +1,7 @@
 pub mod Printing
 pub mod Padded
 pub mod Backward
+pub mod Scanned
+pub mod Reading
+pub mod OneAnswer
+pub mod TextDecimals

@@ -47,7 +47,7 @@ padded_pair p n some fits =
     let b : n / 10 % 10 ≡ n % 100 / 10 = omega arith in
     let c : n % 10 ≡ n % 100 % 10 = omega arith in
     let e : p + 2 ≡ p + 1 + 1 = omega arith in
-    rw e (padded_step (p + 1) n (omega arith) fits ∙ rw (padded_step p (n / 10) some (omega arith), append_assoc, a, b, c) refl)
+    rw e (padded_step (p + 1) n (omega arith) fits ∙ rw (padded_step p (n / 10) some (omega arith), append_assoc (padded_digits p (n / 10 / 10)) ((48 + n / 10 % 10) ∷ []) ((48 + n % 10) ∷ []), a, b, c) refl)
 
 pub length_padded : (p n : ℕ) → 0 < p → n < 10 ^ p → n < 2 ^ 64 → length (padded_digits p n) ≡ p
 length_padded p n some small fits =

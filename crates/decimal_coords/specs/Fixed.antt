@@ -1,5 +1,5 @@
 -- a number of nanounits printed with a fixed number of places
-use Rattle.std.specs.Prelude.{◌≡◌, ℕ, ◌+◌, ◌-◌, ◌*◌, ◌/◌, ◌%◌, ◌^◌, ◌<◌, ◌≤◌, ℤ, pos, negsuc, List, [], ◌∷◌, ◌++◌, length, replicate, unsigned_abs, decimal, ◌==◌, if◌then◌else◌}
+use Rattle.std.specs.Prelude.{ℕ, ◌-◌, ◌/◌, ◌%◌, ◌^◌, ℤ, pos, negsuc, List, [], ◌∷◌, ◌++◌, length, replicate, unsigned_abs, decimal, ◌==◌, if◌then◌else◌}
 use Rattle.exact_numbers.specs.Rounding.{half_away}
 
 -- n with zeros before it, up to `places` digits

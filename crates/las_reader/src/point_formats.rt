@@ -20,16 +20,16 @@ fn raw_at(bytes: &[u8], at: usize) -> i32
     i32::from_le_bytes([bytes[at], bytes[at + 1], bytes[at + 2], bytes[at + 3]])
 }
 
-/// The point of a record.
+/// The point of a record, of which the coordinates are read.
 fn decode(bytes: &[u8]) -> Point
     requires { RECORD_SIZE ≤ length bytes.now }
     ensures { result ≡ decoded bytes.now }
 {
-    Point {
-        x: raw_at(bytes, 0) as i64 * SCALE,
-        y: raw_at(bytes, 4) as i64 * SCALE,
-        z: raw_at(bytes, 8) as i64 * SCALE,
-    }
+    let mut point = Point::zero();
+    point.x = raw_at(bytes, 0) as i64 * SCALE;
+    point.y = raw_at(bytes, 4) as i64 * SCALE;
+    point.z = raw_at(bytes, 8) as i64 * SCALE;
+    point
 }
 
 /// Puts the points of records, one after another, over points.

@@ -1,9 +1,6 @@
 -- Pieces that are appended one after another.
-use Rattle.std.proofs.Common.{◌≡◌, ℕ, ◌+◌, ◌<◌, ◌≤◌, List, [], ◌∷◌, ◌++◌, length, take, get_or, Option, Some, None, option_map, refl, sym, ap, subst, ◌∙◌, arith, append_assoc, append-nil}
-use Rattle.std.specs.List.{flat_map}
+use Rattle.std.proofs.Common.{◌≡◌, ℕ, List, [], ◌++◌, Option, Some, None, option_map, refl, sym, ap, ◌∙◌, append_assoc, append-nil}
 use Rattle.file_devices.specs.Content.{Appends}
-use Rattle.cloud_points.specs.declared.point.Point.{Point}
-use Rattle.lasline_top.specs.TextOutput.{text_line}
 
 pub appends_none : (o : Option (List ℕ)) → Appends o [] o
 appends_none None = λ x e. e

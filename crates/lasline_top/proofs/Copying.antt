@@ -1,5 +1,5 @@
 -- Points that go over from a reader to a writer.
-use Rattle.std.proofs.Common.{◌≡◌, ◌≢◌, ◌⊎◌, inl, inr, ℕ, ◌+◌, ◌-◌, ◌<◌, ◌≤◌, min, List, [], ◌++◌, length, take, drop, Option, Some, None, Bool, true, false, nat_lt, Result, Ok, Err, IfOk, IfErr, refl, ap, sym, subst, ◌∙◌, arith, append-nil, length-drop, if◌then◌else◌, ◌==◌, eq-eqb, ne_eqb}
+use Rattle.std.proofs.Common.{◌≡◌, ◌⊎◌, inl, inr, ℕ, ◌+◌, ◌-◌, ◌<◌, ◌≤◌, List, ◌++◌, length, take, drop, Option, Some, None, Bool, true, false, nat_lt, Ok, Err, IfOk, IfErr, refl, ap, sym, ◌∙◌, arith, length-drop, if◌then◌else◌, ◌==◌, eq-eqb, ne_eqb}
 use Rattle.std.specs.List.{flat_map}
 use Rattle.std.proofs.Math.Seq.{take-add}
 use Rattle.std.proofs.lemmas.List.{length-take, take_min, take_all}
@@ -8,22 +8,20 @@ use Rattle.std.proofs.lemmas.Bool.{ltb-true, ltb-false}
 use Rattle.file_devices.specs.Counts.{Rose}
 use Rattle.file_devices.specs.Content.{Appends}
 use Rattle.cloud_points.specs.declared.point.Point.{Point}
-use Rattle.cloud_points.specs.declared.faults.Make.{Make}
 use Rattle.cloud_points.specs.declared.faults.Make.TheVariants.{Points, EndView, End}
 use Rattle.cloud_points.specs.declared.faults.StageFault.{StageFault}
 use Rattle.cloud_points.specs.declared.faults.StageFault.TheVariants as stage
 use Rattle.las_reader.specs.Files.{las_with, whole_records}
 use Rattle.las_reader.proofs.Pieces.{length-points_from}
-use Rattle.las_reader.specs.Reading.{Step, IsStep, Moves, gives, ends, view_ends, step_of, read_failed}
+use Rattle.las_reader.specs.Reading.{IsStep, Moves, gives, ends, view_ends, step_of, read_failed}
 use Rattle.las_reader.specs.declared.reader.Progress.{Progress}
 use Rattle.las_reader.specs.declared.reader.Progress.TheVariants.{Records, ViewEnded, Ended}
 use Rattle.cloud_points.specs.declared.faults.PointFault.TheVariants.{Cut}
-use Rattle.file_devices.specs.declared.devices.Op.TheVariants.{Read, Write}
+use Rattle.file_devices.specs.declared.devices.Op.TheVariants.{Read}
 use Rattle.lasline_top.specs.declared.run_report.Fault.TheVariants as fault
-use Rattle.lasline_top.specs.declared.run_report.Place.TheVariants.{Stage}
 use Rattle.lasline_top.specs.declared.refusal.Refusal.TheVariants as of
 use Rattle.lasline_top.specs.Answer.{points_of}
-use Rattle.lasline_top.specs.Cause.{Because, Blamed, AtCopy}
+use Rattle.lasline_top.specs.Cause.{Because, AtCopy}
 use Rattle.lasline_top.specs.Copied.{outcome}
 use Rattle.lasline_top.specs.TextOutput.{text_line}
 use Rattle.lasline_top.proofs.Appended.{appends_none, appends_more}

@@ -1,10 +1,9 @@
 -- A file that is written and kept.
-use Rattle.std.proofs.Common.{◌≡◌, ◌⊎◌, inl, inr, ℕ, List, [], ◌∷◌, ◌++◌, Option, Some, None, Bool, true, false, Result, Ok, Err, OnOk, option_map, refl, ap, sym, subst, ◌∙◌}
+use Rattle.std.proofs.Common.{◌≡◌, ◌⊎◌, inl, inr, ℕ, List, [], ◌∷◌, ◌++◌, Option, Some, None, true, false, Result, Ok, Err, OnOk, option_map, refl, ap, sym, ◌∙◌}
 use Rattle.std.specs.Result.{is_err}
 use Rattle.file_devices.specs.Told.{IsAsTold}
 use Rattle.file_devices.specs.Content.{Appends}
 use Rattle.file_devices.specs.Named.{Names, put, kept}
-use Rattle.lasline_top.specs.Answer.{Output}
 use Rattle.lasline_top.specs.Cause.{WerePut, IsLeft, may_be_kept}
 use Rattle.lasline_top.specs.declared.refusal.Refusal.{Refusal}
 

@@ -1,13 +1,12 @@
 -- Lines that are written from their end.
-use Rattle.std.proofs.Common.{◌≡◌, ℕ, zero, suc, ◌+◌, ◌<◌, ◌≤◌, List, [], ◌∷◌, ◌++◌, length, take, drop, set, slice_range, get_or, Option, codes, refl, sym, ap, subst, ◌∙◌, arith, append_assoc, append-nil, add-one}
-use Rattle.std.proofs.lemmas.List.{take_more, take_all}
+use Rattle.std.proofs.Common.{◌≡◌, ℕ, zero, suc, ◌+◌, ◌<◌, ◌≤◌, List, [], ◌∷◌, ◌++◌, length, take, drop, set, slice_range, get_or, Option, refl, sym, ap, ◌∙◌, arith, append_assoc, append-nil}
 use Rattle.std.proofs.lemmas.List.Folds.{drop_split}
 use Rattle.std.specs.List.{flat_map}
 use Rattle.decimal_coords.specs.Fixed.{fixed_text}
 use Rattle.cloud_points.specs.declared.point.Point.{Point}
 use Rattle.file_devices.specs.Content.{Appends}
 use Rattle.lasline_top.specs.TextOutput.{text_line}
-use Rattle.lasline_top.proofs.Appended.{appends_none, appends_more}
+use Rattle.lasline_top.proofs.Appended.{appends_more}
 
 drop_at_set : (xs : List ℕ) (i x : ℕ) → i < length xs → drop i (set xs i x) ≡ x ∷ drop (i + 1) xs
 drop_at_set [] i x h = absurd (omega arith)

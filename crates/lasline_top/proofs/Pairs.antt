@@ -1,5 +1,5 @@
 -- Arrays of other lengths.
-use Rattle.std.proofs.Common.{◌≡◌, ℕ, ◌<◌, List, [], ◌∷◌, length, Option, Some, None, Bool, true, false, if◌then◌else◌, option_and_then, refl, ap, sym, ◌∙◌, arith}
+use Rattle.std.proofs.Common.{◌≡◌, ℕ, List, [], ◌∷◌, length, Option, Some, None, Bool, true, false, if◌then◌else◌, option_and_then, refl, ap, sym, arith}
 use Rattle.std.specs.Bool.{Decides}
 use Rattle.std.specs.Str.{bytes_eq, IsUtf8, is_utf8}
 use Rattle.std.specs.String.{string_bytes}
@@ -9,9 +9,9 @@ use Rattle.lasline_top.specs.Shown.{chain_of}
 use Rattle.std.proofs.lemmas.Slice.Eq.{bytes_eq-Decides}
 use Rattle.serde_json.specs.Data.{Data}
 use Rattle.serde_json.specs.Read.{read}
-use Rattle.serde_json.specs.View.{view, items_view}
+use Rattle.serde_json.specs.View.{items_view}
 use Rattle.serde_json.specs.declared.value.Value.{Value}
-use Rattle.lasline_top.specs.Pipelines.{Chain, texts_in, two_texts, are_built, built_chain, pipeline_of}
+use Rattle.lasline_top.specs.Pipelines.{texts_in, two_texts, are_built, built_chain, pipeline_of}
 
 pub not_two : (vs : List Value) → (length vs ≡ 2 → ⊥) → texts_in (items_view vs) ≡ None
 not_two [] h = refl

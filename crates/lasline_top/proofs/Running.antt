@@ -1,5 +1,5 @@
 -- A file that is opened, read and written out is the run that is defined.
-use Rattle.std.proofs.Common.{refl, ◌≡◌, ◌⊎◌, ℕ, List, length, Option, Some, Bool, true, Result, Ok, Err, IsOkAnd, subst, sym, ap, ◌∙◌, inl, inr}
+use Rattle.std.proofs.Common.{◌≡◌, ◌⊎◌, ℕ, List, length, Option, Some, true, Result, Ok, Err, IsOkAnd, subst, sym, ap, ◌∙◌, inl, inr}
 use Rattle.file_devices.specs.Named.{Names}
 use Rattle.file_devices.specs.Content.{Appends, AppendsPart}
 use Rattle.las_reader.specs.Files.{las_with}

@@ -1,5 +1,5 @@
 -- The pipeline that a text is.
-use Rattle.std.specs.Prelude.{ℕ, ◌-◌, ◌&&◌, Bool, not, ◌==◌, List, length, drop, codes, Option, Some, None, option_map, option_and_then, if◌then◌else◌}
+use Rattle.std.specs.Prelude.{ℕ, ◌-◌, ◌&&◌, Bool, not, ◌==◌, List, length, drop, codes, Option, Some, None, option_and_then, if◌then◌else◌}
 use Rattle.std.specs.List.{list_any}
 use Rattle.std.specs.Str.{is_utf8, bytes_eq, str_to_ascii_lowercase}
 use Rattle.serde_json.specs.Data.{Data, Items, no_items, item}

@@ -1,11 +1,12 @@
 -- What is printed of a run.
-use Rattle.std.specs.Prelude.{ℕ, List, [], ◌∷◌, ◌++◌, codes, decimal}
+use Rattle.std.specs.Prelude.{ℕ, List, ◌++◌, codes, decimal}
 use Rattle.file_devices.specs.declared.devices.Op.{Op}
 use Rattle.file_devices.specs.declared.devices.Op.TheVariants.{Open, Read, Create, Write, Patch, Keep}
 use Rattle.las_reader.specs.declared.las_header.HeaderFault.{HeaderFault}
 use Rattle.las_reader.specs.declared.las_header.HeaderFault.TheVariants.{NotLas}
 use Rattle.cloud_points.specs.declared.faults.PointFault.{PointFault}
-use Rattle.cloud_points.specs.declared.faults.PointFault.TheVariants.{Cut}
+use Rattle.cloud_points.specs.declared.faults.PointFault.TheVariants.{Cut, NotHeld, ValueOutOfRange, DivideByZero, ArithOverflow}
+use Rattle.cloud_points.specs.Dims.{name_of}
 use Rattle.lasline_top.specs.declared.run_report.Place.{Place}
 use Rattle.lasline_top.specs.declared.run_report.Place.TheVariants.{PipelineFile, Stage, Out}
 use Rattle.lasline_top.specs.declared.run_report.Fault.{Fault}
@@ -22,8 +23,15 @@ report_of points = codes "stage 0 readers.las views 1 points " ++ decimal points
 abbrev pub header_fault_text : HeaderFault → List ℕ
 header_fault_text NotLas = codes "not a LAS file"
 
+abbrev pub point_text : ℕ → List ℕ
+point_text k = codes "point " ++ decimal k ++ codes ": "
+
 abbrev pub point_fault_text : PointFault → List ℕ
 point_fault_text (Cut k) = codes "file ends before record " ++ decimal k
+point_fault_text (NotHeld k dim) = point_text k ++ name_of dim ++ codes " not held by the scale"
+point_fault_text (ValueOutOfRange k dim) = point_text k ++ name_of dim ++ codes " out of range"
+point_fault_text (DivideByZero k) = point_text k ++ codes "division by zero"
+point_fault_text (ArithOverflow k) = point_text k ++ codes "overflow"
 
 abbrev pub fault_text : Fault → List ℕ
 fault_text (Header f) = header_fault_text f

@@ -1,5 +1,5 @@
 -- The file of a text writer.
-use Rattle.std.specs.Prelude.{ℕ, List, [], ◌∷◌, ◌++◌, codes}
+use Rattle.std.specs.Prelude.{ℕ, List, ◌++◌, codes}
 use Rattle.std.specs.List.{flat_map}
 use Rattle.cloud_points.specs.declared.point.Point.{Point}
 use Rattle.decimal_coords.specs.Fixed.{fixed_text}

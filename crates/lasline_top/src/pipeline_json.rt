@@ -95,8 +95,6 @@ pub(crate) fn read_pipeline(alloc: Global, text: &[u8]) -> Result<Pipeline, Pipe
     if !are_built(from, to) {
         return Err(PipeErr::NotBuilt);
     }
-    match copied(alloc, from, to) {
-        Ok(pipeline) => Ok(pipeline),
-        Err(_) => Err(PipeErr::Memory),
-    }
+    let pipeline = copied(alloc, from, to)?;
+    Ok(pipeline)
 }

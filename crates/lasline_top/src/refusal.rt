@@ -5,7 +5,6 @@ ghost use Rattle.std.specs.Prelude.{◌≡◌};
 use crate::run_report::{Fault, Place};
 use crate::status::Status;
 use file_devices::Op;
-use std::alloc::AllocError;
 
 /// Why a command ends without its outputs: a status that isn't `Ok`.
 #[derive(Clone, Copy, Debug, PartialEq, Eq)]
@@ -14,16 +13,6 @@ pub enum Refusal {
     Device(Place, Op),
     Memory,
     NotBuilt(u8),
-}
-
-impl From<AllocError> for Refusal {
-    ghost use Rattle.lasline_top.specs.declared.refusal.Refusal.TheVariants.{Memory};
-
-    ghost from_gives = { λ _ e. e ≡ Memory };
-
-    fn from(_: AllocError) -> Self {
-        Refusal::Memory
-    }
 }
 
 impl Refusal {

@@ -152,10 +152,7 @@ fn write_points<S: Source, K: Sink>(reader: &mut LasReader<S>, sink: &mut K) -> 
     if put_header(sink).is_err() {
         return Err(Refusal::Device(Place::Stage(1), Op::Write));
     }
-    match copy_points(reader, sink) {
-        Ok(points) => Ok(points),
-        Err(refusal) => Err(refusal),
-    }
+    copy_points(reader, sink)
 }
 
 /// Writes the text of all points of a file into a new file and keeps it, and answers how many points there are.
@@ -218,10 +215,7 @@ pub(crate) fn run_pipeline<F: Files>(
     ensures lent { F.lent files.new ≡ F.lent files.old }
     ensures later { F.faults files.old ≤ F.faults files.new }
 {
-    let mut reader = match open_reader(alloc, files, pipeline.from.as_str()) {
-        Ok(reader) => reader,
-        Err(refusal) => return Err(refusal),
-    };
+    let mut reader = open_reader(alloc, files, pipeline.from.as_str())?;
     match write_text(files, &mut reader, pipeline.to.as_str()) {
         Ok(points) => {
             files.done_in(reader.release());

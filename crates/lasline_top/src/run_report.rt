@@ -4,7 +4,7 @@ ghost use Rattle.std.specs.Prelude.{◌≡◌, ◌+◌, ◌≤◌, ◌++◌, dec
 ghost use Rattle.arrayvec.specs.ArrayString.{array_string_len};
 ghost use Rattle.file_devices.specs.Counts.{HasCause};
 ghost use Rattle.file_devices.specs.Content.{Appends, AppendsPart};
-ghost use Rattle.lasline_top.specs.Reports.{report_of, header_fault_text, point_fault_text, fault_text, place_text, op_text, reason_text, fault_line};
+ghost use Rattle.lasline_top.specs.Reports.{report_of, header_fault_text, point_text, point_fault_text, fault_text, place_text, op_text, reason_text, fault_line};
 
 use crate::refusal::Refusal;
 use arrayvec::ArrayString;
@@ -110,23 +110,51 @@ fn header_fault_text(fault: HeaderFault) -> &'static str
     }
 }
 
-fn push_point_fault(fault: PointFault, text: &mut Text)
+fn push_point(number: u64, text: &mut Text)
     requires { array_string_len text.old ≤ 100 }
+    ensures bytes { text.new.bytes ≡ text.old.bytes ++ point_text number }
+    ensures len { array_string_len text.new ≤ array_string_len text.old + 28 }
+{
+    text.push_str("point ");
+    push_number(number, text);
+    text.push_str(": ");
+}
+
+fn push_point_fault(fault: PointFault, text: &mut Text)
+    requires { array_string_len text.old ≤ 40 }
     ensures bytes { text.new.bytes ≡ text.old.bytes ++ point_fault_text fault }
-    ensures len { array_string_len text.new ≤ array_string_len text.old + 44 }
+    ensures len { array_string_len text.new ≤ array_string_len text.old + 70 }
 {
     match fault {
-        PointFault::Cut(record) => {
+        PointFault::Cut(number) => {
             text.push_str("file ends before record ");
-            push_number(record, text);
+            push_number(number, text);
+        }
+        PointFault::NotHeld(number, dim) => {
+            push_point(number, text);
+            text.push_str(dim.name());
+            text.push_str(" not held by the scale");
+        }
+        PointFault::ValueOutOfRange(number, dim) => {
+            push_point(number, text);
+            text.push_str(dim.name());
+            text.push_str(" out of range");
+        }
+        PointFault::DivideByZero(number) => {
+            push_point(number, text);
+            text.push_str("division by zero");
+        }
+        PointFault::ArithOverflow(number) => {
+            push_point(number, text);
+            text.push_str("overflow");
         }
     }
 }
 
 fn push_fault(fault: Fault, text: &mut Text)
-    requires { array_string_len text.old ≤ 100 }
+    requires { array_string_len text.old ≤ 40 }
     ensures bytes { text.new.bytes ≡ text.old.bytes ++ fault_text fault }
-    ensures len { array_string_len text.new ≤ array_string_len text.old + 44 }
+    ensures len { array_string_len text.new ≤ array_string_len text.old + 70 }
 {
     match fault {
         Fault::Header(fault) => text.push_str(header_fault_text(fault)),
@@ -137,7 +165,7 @@ fn push_fault(fault: Fault, text: &mut Text)
 fn push_reason(refusal: Refusal, text: &mut Text)
     requires { array_string_len text.old ≤ 10 }
     ensures bytes { text.new.bytes ≡ text.old.bytes ++ reason_text refusal }
-    ensures len { array_string_len text.new ≤ array_string_len text.old + 80 }
+    ensures len { array_string_len text.new ≤ array_string_len text.old + 98 }
 {
     match refusal {
         Refusal::Data(stage, fault) => {

@@ -36,14 +36,8 @@ fn read_plan<F: Files>(alloc: Global, words: &[String], files: &mut F) -> Result
     ensures settled { IsSettled (F.map files.old) (F.map files.new) (F.lent files.old) (F.lent files.new)
         (F.faults files.old) (F.faults files.new) }
 {
-    let file = match command(words) {
-        Ok(file) => file,
-        Err(refusal) => return Err(refusal),
-    };
-    let text = match read_text(alloc, files, file) {
-        Ok(text) => text,
-        Err(refusal) => return Err(refusal),
-    };
+    let file = command(words)?;
+    let text = read_text(alloc, files, file)?;
     match read_pipeline(alloc, &text) {
         Ok(pipeline) => Ok(pipeline),
         Err(PipeErr::Memory) => Err(Refusal::Memory),
@@ -73,14 +67,8 @@ fn run_command<F: Files, K: Sink>(
     ensures lent { F.lent files.new ≡ F.lent files.old }
     ensures later { F.faults files.old ≤ F.faults files.new }
 {
-    let pipeline = match read_plan(alloc, words, files) {
-        Ok(pipeline) => pipeline,
-        Err(refusal) => return Err(refusal),
-    };
-    let points = match run_pipeline(alloc, files, &pipeline) {
-        Ok(points) => points,
-        Err(refusal) => return Err(refusal),
-    };
+    let pipeline = read_plan(alloc, words, files)?;
+    let points = run_pipeline(alloc, files, &pipeline)?;
     match report_text(points, out) {
         Ok(()) => Ok(()),
         Err(_) => Err(Refusal::Device(Place::Out, Op::Write)),

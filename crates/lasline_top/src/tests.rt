@@ -251,7 +251,8 @@ fn the_least_stage_whose_device_failed_is_named(rt: HostRuntime) -> Result<(), F
     let alloc = rt.alloc();
     let las = two_points();
     let words = words(alloc, &["run", "p.json"])?;
-    let stored = named(alloc, &[("p.json", PIPELINE), ("in.las", &las[..414])])?;
+    let (_, cut) = las.split_last().ok_or("empty")?;
+    let stored = named(alloc, &[("p.json", PIPELINE), ("in.las", cut)])?;
     let mut files = MemFiles::new(alloc, stored, 12, 1_000, Vec::new(alloc));
     let mut out = SureOut::new(alloc, 200)?;
     let mut err = SureOut::new(alloc, 200)?;

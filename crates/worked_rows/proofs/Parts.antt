@@ -8,6 +8,7 @@ use Rattle.json.specs.Lex.{punctuate, lex}
 use Rattle.json.specs.Text.{content}
 use Rattle.las_reader.specs.declared.las_header.HeaderFault.TheVariants.{NotLas}
 use Rattle.las_reader.specs.Headers.{LasFault, In_header, Not_built, header_of}
+use Rattle.cloud_points.specs.Points.{zero_point}
 use Rattle.las_reader.specs.Records.{points_from}
 use Rattle.las_reader.specs.Files.{Las, las_of}
 use Rattle.file_devices.specs.declared.devices.Op.TheVariants.{Open}
@@ -39,7 +40,7 @@ pub numbered_name : pipeline_of (codes "[\"in.las\",\"o#.txt\"]") ≡ None
 unfolding is_utf8 chars encode value punctuate lex content
 numbered_name = refl
 
-pub two_read : las_of file_a ≡ Ok (record { points = record { x = pos 1000000000; y = pos 2000000000; z = pos 3000000000 } ∷ record { x = negsuc 9999999; y = pos 0; z = pos 50000000 } ∷ []; cut = None })
+pub two_read : las_of file_a ≡ Ok (record { points = record zero_point { x = pos 1000000000; y = pos 2000000000; z = pos 3000000000 } ∷ record zero_point { x = negsuc 9999999; y = pos 0; z = pos 50000000 } ∷ []; cut = None })
 unfolding header_of points_from
 two_read = refl
 
@@ -47,7 +48,7 @@ pub none_read : las_of file_without_points ≡ Ok (record { points = []; cut = N
 unfolding header_of points_from
 none_read = refl
 
-pub cut_at_1 : las_of (take 414 file_a) ≡ Ok (record { points = record { x = pos 1000000000; y = pos 2000000000; z = pos 3000000000 } ∷ []; cut = Some 1 })
+pub cut_at_1 : las_of (take 414 file_a) ≡ Ok (record { points = record zero_point { x = pos 1000000000; y = pos 2000000000; z = pos 3000000000 } ∷ []; cut = Some 1 })
 unfolding header_of points_from
 cut_at_1 = refl
 

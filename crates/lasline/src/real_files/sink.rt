@@ -1,5 +1,7 @@
 //! A file that is written through a buffer.
 ghost use Rattle.std.specs.Prelude.{◌≡◌, ◌+◌, ◌-◌, ◌^◌, ◌<◌, ◌≤◌, ◌++◌, [], List, ℕ, length, min, None, true, false, OnOk, OnErr, vec_len, vec_capacity};
+ghost use Rattle.std.specs.Option.{option_map_or};
+ghost use Rattle.std.proofs.Common.{ap};
 ghost use Rattle.file_devices.specs.Counts.{HasCause, Rose, saturating};
 ghost use Rattle.file_devices.specs.Content.{Appends, AppendsPart, Patches, PatchesSomehow};
 ghost use Rattle.lasline.specs.Untold.{untold};
@@ -145,7 +147,8 @@ impl Sink for RealOut {
         Ok(())
     }
 
-    ghost counted = { λ s b e. Prim.cc };
+    // Nothing is told, so there is nothing to count.
+    ghost counted = { λ s b e. ap (λ o. option_map_or (λ t. min (length t) (2 ^ 64 - 1)) o (s.start + vec_len s.waiting)) e };
 }
 
 impl FileSink for RealOut {

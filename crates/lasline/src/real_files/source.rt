@@ -82,5 +82,7 @@ impl Source for RealIn {
         Ok(count)
     }
 
-    ghost small = { λ s b e. Prim.cc };
+    ghost use Rattle.lasline.specs.Untold.{untold_is_short};
+
+    ghost small = { λ s b e. untold_is_short b e };
 }

@@ -1,5 +1,8 @@
 //! A stream of the system as a sink.
-ghost use Rattle.std.specs.Prelude.{◌≡◌, None};
+ghost use Rattle.std.specs.Prelude.{◌≡◌, ◌-◌, ◌^◌, length, min};
+ghost use Rattle.std.specs.Option.{option_map_or};
+ghost use Rattle.std.proofs.Common.{ap};
+ghost use Rattle.lasline.specs.Untold.{untold};
 
 use file_devices::{Failed, Sink};
 use std::io::Write;
@@ -29,7 +32,7 @@ impl<W: Write> RealStream<W> {
 }
 
 impl<W: Write> Sink for RealStream<W> {
-    ghost bytes = { λ _. None };
+    ghost bytes = { λ _. untold };
 
     ghost appended = { λ s. s.appended };
 
@@ -45,5 +48,6 @@ impl<W: Write> Sink for RealStream<W> {
         Ok(())
     }
 
-    ghost counted = { λ s b e. Prim.cc };
+    // Nothing is told, so there is nothing to count.
+    ghost counted = { λ s b e. ap (λ o. option_map_or (λ t. min (length t) (2 ^ 64 - 1)) o s.appended) e };
 }

@@ -1,9 +1,9 @@
-use Rattle.std.proofs.Common.{rules, arith, ◌≡◌, ℕ, ◌+◌, ◌-◌, ◌*◌, ◌/◌, ◌%◌, ◌^◌, ◌<◌, ◌≤◌, length, List, [], ◌∷◌, ◌++◌, sym, ap, ◌∙◌, refl, ◌⊎◌, inl, inr, ℤ, pos, neg_ℤ}
+use Rattle.std.proofs.Common.{arith, ◌≡◌, ℕ, ◌+◌, ◌*◌, ◌/◌, ◌^◌, [], ◌∷◌, ◌++◌, sym, ap, ◌∙◌, ◌⊎◌, inl, inr, pos, neg_ℤ}
 use Rattle.std.specs.Int.{w128}
 use Rattle.std.proofs.lemmas.Grind.{common_steps}
 use Rattle.decimal_coords.proofs.fixed.print_fixed.Goals.{then-nano-lt0+then-rounded-gt0, else-nano-lt0, else-nano-lt0-via-then-nano-lt0+else-rounded-gt0, else-nano-lt0-via-else-nano-lt0}
 use Rattle.std.proofs.lemmas.Int.{ints, to_z-of_z}
-use Rattle.decimal_coords.specs.Fixed.{fixed_text, places_text}
+use Rattle.decimal_coords.specs.Fixed.{places_text}
 use Rattle.decimal_coords.proofs.Printing.{whole_small, unit_places, ten_some, fixed_plain, fixed_minus}
 use Rattle.decimal_coords.proofs.fixed.print_fixed.Goals as goal
 

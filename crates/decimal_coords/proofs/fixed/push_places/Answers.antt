@@ -1,7 +1,7 @@
-use Rattle.std.proofs.Common.{rules, arith, ◌≡◌, ℕ, ◌+◌, ◌-◌, ◌*◌, ◌/◌, ◌%◌, ◌^◌, ◌<◌, ◌≤◌, length, List, [], ◌∷◌, ◌++◌, sym, ap, ◌∙◌, refl, replicate}
+use Rattle.std.proofs.Common.{arith, ◌≡◌, ℕ, ◌-◌, ◌%◌, ◌^◌, ◌<◌, ◌≤◌, length, List, ap, ◌∙◌, refl}
 use Rattle.std.specs.Prelude.{decimal}
 use Rattle.std.proofs.Math.ListN.{length-replicate}
-use Rattle.decimal_coords.proofs.Printing.{whole_length, part_length}
+use Rattle.decimal_coords.proofs.Printing.{part_length}
 use Rattle.decimal_coords.proofs.fixed.push_places.Goals as goal
 
 -- the lengths of the two numbers

@@ -1,4 +1,4 @@
-use Rattle.std.proofs.Common.{arith, ◌≡◌, ℕ, ◌+◌, ◌≤◌, length, ap, ◌∙◌}
+use Rattle.std.proofs.Common.{arith, ◌≤◌, length}
 use Rattle.decimal_coords.proofs.Printing.{whole_length}
 use Rattle.decimal_coords.proofs.fixed.push_whole.Goals as goal
 

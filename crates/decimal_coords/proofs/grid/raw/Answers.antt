@@ -1,4 +1,4 @@
-use Rattle.std.proofs.Common.{arith, rules, ◌≡◌, ℕ, ◌*◌, ◌^◌, ◌≤◌, ◌<◌, ap, sym, subst, ◌∙◌, ℤ, pos, ◌-ℤ◌, w64, FitsSigned, to_z, of_z}
+use Rattle.std.proofs.Common.{arith, rules, ◌≡◌, ◌*◌, ◌^◌, ◌≤◌, ◌<◌, sym, subst, ◌∙◌, ℤ, ◌-ℤ◌, w64, FitsSigned, to_z, of_z}
 use Rattle.std.specs.Int.{w32}
 use Rattle.std.specs.Prelude.{unsigned_abs}
 use Rattle.std.proofs.lemmas.Int.{ints, to_z-of_z, fits_signed_from_abs}

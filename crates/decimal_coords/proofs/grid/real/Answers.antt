@@ -1,4 +1,4 @@
-use Rattle.std.proofs.Common.{arith, ◌≡◌, ℕ, ◌*◌, ◌^◌, ◌≤◌, ◌<◌, ap, ◌∙◌, ℤ, pos, ◌*ℤ◌, ◌+ℤ◌, w64, FitsSigned}
+use Rattle.std.proofs.Common.{arith, ℕ, ◌*◌, ◌^◌, ◌≤◌, ◌<◌, ap, ◌∙◌, ℤ, ◌*ℤ◌, ◌+ℤ◌, w64, FitsSigned}
 use Rattle.std.specs.Int.{w32}
 use Rattle.std.specs.Prelude.{unsigned_abs}
 use Rattle.std.proofs.lemmas.Int.{ints, to_z-of_z, unsigned_abs-mul, fits_signed_from_abs}

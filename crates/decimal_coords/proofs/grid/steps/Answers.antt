@@ -1,8 +1,6 @@
-use Rattle.std.proofs.Common.{arith, ◌≡◌, ℕ, ◌+◌, ◌-◌, ◌*◌, ◌/◌, ◌^◌, ◌<◌, ◌≤◌, ℤ, pos, neg_ℤ, ◌-ℤ◌, w64, to_z, of_z}
-use Rattle.std.specs.Prelude.{unsigned_abs}
+use Rattle.std.proofs.Common.{arith, ◌≡◌, ℕ, ◌+◌, ◌*◌, ◌/◌, ◌^◌, ◌<◌, ◌≤◌, pos, neg_ℤ, ◌-ℤ◌, w64, to_z, of_z}
 use Rattle.std.proofs.Math.Nat.{div-le_self}
 use Rattle.std.proofs.lemmas.Int.{ints, to_z-of_z}
-use Rattle.exact_numbers.specs.Rounding.{half_away}
 use Rattle.exact_numbers.proofs.HalfAway.{is_positive, is_negative}
 use Rattle.decimal_coords.proofs.grid.steps.Goals as goal
 

@@ -1,4 +1,4 @@
-use Rattle.std.proofs.Common.{arith, ◌≡◌, ℕ, ◌+◌, ◌-◌, ◌*◌, ◌/◌, ◌%◌, ◌^◌, ◌<◌, ◌≤◌, ap, subst, sym, ◌∙◌, length}
+use Rattle.std.proofs.Common.{arith, ◌≡◌, ℕ, ◌+◌, ◌-◌, ◌^◌, ◌<◌, subst}
 use Rattle.std.proofs.lemmas.List.{drop-set}
 use Rattle.decimal_coords.proofs.Padded.{padded_one, padded_two}
 use Rattle.decimal_coords.proofs.put.put_first.Goals as goal

@@ -1,7 +1,7 @@
-use Rattle.std.proofs.Common.{arith, ◌≡◌, ℕ, ◌+◌, ◌-◌, ◌*◌, ◌/◌, ◌^◌, ◌<◌, ◌≤◌, ◌∙◌, ap, subst, sym, refl, ◌⊎◌, inl, inr, ℤ, pos, neg_ℤ, w64, List, ◌∷◌, ◌++◌, length, take, drop, set, length-set}
+use Rattle.std.proofs.Common.{arith, ◌≡◌, ℕ, ◌+◌, ◌-◌, ◌*◌, ◌/◌, ◌^◌, ◌<◌, ◌≤◌, ◌∙◌, ap, sym, refl, ◌⊎◌, inl, inr, pos, neg_ℤ, w64, List, ◌∷◌, ◌++◌, length, drop, set}
 use Rattle.std.proofs.lemmas.Int.{ints, to_z-of_z}
 use Rattle.std.proofs.lemmas.List.{take-set-le, drop-set}
-use Rattle.decimal_coords.specs.Fixed.{fixed_text, places_text}
+use Rattle.decimal_coords.specs.Fixed.{places_text}
 use Rattle.decimal_coords.proofs.Padded.{take_shorter}
 use Rattle.decimal_coords.proofs.Printing.{whole_smaller, unit_places, ten_some, fixed_plain, fixed_minus}
 use Rattle.decimal_coords.proofs.Backward.{cut_out, cut_behind}

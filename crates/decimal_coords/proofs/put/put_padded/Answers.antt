@@ -1,4 +1,4 @@
-use Rattle.std.proofs.Common.{arith, ◌≡◌, ℕ, ◌+◌, ◌-◌, ◌*◌, ◌^◌, ◌<◌, ◌≤◌, ◌∙◌}
+use Rattle.std.proofs.Common.{arith, ◌≡◌, ◌+◌, ◌-◌, ◌∙◌}
 use Rattle.decimal_coords.proofs.Padded.{padded_before, rest_below, take_shorter}
 use Rattle.decimal_coords.proofs.put.put_padded.Goals as goal
 

@@ -1,7 +1,6 @@
-use Rattle.std.proofs.Common.{arith, ◌≡◌, ℕ, ◌+◌, ◌-◌, ◌*◌, ◌/◌, ◌^◌, ◌<◌, ◌≤◌, ◌∙◌, ap, subst, sym, length, length-set}
+use Rattle.std.proofs.Common.{arith, ◌≡◌, ℕ, ◌-◌, ◌/◌, ◌^◌, ◌<◌, ◌≤◌, ◌∙◌, ap, length, length-set}
 use Rattle.std.specs.Prelude.{decimal}
 use Rattle.std.proofs.lemmas.List.{take-set-le}
-use Rattle.decimal_coords.specs.Fixed.{places_text}
 use Rattle.decimal_coords.proofs.Padded.{take_shorter}
 use Rattle.decimal_coords.proofs.Printing.{whole_shorter}
 use Rattle.decimal_coords.proofs.Backward.{whole_text, length_parts, length_whole}

@@ -1,4 +1,4 @@
-use Rattle.std.proofs.Common.{rules, ◌≡◌, length, Some, ap, sym, ◌∙◌, option_and_then, arith, vec_len}
+use Rattle.std.proofs.Common.{rules, ◌≡◌, length, Some, ap, sym, ◌∙◌, option_and_then}
 use Rattle.serde_json.specs.Find.{as_array}
 use Rattle.serde_json.specs.View.{view, items_view}
 use Rattle.lasline_top.specs.Pipelines.{texts_in}

@@ -1,5 +1,5 @@
-use Rattle.std.proofs.Common.{◌≡◌, ◌≤◌, ◌+◌, ◌<◌, ◌^◌, arith, rules, length, refl, ap, ◌∙◌, subst}
-use Rattle.lasline_top.proofs.Copying.{copying_none, copying_more, copying_view_end, ended_ok, ended_err, fits_more}
+use Rattle.std.proofs.Common.{◌≡◌, ◌+◌, ◌<◌, ◌^◌, arith, length}
+use Rattle.lasline_top.proofs.Copying.{copying_more, copying_view_end, ended_ok, ended_err, fits_more}
 use Rattle.lasline_top.proofs.run_engine.copy_points.Goals as goal
 
 pub returns-in-End-clause-ok : goal.returns-in-End-clause-ok

@@ -1,4 +1,4 @@
-use Rattle.std.proofs.Common.{◌≡◌, ◌≤◌, [], length, arith, rules, drop, w64, FitsSigned}
+use Rattle.std.proofs.Common.{◌≤◌, length, arith, rules, w64, FitsSigned}
 use Rattle.std.proofs.lemmas.Int.{to_z-of_z}
 use Rattle.std.proofs.lemmas.List.{drop_all}
 use Rattle.lasline_top.proofs.LineLemmas.{line_is}

@@ -1,4 +1,4 @@
-use Rattle.std.proofs.Common.{◌≡◌, ◌<◌, ◌≤◌, length, take, arith, rules}
+use Rattle.std.proofs.Common.{arith, rules}
 use Rattle.std.proofs.lemmas.List.{take_all}
 use Rattle.lasline_top.proofs.LineLemmas.{putting_more}
 use Rattle.lasline_top.proofs.text_writer.put_points.Goals as goal

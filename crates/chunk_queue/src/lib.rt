@@ -1,0 +1,11 @@
+//! Bounded queues of numbered items between stages.
+#![tactic(auto)]
+
+mod plain;
+mod tag;
+
+pub use plain::PlainQueue;
+pub use tag::{Kind, Tag};
+
+#[cfg(test)]
+mod tests;

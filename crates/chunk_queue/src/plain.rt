@@ -1,0 +1,210 @@
+//! A queue on one thread.
+
+ghost use Rattle.std.specs.Prelude.{◌≡◌, ◌<◌, ◌≤◌, ◌+◌, [], ◌∷◌, ◌++◌, ◌↔◌, length, drop, slice_get, true, false, IfOk, IfErr, OnOk, OnErr, IsOk, IsTrue, nat_lt, ◌==◌, ◌^◌};
+ghost use Rattle.std.specs.Bool.{OnTrue, OnFalse};
+ghost use Rattle.circular_buffer.specs.Buffer.{buffer};
+ghost use Rattle.chunk_queue.specs.Slots.{next_slot, slot_after, filled, tag_item, kind_body, brings_points, IsPopped};
+
+use crate::tag::{Kind, Tag};
+use circular_buffer::HeapCircularBuffer;
+use cloud_points::{Body, Chunk, Item, Point, Spread, put_points};
+use std::alloc::{AllocError, Global};
+use std::marker::Model;
+
+/// A queue with room for a stated number of items, from 1 to 64. A clause sees the list of the items that it holds,
+/// and its capacity.
+///
+/// The points of an item lie in a slot of their own, so that they are copied once into the queue and once out of it,
+/// and no call but `new` takes memory.
+#[derive(Drop)]
+pub struct PlainQueue {
+    tags: HeapCircularBuffer<Tag>,
+    slots: Vec<Spread>,
+    first: usize,
+}
+
+impl Model for PlainQueue {
+    ghost use Rattle.circular_buffer.specs.Buffer.{Buffer, buffer};
+    ghost use Rattle.cloud_points.specs.declared.item.Item.{Item};
+
+    ghost Value = { Buffer Item };
+
+    ghost use Rattle.chunk_queue.specs.Slots.{held_items, IsSlotted};
+
+    ghost view = { λ q. buffer (held_items q.tags.capacity q.slots.items q.first q.tags.items) q.tags.capacity };
+
+    ghost invariant = { λ q. IsSlotted q.tags.capacity q.slots.items q.first q.tags.items };
+}
+
+impl PlainQueue {
+    /// An empty queue with this capacity.
+    pub fn new(alloc: Global, capacity: usize) -> Result<PlainQueue, AllocError>
+        requires some { 0 < capacity }
+        requires most { capacity ≤ 64 }
+        ensures { IfOk result (λ q. q ≡ buffer [] capacity) }
+    {
+        let tags = HeapCircularBuffer::with_capacity(alloc, capacity)?;
+        let mut slots = Vec::with_capacity(alloc, capacity)?;
+        for _ in 0..capacity {
+            slots.push(Spread::new())?;
+        }
+        Ok(PlainQueue {
+            tags,
+            slots,
+            first: 0,
+        })
+    }
+
+    /// The first item, which leaves the queue; None exactly where the queue is empty.
+    pub fn pop(&mut self) -> Option<Item>
+        ensures value { result ≡ slice_get self.old.items 0 }
+        ensures items { self.new ≡ buffer (drop 1 self.old.items) self.old.capacity }
+    {
+        let mut points = Spread::new();
+        let tag = self.pop_into(&mut points)?;
+        Some(Item {
+            no: tag.no,
+            body: body_of(tag.kind, &points),
+        })
+    }
+
+    /// Appends an item, or hands it back exactly where the queue is full.
+    pub fn push(&mut self, item: Item) -> Result<(), Item>
+        ensures room { IsOk result ↔ (length self.old.items < self.old.capacity) }
+        ensures ok { OnOk result (self.new ≡ buffer (self.old.items ++ item ∷ []) self.old.capacity) }
+        ensures err { OnErr result (self.new ≡ self.old) }
+        ensures back { IfErr result (λ i. i ≡ item) }
+    {
+        if !self.has_room() {
+            return Err(item);
+        }
+        self.put_body(item.no, &item.body);
+        Ok(())
+    }
+
+    /// Whether there is room for an item.
+    pub fn has_room(&self) -> bool
+        ensures { result ≡ nat_lt (length self.now.items) self.now.capacity }
+    {
+        self.tags.len() < self.tags.capacity()
+    }
+
+    /// Whether it holds no item.
+    pub fn is_empty(&self) -> bool
+        ensures { result ≡ (length self.now.items == 0) }
+    {
+        self.tags.is_empty()
+    }
+
+    /// Appends the item that a tag and points make, or changes nothing exactly where the queue is full. The points count
+    /// only where the tag brings points, and then there are 1 to 64 of them.
+    pub fn push_from(&mut self, tag: Tag, points: &[Point]) -> bool
+        requires some { brings_points tag.kind ≡ true → 0 < length points.now }
+        requires most { length points.now ≤ 64 }
+        ensures room { IsTrue result ↔ (length self.old.items < self.old.capacity) }
+        ensures pushed { OnTrue result (self.new ≡ buffer (self.old.items ++ tag_item tag points.now ∷ []) self.old.capacity) }
+        ensures full { OnFalse result (self.new ≡ self.old) }
+    {
+        if !self.has_room() {
+            return false;
+        }
+        self.put(tag.no, tag.kind, points);
+        true
+    }
+
+    /// The first item, which leaves the queue, apart from its points, which are put in place of what the spread held;
+    /// None exactly where the queue is empty. The spread is unchanged where the item brings no points.
+    pub fn pop_into(&mut self, points: &mut Spread) -> Option<Tag>
+        ensures popped { IsPopped self.old.items result points.old.items points.new.items }
+        ensures items { self.new ≡ buffer (drop 1 self.old.items) self.old.capacity }
+    {
+        let tag = self.tags.pop_front()?;
+        let slot = &self.slots[self.first];
+        take_slot(points, tag.kind, slot);
+        self.first = following(self.first, self.tags.capacity());
+        Some(tag)
+    }
+
+    /// Appends an item where there is room.
+    fn put_body(&mut self, no: u64, body: &Body)
+        requires { length self.old.items < self.old.capacity }
+        ensures { self.new ≡ buffer (self.old.items ++ record { no = no; body = body.now } ∷ []) self.old.capacity }
+    {
+        match body {
+            Body::Points(chunk) => self.put(no, Kind::Points, chunk.points()),
+            Body::EndView => self.put(no, Kind::EndView, &[]),
+            Body::End(cut) => self.put(no, Kind::End(*cut), &[]),
+        }
+    }
+
+    /// Appends an item where there is room.
+    fn put(&mut self, no: u64, kind: Kind, points: &[Point])
+        requires room { length self.old.items < self.old.capacity }
+        requires some { brings_points kind ≡ true → 0 < length points.now }
+        requires most { length points.now ≤ 64 }
+        ensures { self.new ≡ buffer (self.old.items ++ tag_item (record { no = no; kind = kind }) points.now ∷ []) self.old.capacity }
+    {
+        let at = place_after(self.first, self.tags.len(), self.tags.capacity());
+        fill_slot(&mut self.slots[at], kind, points);
+        let _ = self.tags.try_push_back(Tag { no, kind });
+    }
+}
+
+/// What an item brings, with its points.
+fn body_of(kind: Kind, points: &Spread) -> Body
+    requires { brings_points kind ≡ true → 0 < length points.now.items }
+    ensures { result ≡ kind_body kind points.now.items }
+{
+    match kind {
+        Kind::Points => match Chunk::of(points) {
+            Some(chunk) => Body::Points(chunk),
+            None => unreachable!(),
+        },
+        Kind::EndView => Body::EndView,
+        Kind::End(cut) => Body::End(cut),
+    }
+}
+
+/// Puts the points of an item into its slot.
+fn fill_slot(slot: &mut Spread, kind: Kind, points: &[Point])
+    requires { length points.now ≤ 64 }
+    ensures { slot.new.items ≡ filled kind slot.old.items points.now }
+{
+    match kind {
+        Kind::Points => put_points(slot, points),
+        Kind::EndView => {}
+        Kind::End(_) => {}
+    }
+}
+
+/// Takes the points of an item out of its slot.
+fn take_slot(into: &mut Spread, kind: Kind, slot: &Spread)
+    ensures { into.new.items ≡ filled kind into.old.items slot.now.items }
+{
+    match kind {
+        Kind::Points => put_points(into, slot.as_slice()),
+        Kind::EndView => {}
+        Kind::End(_) => {}
+    }
+}
+
+/// The slot that follows this one round the queue.
+fn following(slot: usize, capacity: usize) -> usize
+    requires { slot < capacity }
+    ensures slot { result ≡ next_slot capacity slot }
+    ensures within { result < capacity }
+{
+    if slot + 1 == capacity { 0 } else { slot + 1 }
+}
+
+/// The slot so many places on round the queue.
+fn place_after(first: usize, count: usize, capacity: usize) -> usize
+    requires first { first < capacity }
+    requires count { count < capacity }
+    requires small { capacity < 2 ^ 63 }
+    ensures slot { result ≡ slot_after capacity first count }
+    ensures within { result < capacity }
+{
+    let at = first + count;
+    if at < capacity { at } else { at - capacity }
+}

@@ -1,0 +1,9 @@
+pub mod Rows
+pub mod Events
+pub mod Lent
+pub mod Edges
+pub mod Steps
+pub mod Opened
+pub mod Running
+pub mod Turning
+pub mod Chains

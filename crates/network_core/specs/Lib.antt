@@ -1,0 +1,9 @@
+pub mod Hands
+pub mod Shown
+pub mod Calm
+pub mod Begun
+pub mod Queues
+pub mod Wires
+pub mod Nets
+pub mod Runs
+pub mod ToyMeaning

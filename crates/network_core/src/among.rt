@@ -1,0 +1,98 @@
+//! A turn among the queues of a net.
+
+ghost use Rattle.std.specs.Prelude.{◌≡◌, ◌≢◌, ◌<◌, ◌≤◌, ◌==◌, ℕ, List, [], Some, Option, IfOk, length, slice_get, replicate};
+ghost use Rattle.circular_buffer.specs.Buffer.{buffer};
+ghost use Rattle.cloud_points.specs.Bodies.{bodies, numbers};
+ghost use Rattle.network_theory.specs.Net as net;
+ghost use Rattle.network_core.specs.Calm.{Obeys};
+ghost use Rattle.network_core.specs.Shown.{shown, choice, left, turned};
+ghost use Rattle.network_core.specs.Wires.{queue_at, queue_of};
+
+use crate::node::Node;
+use crate::turned::Turned;
+use chunk_queue::PlainQueue;
+use cloud_points::Work;
+use std::alloc::{AllocError, Global};
+
+/// So many empty queues.
+pub(crate) fn queues(
+    alloc: Global,
+    count: usize,
+    capacity: usize,
+) -> Result<Vec<PlainQueue>, AllocError>
+    requires some { 0 < capacity }
+    requires most { capacity ≤ 64 }
+    ensures { IfOk result (λ v. v.items ≡ replicate count (buffer [] capacity)) }
+{
+    let mut edges = Vec::with_capacity(alloc, count)?;
+    for _ in 0..count {
+        edges.push(PlainQueue::new(alloc, capacity)?)?;
+    }
+    Ok(edges)
+}
+
+/// A turn of node `at`, which reads the queue above its current child and gives to the one above itself. None is above
+/// the root.
+pub(crate) fn turn_among<W: Work>(
+    node: &mut Node<W>,
+    edges: &mut [PlainQueue],
+    child: Option<usize>,
+    at: usize,
+) -> Turned
+    requires within { at ≤ length edges.old }
+    requires child { (c : ℕ) → child ≡ Some c → c < at }
+    requires more { (c : ℕ) → child ≡ Some c → node.old.ended < node.old.inputs }
+    ensures row { (ins : List ℕ) → left (shown W.Work ins node.new) (bodies (queue_of edges.new child).items) (bodies (queue_at edges.new at).items) result
+        ≡ net.turn (at == length edges.old) (queue_at edges.old at).capacity (choice W.Work node.old node.new) (shown W.Work ins node.old) (bodies (queue_of edges.old child).items) (bodies (queue_at edges.old at).items) }
+    ensures above { numbers (queue_at edges.new at).items ≡ net.numbers_above (at == length edges.old) (turned result) (numbers (queue_at edges.old at).items) node.old.given }
+    ensures left { numbers (queue_of edges.new child).items ≡ net.numbers_left (turned result) (numbers (queue_of edges.old child).items) }
+    ensures others { (k : ℕ) → k ≢ at → child ≢ Some k → queue_at edges.new k ≡ queue_at edges.old k }
+    ensures rooms { (k : ℕ) → (queue_at edges.new k).capacity ≡ (queue_at edges.old k).capacity }
+    ensures obeys { Obeys W.Work node.old node.new }
+{
+    match child {
+        None => turn_childless(node, edges, at),
+        Some(c) => turn_parent(node, edges, c, at),
+    }
+}
+
+/// A turn of a node that reads the queue above a child.
+fn turn_parent<W: Work>(node: &mut Node<W>, edges: &mut [PlainQueue], c: usize, at: usize) -> Turned
+    requires within { at ≤ length edges.old }
+    requires child { c < at }
+    requires more { node.old.ended < node.old.inputs }
+    ensures row { (ins : List ℕ) → left (shown W.Work ins node.new) (bodies (queue_at edges.new c).items) (bodies (queue_at edges.new at).items) result
+        ≡ net.turn (at == length edges.old) (queue_at edges.old at).capacity (choice W.Work node.old node.new) (shown W.Work ins node.old) (bodies (queue_at edges.old c).items) (bodies (queue_at edges.old at).items) }
+    ensures above { numbers (queue_at edges.new at).items ≡ net.numbers_above (at == length edges.old) (turned result) (numbers (queue_at edges.old at).items) node.old.given }
+    ensures left { numbers (queue_at edges.new c).items ≡ net.numbers_left (turned result) (numbers (queue_at edges.old c).items) }
+    ensures others { (k : ℕ) → k ≢ at → k ≢ c → queue_at edges.new k ≡ queue_at edges.old k }
+    ensures rooms { (k : ℕ) → (queue_at edges.new k).capacity ≡ (queue_at edges.old k).capacity }
+    ensures obeys { Obeys W.Work node.old node.new }
+{
+    if at == edges.len() {
+        let input = &mut edges[c];
+        return node.turn_root(input);
+    }
+    let (front, back) = edges.split_at_mut(at);
+    let input = &mut front[c];
+    let out = &mut back[0];
+    node.turn_inner(input, out)
+}
+
+/// A turn of a node that reads no queue.
+fn turn_childless<W: Work>(node: &mut Node<W>, edges: &mut [PlainQueue], at: usize) -> Turned
+    requires { at ≤ length edges.old }
+    ensures row { (ins : List ℕ) → left (shown W.Work ins node.new) [] (bodies (queue_at edges.new at).items) result
+        ≡ net.turn (at == length edges.old) (queue_at edges.old at).capacity (choice W.Work node.old node.new) (shown W.Work ins node.old) [] (bodies (queue_at edges.old at).items) }
+    ensures above { numbers (queue_at edges.new at).items ≡ net.numbers_above (at == length edges.old) (turned result) (numbers (queue_at edges.old at).items) node.old.given }
+    ensures left { net.numbers_left (turned result) [] ≡ [] }
+    ensures others { (k : ℕ) → k ≢ at → queue_at edges.new k ≡ queue_at edges.old k }
+    ensures rooms { (k : ℕ) → (queue_at edges.new k).capacity ≡ (queue_at edges.old k).capacity }
+    ensures obeys { Obeys W.Work node.old node.new }
+{
+    if at == edges.len() {
+        return node.turn_alone();
+    }
+    let out = &mut edges[at];
+    node.turn_leaf(out)
+}

@@ -1,0 +1,426 @@
+//! Nodes and their turns.
+
+ghost use Rattle.std.specs.Prelude.{◌≡◌, ◌<◌, ◌≤◌, true};
+ghost use Rattle.arrayvec.specs.ArrayVec.{array_vec_len};
+ghost use Rattle.network_core.specs.Hands.{holds_points};
+
+use crate::parts::{either, first, hand_of};
+use crate::turned::{Turned, Why};
+use chunk_queue::{Kind, PlainQueue, Tag};
+use cloud_points::{Make, Spread, StageFault, Work};
+
+/// How a turn begins.
+#[derive(Clone, Copy, Debug)]
+enum Begun {
+    Give(Kind),
+    Take,
+    Ended(Turned),
+}
+
+/// A stage that takes turns: its work, the inputs that it reads one after the other, and what it gives on.
+#[derive(Drop)]
+pub struct Node<W> {
+    work: W,
+    inputs: u32,
+    ended: u32,
+    chunk: usize,
+    // What is to be given next. Points that are in the hand lie in `spread`.
+    hand: Option<Kind>,
+    spread: Spread,
+    given: u64,
+    cut: bool,
+    fault: Option<StageFault>,
+    ending: bool,
+    done: bool,
+    views: u64,
+    points: u64,
+    ghost some: { 0 < chunk },
+    ghost most: { chunk ≤ 64 },
+    ghost within: { ended ≤ inputs },
+    ghost held: { holds_points hand ≡ true → 0 < array_vec_len spread },
+}
+
+impl<W: Work> Node<W> {
+    ghost use Rattle.std.specs.Prelude.{◌≡◌, ◌<◌, ◌≤◌, ◌+◌, ◌↔◌, ℕ, List, [], Bool, true, false, Some, None, Option, cond, is_none, is_some, length};
+    ghost use Rattle.cloud_points.specs.declared.point.Point.{Point};
+    ghost use Rattle.cloud_points.specs.declared.faults.StageFault.{StageFault};
+    ghost use Rattle.cloud_points.specs.Bodies.{bodies, numbers};
+    ghost use Rattle.cloud_points.specs.Marks.{Item};
+    ghost use Rattle.cloud_points.specs.Marks as marks;
+    ghost use Rattle.chunk_queue.specs.Slots.{brings_points};
+    ghost use Rattle.network_theory.specs.Net as net;
+    ghost use Rattle.network_core.specs.Hands.{kind_item, seen_hand};
+    ghost use Rattle.network_core.specs.Shown.{shown, new_node, work_of, current_of, chosen, choice, made_choice, new_fault, left, turned};
+    ghost use Rattle.network_core.specs.Calm.{Calm, NoEvent, Told, Obeys};
+    ghost use Rattle.network_core.specs.Begun.{Begins, IsStill, WillMake, made_by};
+    ghost use Rattle.network_core.specs.Queues.{lent_items, room, left_items};
+
+    /// A new node, with no inputs exactly for a leaf. A leaf makes at most `chunk` points at once, from 1 to 64.
+    pub fn new(work: W, inputs: u32, chunk: usize) -> Node<W>
+        requires leaf { (W.leaf work ≡ true) ↔ (inputs ≡ 0) }
+        requires some { 0 < chunk }
+        requires most { chunk ≤ 64 }
+        ensures shown { (ins : List ℕ) → shown W.Work ins result ≡ new_node W.Work ins work inputs chunk }
+        ensures work { work_of result ≡ work }
+    {
+        Node {
+            work,
+            inputs,
+            ended: 0,
+            chunk,
+            hand: None,
+            spread: Spread::new(),
+            given: 0,
+            cut: false,
+            fault: None,
+            ending: false,
+            done: false,
+            views: 0,
+            points: 0,
+        }
+    }
+
+    /// The input that is being read; None for a leaf and once all inputs ended.
+    pub fn current(&self) -> Option<u32>
+        ensures { result ≡ current_of (shown W.Work [] self.now) }
+    {
+        if self.ended < self.inputs {
+            Some(self.ended)
+        } else {
+            None
+        }
+    }
+
+    /// Whether it gave its End.
+    pub fn done(&self) -> bool
+        ensures { result ≡ (shown W.Work [] self.now).done }
+    {
+        self.done
+    }
+
+    /// Its first fault.
+    pub fn fault(&self) -> Option<StageFault>
+        ensures { result ≡ (shown W.Work [] self.now).machine.fault }
+    {
+        self.fault
+    }
+
+    /// How many views it gave on. The count stands at the greatest u64.
+    pub fn views(&self) -> u64
+        ensures { result ≡ (shown W.Work [] self.now).views }
+    {
+        self.views
+    }
+
+    /// How many points it gave on. The count stands at the greatest u64.
+    pub fn points(&self) -> u64
+        ensures { result ≡ (shown W.Work [] self.now).points }
+    {
+        self.points
+    }
+
+    /// Its work.
+    pub fn into_work(self) -> W
+        ensures { result ≡ work_of self }
+    {
+        self.work
+    }
+
+    /// What a turn does before it touches a queue. What is in the hand stays there.
+    fn begin(&mut self) -> Begun
+        ensures begins { Begins W.Work self.old self.new result }
+        ensures calm { Calm W.Work self.old self.new }
+        ensures within { WillMake W.Work self.old → (ins : List ℕ) → net.IsWithin (made_by W.Work self.old self.new) (shown W.Work ins self.old) }
+        ensures part { NoEvent W.Work self.old self.new → Told W.Work self.old → WillMake W.Work self.old → (ins : List ℕ) → net.IsPart (made_by W.Work self.old self.new) (shown W.Work ins self.old) }
+        ensures told { NoEvent W.Work self.old self.new → Told W.Work self.old → Told W.Work self.new }
+    {
+        if let Some(kind) = self.hand {
+            return Begun::Give(kind);
+        }
+        if self.done {
+            return Begun::Ended(Turned::Done);
+        }
+        if self.ending {
+            self.make_end();
+            return Begun::Ended(Turned::Made);
+        }
+        if self.work.is_leaf() {
+            self.make_next();
+            return Begun::Ended(Turned::Made);
+        }
+        Begun::Take
+    }
+
+    /// The end that was still to come goes into the hand.
+    fn make_end(&mut self)
+        requires hand { self.old.hand ≡ None }
+        ensures calm { Calm W.Work self.old self.new }
+        ensures told { Told W.Work self.old → Told W.Work self.new }
+        ensures made { (ins : List ℕ) → shown W.Work ins self.new ≡ net.end_made (shown W.Work ins self.old) }
+    {
+        self.hand = Some(Kind::End(either(self.cut, self.fault.is_some())));
+        self.ending = false;
+    }
+
+    /// A leaf makes its next item.
+    fn make_next(&mut self)
+        requires leaf { W.leaf self.old.work ≡ true }
+        ensures calm { Calm W.Work self.old self.new }
+        ensures within { (ins : List ℕ) → net.IsWithin (made_by W.Work self.old self.new) (shown W.Work ins self.old) }
+        ensures part { NoEvent W.Work self.old self.new → W.tells self.old.work ≡ true → self.old.fault ≡ None → (ins : List ℕ) → net.IsPart (made_by W.Work self.old self.new) (shown W.Work ins self.old) }
+        ensures tells { NoEvent W.Work self.old self.new → W.tells self.old.work ≡ true → net.holds_end (seen_hand self.new.hand self.new.spread.items) ≡ false → (W.tells self.new.work ≡ true) × (self.new.fault ≡ self.old.fault) }
+        ensures made { (ins : List ℕ) → shown W.Work ins self.new ≡ net.makes (made_by W.Work self.old self.new) (shown W.Work ins self.old) }
+    {
+        match self.work.make(self.chunk, &mut self.spread) {
+            Make::Points => {
+                self.hand = Some(Kind::Points);
+            }
+            Make::EndView => {
+                self.hand = Some(Kind::EndView);
+            }
+            Make::End(cut, fault) => {
+                self.hand = Some(Kind::End(cut));
+                self.fault = first(self.fault, fault);
+            }
+        }
+    }
+
+    /// One turn, which does the first of these that applies. An item in the hand is given: the root lays it down,
+    /// another node puts it into `out`, or does nothing where that is full. A done node does nothing. An end that is
+    /// still to come goes into the hand. A leaf makes its next item. Any other node takes the first item of `input`,
+    /// or does nothing where there is none.
+    ///
+    /// `input` is the queue of the current input, and None exactly where there is none. `out` is None exactly for the root.
+    pub fn turn(&mut self, input: Option<&mut PlainQueue>, out: Option<&mut PlainQueue>) -> Turned
+        requires { is_none input ≡ is_none (current_of (shown W.Work [] self.old)) }
+        ensures row { (ins : List ℕ) → left (shown W.Work ins self.new) (bodies (left_items input.exit)) (bodies (left_items out.exit)) result
+            ≡ net.turn (is_none out.entry) (room out.entry) (choice W.Work self.old self.new) (shown W.Work ins self.old) (bodies (lent_items input.entry)) (bodies (lent_items out.entry)) }
+        ensures above { numbers (left_items out.exit) ≡ net.numbers_above (is_none out.entry) (turned result) (numbers (lent_items out.entry)) (shown W.Work [] self.old).sent }
+        ensures left { numbers (left_items input.exit) ≡ net.numbers_left (turned result) (numbers (lent_items input.entry)) }
+        ensures obeys { Obeys W.Work self.old self.new }
+    {
+        let Some(out) = out else {
+            let Some(input) = input else {
+                return self.turn_alone();
+            };
+            return self.turn_root(input);
+        };
+        let Some(input) = input else {
+            return self.turn_leaf(out);
+        };
+        self.turn_inner(input, out)
+    }
+
+    /// A turn of a node with an input and a parent.
+    pub(crate) fn turn_inner(&mut self, input: &mut PlainQueue, out: &mut PlainQueue) -> Turned
+        requires { self.old.ended < self.old.inputs }
+        ensures row { (ins : List ℕ) → left (shown W.Work ins self.new) (bodies input.new.items) (bodies out.new.items) result
+            ≡ net.turn false out.old.capacity (choice W.Work self.old self.new) (shown W.Work ins self.old) (bodies input.old.items) (bodies out.old.items) }
+        ensures above { numbers out.new.items ≡ net.numbers_above false (turned result) (numbers out.old.items) self.old.given }
+        ensures left { numbers input.new.items ≡ net.numbers_left (turned result) (numbers input.old.items) }
+        ensures room { (input.new.capacity ≡ input.old.capacity) × (out.new.capacity ≡ out.old.capacity) }
+        ensures obeys { Obeys W.Work self.old self.new }
+    {
+        match self.begin() {
+            Begun::Give(kind) => self.give_to(kind, out),
+            Begun::Take => self.take_from(input),
+            Begun::Ended(turned) => turned,
+        }
+    }
+
+    /// A turn of a node with a parent and no input to read.
+    pub(crate) fn turn_leaf(&mut self, out: &mut PlainQueue) -> Turned
+        ensures row { (ins : List ℕ) → left (shown W.Work ins self.new) [] (bodies out.new.items) result
+            ≡ net.turn false out.old.capacity (choice W.Work self.old self.new) (shown W.Work ins self.old) [] (bodies out.old.items) }
+        ensures above { numbers out.new.items ≡ net.numbers_above false (turned result) (numbers out.old.items) self.old.given }
+        ensures left { net.numbers_left (turned result) [] ≡ [] }
+        ensures room { out.new.capacity ≡ out.old.capacity }
+        ensures obeys { Obeys W.Work self.old self.new }
+    {
+        match self.begin() {
+            Begun::Give(kind) => self.give_to(kind, out),
+            Begun::Take => Turned::Idle(Why::Empty),
+            Begun::Ended(turned) => turned,
+        }
+    }
+
+    /// A turn of a root with an input.
+    pub(crate) fn turn_root(&mut self, input: &mut PlainQueue) -> Turned
+        requires { self.old.ended < self.old.inputs }
+        ensures row { (ins : List ℕ) (cap : ℕ) (out : List (Item Point)) → left (shown W.Work ins self.new) (bodies input.new.items) out result
+            ≡ net.turn true cap (choice W.Work self.old self.new) (shown W.Work ins self.old) (bodies input.old.items) out }
+        ensures above { (ns : List ℕ) (number : ℕ) → net.numbers_above true (turned result) ns number ≡ ns }
+        ensures left { numbers input.new.items ≡ net.numbers_left (turned result) (numbers input.old.items) }
+        ensures room { input.new.capacity ≡ input.old.capacity }
+        ensures obeys { Obeys W.Work self.old self.new }
+    {
+        match self.begin() {
+            Begun::Give(kind) => self.lay_down(kind),
+            Begun::Take => self.take_from(input),
+            Begun::Ended(turned) => turned,
+        }
+    }
+
+    /// A turn of a root with no input to read.
+    pub(crate) fn turn_alone(&mut self) -> Turned
+        ensures row { (ins : List ℕ) (cap : ℕ) (out : List (Item Point)) → left (shown W.Work ins self.new) [] out result
+            ≡ net.turn true cap (choice W.Work self.old self.new) (shown W.Work ins self.old) [] out }
+        ensures above { (ns : List ℕ) (number : ℕ) → net.numbers_above true (turned result) ns number ≡ ns }
+        ensures left { net.numbers_left (turned result) [] ≡ [] }
+        ensures obeys { Obeys W.Work self.old self.new }
+    {
+        match self.begin() {
+            Begun::Give(kind) => self.lay_down(kind),
+            Begun::Take => Turned::Idle(Why::Empty),
+            Begun::Ended(turned) => turned,
+        }
+    }
+
+    /// The root lays down what is in the hand.
+    fn lay_down(&mut self, kind: Kind) -> Turned
+        requires { self.old.hand ≡ Some kind }
+        ensures row { (ins : List ℕ) (cap : ℕ) (input out : List (Item Point)) (ch : net.Choice W.State Point StageFault) → left (shown W.Work ins self.new) input out result
+            ≡ net.with_hand true cap ch (shown W.Work ins self.old) input out (Some (kind_item kind self.old.spread.items)) }
+        ensures above { (ns : List ℕ) (number : ℕ) → net.numbers_above true (turned result) ns number ≡ ns }
+        ensures left { (ns : List ℕ) → net.numbers_left (turned result) ns ≡ ns }
+        ensures calm { Calm W.Work self.old self.new }
+        ensures told { Told W.Work self.old → Told W.Work self.new }
+    {
+        self.count_up(kind);
+        Turned::Gave
+    }
+
+    /// What is in the hand goes to the queue, where there is room.
+    fn give_to(&mut self, kind: Kind, out: &mut PlainQueue) -> Turned
+        requires { self.old.hand ≡ Some kind }
+        ensures row { (ins : List ℕ) (input : List (Item Point)) (ch : net.Choice W.State Point StageFault) → left (shown W.Work ins self.new) input (bodies out.new.items) result
+            ≡ net.with_hand false out.old.capacity ch (shown W.Work ins self.old) input (bodies out.old.items) (Some (kind_item kind self.old.spread.items)) }
+        ensures numbers { numbers out.new.items ≡ net.numbers_above false (turned result) (numbers out.old.items) self.old.given }
+        ensures calm { Calm W.Work self.old self.new }
+        ensures told { Told W.Work self.old → Told W.Work self.new }
+        ensures capacity { out.new.capacity ≡ out.old.capacity }
+        ensures left { (ns : List ℕ) → net.numbers_left (turned result) ns ≡ ns }
+    {
+        let tag = Tag {
+            no: self.given,
+            kind,
+        };
+        if !out.push_from(tag, self.spread.as_slice()) {
+            return Turned::Idle(Why::Full);
+        }
+        self.count_up(kind);
+        Turned::Gave
+    }
+
+    /// Counts what is given, which leaves the hand.
+    fn count_up(&mut self, kind: Kind)
+        requires { self.old.hand ≡ Some kind }
+        ensures given { (ins : List ℕ) → shown W.Work ins self.new ≡ net.given (shown W.Work ins self.old) (kind_item kind self.old.spread.items) }
+        ensures calm { Calm W.Work self.old self.new }
+        ensures told { Told W.Work self.old → Told W.Work self.new }
+    {
+        let (views, points, end) = match kind {
+            Kind::Points => (0, self.spread.len() as u64, false),
+            Kind::EndView => (1, 0, false),
+            Kind::End(_) => (0, 0, true),
+        };
+        self.hand = None;
+        self.given = self.given.saturating_add(1);
+        self.views = self.views.saturating_add(views);
+        self.points = self.points.saturating_add(points);
+        self.done = either(self.done, end);
+    }
+
+    /// Takes an item, where there is one.
+    fn take_from(&mut self, input: &mut PlainQueue) -> Turned
+        requires inner { W.leaf self.old.work ≡ false }
+        requires hand { self.old.hand ≡ None }
+        requires no_end { self.old.ending ≡ false }
+        requires more { self.old.ended < self.old.inputs }
+        ensures row { (ins : List ℕ) (out : List (Item Point)) → left (shown W.Work ins self.new) (bodies input.new.items) out result
+            ≡ net.takes (chosen W.Work self.old self.new) (shown W.Work ins self.old) (bodies input.old.items) out }
+        ensures numbers { numbers input.new.items ≡ net.numbers_left (turned result) (numbers input.old.items) }
+        ensures above { (root : Bool) (ns : List ℕ) (number : ℕ) → net.numbers_above root (turned result) ns number ≡ ns }
+        ensures capacity { input.new.capacity ≡ input.old.capacity }
+        ensures calm { Calm W.Work self.old self.new }
+    {
+        match input.pop_into(&mut self.spread) {
+            None => Turned::Idle(Why::Empty),
+            Some(tag) => {
+                self.take(tag.kind);
+                Turned::Took
+            }
+        }
+    }
+
+    /// Takes an item, whose points lie in the spread.
+    fn take(&mut self, kind: Kind)
+        requires inner { W.leaf self.old.work ≡ false }
+        requires hand { self.old.hand ≡ None }
+        requires no_end { self.old.ending ≡ false }
+        requires more { self.old.ended < self.old.inputs }
+        requires some { brings_points kind ≡ true → 0 < length self.old.spread.items }
+        ensures taken { (ins : List ℕ) → shown W.Work ins self.new ≡ net.taken (chosen W.Work self.old self.new) (shown W.Work ins self.old) (kind_item kind self.old.spread.items) }
+        ensures calm { Calm W.Work self.old self.new }
+    {
+        match kind {
+            Kind::Points => self.take_points(),
+            Kind::EndView => self.take_view(),
+            Kind::End(cut) => self.take_end(cut),
+        }
+    }
+
+    /// Points that were taken go through the work.
+    fn take_points(&mut self)
+        requires inner { W.leaf self.old.work ≡ false }
+        requires hand { self.old.hand ≡ None }
+        requires no_end { self.old.ending ≡ false }
+        requires some { 0 < length self.old.spread.items }
+        ensures taken { (ins : List ℕ) → shown W.Work ins self.new ≡ net.taken (chosen W.Work self.old self.new) (shown W.Work ins self.old) (marks.Points self.old.spread.items) }
+        ensures calm { Calm W.Work self.old self.new }
+    {
+        if self.fault.is_some() {
+            return;
+        }
+        self.fault = self.work.on_chunk(&mut self.spread);
+        self.hand = hand_of(&self.spread);
+    }
+
+    /// The end of a view that was taken goes on where the work says so.
+    fn take_view(&mut self)
+        requires inner { W.leaf self.old.work ≡ false }
+        requires hand { self.old.hand ≡ None }
+        requires no_end { self.old.ending ≡ false }
+        ensures taken { (ins : List ℕ) → shown W.Work ins self.new ≡ net.taken (chosen W.Work self.old self.new) (shown W.Work ins self.old) marks.End_view }
+        ensures calm { Calm W.Work self.old self.new }
+    {
+        if self.fault.is_some() {
+            return;
+        }
+        if self.work.on_end_view() {
+            self.hand = Some(Kind::EndView);
+        }
+    }
+
+    /// An end that was taken leads to the next input, or ends the node's.
+    fn take_end(&mut self, cut: bool)
+        requires inner { W.leaf self.old.work ≡ false }
+        requires hand { self.old.hand ≡ None }
+        requires no_end { self.old.ending ≡ false }
+        requires more { self.old.ended < self.old.inputs }
+        ensures taken { (ins : List ℕ) → shown W.Work ins self.new ≡ net.taken (chosen W.Work self.old self.new) (shown W.Work ins self.old) (marks.End_all cut) }
+        ensures calm { Calm W.Work self.old self.new }
+    {
+        self.cut = either(self.cut, cut);
+        self.ended += 1;
+        if self.ended == self.inputs {
+            let is_cut = either(self.cut, self.fault.is_some());
+            if self.work.on_end(is_cut) {
+                self.hand = Some(Kind::EndView);
+                self.ending = true;
+            } else {
+                self.hand = Some(Kind::End(is_cut));
+            }
+        }
+    }
+}

@@ -1,0 +1,13 @@
+pub mod Machine
+pub mod Net
+pub mod Shape
+pub mod Sound
+pub mod Forest
+pub mod Opening
+pub mod Schedule
+pub mod History
+pub mod Due
+pub mod Depth
+pub mod Flight
+pub mod Laws
+pub mod Carried
