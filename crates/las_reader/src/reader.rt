@@ -30,16 +30,6 @@ pub enum OpenErr {
     Memory,
 }
 
-impl From<AllocError> for OpenErr {
-    ghost use Rattle.las_reader.specs.declared.reader.OpenErr.TheVariants.{Memory};
-
-    ghost from_gives = { λ _ e. e ≡ Memory };
-
-    fn from(_: AllocError) -> Self {
-        OpenErr::Memory
-    }
-}
-
 /// How far a reader is in its file.
 #[derive(Clone, Copy, Debug, PartialEq, Eq)]
 pub enum Progress {
@@ -101,10 +91,7 @@ fn read_count<S: Source>(source: &mut S) -> Result<u64, OpenErr>
     let Ok(held) = fill(source, 0, &mut header) else {
         return Err(OpenErr::ReadFailed);
     };
-    match read_header(&header[..held]) {
-        Ok(count) => Ok(count),
-        Err(e) => Err(e),
-    }
+    read_header(&header[..held])
 }
 
 /// Room for the records of the largest chunk.

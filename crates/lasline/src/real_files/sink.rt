@@ -1,5 +1,5 @@
 //! A file that is written through a buffer.
-ghost use Rattle.std.specs.Prelude.{◌≡◌, ◌+◌, ◌-◌, ◌^◌, ◌<◌, ◌≤◌, ◌++◌, [], List, ℕ, length, min, None, true, false, OnOk, OnErr, vec_len, vec_capacity};
+ghost use Rattle.std.specs.Prelude.{◌≡◌, ◌+◌, ◌-◌, ◌^◌, ◌<◌, ◌≤◌, ◌++◌, [], List, ℕ, length, min, None, true, false, OnOk, OnErr, string_bytes, vec_len, vec_capacity};
 ghost use Rattle.std.specs.Option.{option_map_or};
 ghost use Rattle.std.proofs.Common.{ap};
 ghost use Rattle.file_devices.specs.Counts.{HasCause, Rose, saturating};
@@ -57,7 +57,9 @@ impl RealOut {
     }
 
     // The name that it is written under.
-    pub(crate) fn part(&self) -> &str {
+    pub(crate) fn part(&self) -> &str
+        ensures { result.now ≡ string_bytes self.now.part }
+    {
         self.part.as_str()
     }
 

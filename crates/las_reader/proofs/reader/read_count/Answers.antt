@@ -1,12 +1,15 @@
 use Rattle.std.proofs.Common.{refl, Ok}
+use Rattle.std.proofs.lemmas.Result.{IfOk-weaker, IfErr-weaker}
 use Rattle.file_devices.proofs.Filling.{front_is}
 use Rattle.las_reader.proofs.Openings.{opened, refused}
 use Rattle.las_reader.proofs.reader.read_count.Goals as goal
 
-pub returns-in-Ok-read_header-clause-ok : goal.returns-in-Ok-read_header-clause-ok
-returns-in-Ok-read_header-clause-ok g c = λ file e.
-    opened file _ (Ok c.in-Ok-read_header.count) (front_is _ file _ c.fill.new.into 0 c.in-Ok.held 375 refl c.in-Ok.ensures.filled e) c.in-Ok-read_header.ensures.ok
+pub returns-clause-ok : goal.returns-clause-ok
+returns-clause-ok g c = IfOk-weaker c.read_header.result _ _
+    (λ count is file e. opened file _ (Ok count) (front_is _ file _ c.fill.new.into 0 c.in-Ok.held 375 refl c.in-Ok.ensures.filled e) is)
+    c.read_header.ensures.ok
 
-pub returns-in-Err-clause-err : goal.returns-in-Err-clause-err
-returns-in-Err-clause-err g c = λ file e.
-    refused file _ c.in-Err.e (front_is _ file _ c.fill.new.into 0 c.in-Ok.held 375 refl c.in-Ok.ensures.filled e) c.in-Err.ensures.err
+pub returns-clause-err : goal.returns-clause-err
+returns-clause-err g c = IfErr-weaker c.read_header.result _ _
+    (λ fault is file e. refused file _ fault (front_is _ file _ c.fill.new.into 0 c.in-Ok.held 375 refl c.in-Ok.ensures.filled e) is)
+    c.read_header.ensures.err
