@@ -10,11 +10,12 @@ SOURCES = crates.txt HANDLES $(shell find crates -name out -prune -o -type f -pr
 
 all: target/lasline
 
-# The program's own run at the end of the build is the stored example's; its output is shown by `make run`.
+# The build ends with a run without words, whose answer doesn't count.
 target/lasline: $(SOURCES)
 	mkdir -p target
+	rm -f $(CRATE)/out/lasline
 	cd $(CRATE) && { rt run > ../../target/build.log 2>&1 || true; }
-	@test $(CRATE)/out/lasline -nt $@ || { tail -n 20 target/build.log; exit 1; }
+	@test -x $(CRATE)/out/lasline || { tail -n 20 target/build.log; exit 1; }
 	cp $(CRATE)/out/lasline $@
 
 run: target/lasline
