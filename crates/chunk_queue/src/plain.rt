@@ -1,8 +1,9 @@
 //! A queue on one thread.
 
-ghost use Rattle.std.specs.Prelude.{◌≡◌, ◌<◌, ◌≤◌, ◌+◌, [], ◌∷◌, ◌++◌, ◌↔◌, length, drop, slice_get, true, false, IfOk, IfErr, OnOk, OnErr, IsOk, IsTrue, nat_lt, ◌==◌, ◌^◌};
+ghost use Rattle.std.specs.Prelude.{◌≡◌, ◌<◌, ◌≤◌, ◌+◌, [], ◌∷◌, ◌++◌, ◌↔◌, length, drop, slice_get, true, false, IfOk, IfErr, IfSome, OnOk, OnErr, IsOk, IsTrue, nat_lt, ◌==◌, ◌^◌};
 ghost use Rattle.std.specs.Bool.{OnTrue, OnFalse};
 ghost use Rattle.circular_buffer.specs.Buffer.{buffer};
+ghost use Rattle.chunk_queue.specs.Rule.{StandsBetween, KeepsRuleOnPush, KeepsRuleOnPop};
 ghost use Rattle.chunk_queue.specs.Slots.{next_slot, slot_after, filled, tag_item, kind_body, brings_points, IsPopped};
 
 use crate::tag::{Kind, Tag};
@@ -13,6 +14,10 @@ use std::marker::Model;
 
 /// A queue with room for a stated number of items, from 1 to 64. A clause sees the list of the items that it holds,
 /// and its capacity.
+///
+/// Each call keeps the rule of a queue, whatever was sent and got before it: what was got and what is held are what was
+/// sent, in its order, with the numbers 0, 1, .. and an End only last. A clause `rule` says so of an item that goes in
+/// with the next number and before any End, and of each item that comes out.
 ///
 /// The points of an item lie in a slot of their own, so that they are copied once into the queue and once out of it,
 /// and no call but `new` takes memory.
@@ -41,7 +46,8 @@ impl PlainQueue {
     pub fn new(alloc: Global, capacity: usize) -> Result<PlainQueue, AllocError>
         requires some { 0 < capacity }
         requires most { capacity ≤ 64 }
-        ensures { IfOk result (λ q. q ≡ buffer [] capacity) }
+        ensures empty { IfOk result (λ q. q ≡ buffer [] capacity) }
+        ensures rule { IfOk result (λ q. StandsBetween [] [] q) }
     {
         let tags = HeapCircularBuffer::with_capacity(alloc, capacity)?;
         let mut slots = Vec::with_capacity(alloc, capacity)?;
@@ -59,6 +65,7 @@ impl PlainQueue {
     pub fn pop(&mut self) -> Option<Item>
         ensures value { result ≡ slice_get self.old.items 0 }
         ensures items { self.new ≡ buffer (drop 1 self.old.items) self.old.capacity }
+        ensures rule { IfSome result (λ item. KeepsRuleOnPop self.old item self.new) }
     {
         let mut points = Spread::new();
         let tag = self.pop_into(&mut points)?;
@@ -74,6 +81,7 @@ impl PlainQueue {
         ensures ok { OnOk result (self.new ≡ buffer (self.old.items ++ item ∷ []) self.old.capacity) }
         ensures err { OnErr result (self.new ≡ self.old) }
         ensures back { IfErr result (λ i. i ≡ item) }
+        ensures rule { OnOk result (KeepsRuleOnPush self.old item self.new) }
     {
         if !self.has_room() {
             return Err(item);
@@ -104,6 +112,7 @@ impl PlainQueue {
         ensures room { IsTrue result ↔ (length self.old.items < self.old.capacity) }
         ensures pushed { OnTrue result (self.new ≡ buffer (self.old.items ++ tag_item tag points.now ∷ []) self.old.capacity) }
         ensures full { OnFalse result (self.new ≡ self.old) }
+        ensures rule { OnTrue result (KeepsRuleOnPush self.old (tag_item tag points.now) self.new) }
     {
         if !self.has_room() {
             return false;
@@ -117,6 +126,7 @@ impl PlainQueue {
     pub fn pop_into(&mut self, points: &mut Spread) -> Option<Tag>
         ensures popped { IsPopped self.old.items result points.old.items points.new.items }
         ensures items { self.new ≡ buffer (drop 1 self.old.items) self.old.capacity }
+        ensures rule { IfSome result (λ tag. KeepsRuleOnPop self.old (tag_item tag points.new.items) self.new) }
     {
         let tag = self.tags.pop_front()?;
         let slot = &self.slots[self.first];

@@ -48,6 +48,10 @@ pub trait Work {
 
     ghost views_left: { Self → ℕ };
 
+    /// Whether its sink holds what these points come to, where it has one that tells its bytes; true of any other work.
+    /// It stands beside the state, because a sink may stop telling.
+    ghost holds: { Self → List Point → Bool };
+
     /// Whether it makes points, and has no inputs.
     fn is_leaf(&self) -> bool
         ensures { result ≡ leaf self.now };
@@ -77,6 +81,7 @@ pub trait Work {
         ensures fewer_views { views_left self.new + views_in (made result into.new.items) ≤ views_left self.old }
         ensures cause { is_device (made_fault result) ≡ true → Rose (faults self.old) (faults self.new) }
         ensures count { faults self.old ≤ faults self.new }
+        ensures holds { (before : List Point) → holds self.old before ≡ true → holds self.new before ≡ true }
         ensures stays_short { short self.new ≡ short self.old };
 
     /// Turns the points into those that go on. After a fault at a point these are what the points before it gave,
@@ -92,6 +97,7 @@ pub trait Work {
         ensures fault { happened result (short self.old) (short self.new) ≡ false → result ≡ (meaning self.old).fault (state self.old) points.old.items }
         ensures event { happened result (short self.old) (short self.new) ≡ true → points.new.items ≡ [] }
         ensures alone { ran_short (short self.old) (short self.new) ≡ true → result ≡ None }
+        ensures holds { happened result (short self.old) (short self.new) ≡ false → (before : List Point) → holds self.old before ≡ true → holds self.new (before ++ points.old.items) ≡ true }
 
         ensures cause { is_device result ≡ true → Rose (faults self.old) (faults self.new) }
         ensures count { faults self.old ≤ faults self.new }
@@ -105,6 +111,7 @@ pub trait Work {
         ensures leaf { leaf self.new ≡ leaf self.old }
         ensures state { ran_short (short self.old) (short self.new) ≡ false → state self.new ≡ ((meaning self.old).at_view (state self.old)).0 }
         ensures goes_on { result ≡ ((meaning self.old).at_view (state self.old)).1 }
+        ensures holds { (before : List Point) → holds self.old before ≡ true → holds self.new before ≡ true }
         ensures count { faults self.old ≤ faults self.new }
         ensures stays_short { short self.old ≡ true → short self.new ≡ true };
 
@@ -115,6 +122,7 @@ pub trait Work {
         ensures meaning { meaning self.new ≡ meaning self.old }
         ensures leaf { leaf self.new ≡ leaf self.old }
         ensures gives { (meaning self.old).at_end (state self.old) cut ≡ (state self.new, result) }
+        ensures holds { (before : List Point) → holds self.old before ≡ true → holds self.new before ≡ true }
         ensures count { faults self.old ≤ faults self.new }
         ensures stays_short { short self.new ≡ short self.old };
 

@@ -1,6 +1,3 @@
-pub mod Pairs
-pub mod Appended
-pub mod LineLemmas
-pub mod Copying
-pub mod Keeping
 pub mod Running
+pub mod Failing
+pub mod WordLemmas

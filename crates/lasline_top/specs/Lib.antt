@@ -1,11 +1,5 @@
 pub mod Refusals
 pub mod Words
-pub mod Pipelines
-pub mod TextOutput
-pub mod Reports
 pub mod Answer
 pub mod Cause
 pub mod Codes
-pub mod Shown
-pub mod Copied
-pub mod Opened

@@ -4,11 +4,10 @@ ghost use Rattle.std.specs.Prelude.{◌≡◌, ◌≤◌, List, ℕ, Some, None,
 ghost use Rattle.file_devices.specs.Counts.{Rose};
 ghost use Rattle.file_devices.specs.Named.{Names};
 ghost use Rattle.lasline_top.specs.Answer.{text_of};
-ghost use Rattle.lasline_top.specs.Cause.{Because, AtText, Risen, IsNotOut, IsSettled};
+ghost use Rattle.run_engine.specs.Cause.{Because, AtText, Risen, IsNotOut, IsSettled};
 
-use crate::refusal::Refusal;
-use crate::run_report::Place;
 use file_devices::{DeviceErr, Files, Op, WholeErr, read_whole};
+use run_report::{Place, Refusal};
 use std::alloc::Global;
 
 /// The most bytes of a pipeline's text.

@@ -1,33 +1,44 @@
 //! The top call.
 
-ghost use Rattle.std.specs.Prelude.{◌≡◌, ◌≤◌, ◌⊎◌, ◌↔◌, List, ℕ, map, Some, None, Ok, Err, IsOk, IsOkAnd, IfOk, IfErr, OnOk, string_bytes, true};
+ghost use Rattle.std.specs.Prelude.{◌≡◌, ◌≤◌, ◌⊎◌, ℕ, length, map, Some, None, Ok, Err, IsOk, IsOkAnd, IfOk, IfErr, OnOk, string_bytes, true};
 ghost use Rattle.file_devices.specs.Counts.{Rose};
 ghost use Rattle.file_devices.specs.Content.{Appends, AppendsPart};
 ghost use Rattle.file_devices.specs.Named.{Names};
 ghost use Rattle.file_devices.specs.declared.devices.Op.{Op};
-ghost use Rattle.lasline_top.specs.declared.run_report.Fault.{Fault};
-ghost use Rattle.lasline_top.specs.declared.run_report.Place.{Place};
+ghost use Rattle.pipeline_json.specs.Shown.{chain_of};
+ghost use Rattle.run_report.specs.declared.refusal.Fault.{Fault};
+ghost use Rattle.run_report.specs.declared.refusal.Place.{Place};
+ghost use Rattle.run_report.specs.declared.refusal.Refusal.{Refusal};
+ghost use Rattle.run_report.specs.Reports.{report_of};
+ghost use Rattle.run_report.specs.Faults.{fault_line};
+ghost use Rattle.run_engine.specs.Runs.{las_at};
+ghost use Rattle.run_engine.specs.Cause.{Because, Risen, RisenAt, IsNotOut, IsDone, IsPartDone, AtText, WerePut, IsRun, IsSettled, may_be_kept};
 ghost use Rattle.lasline_top.specs.Words.{command_of};
-ghost use Rattle.lasline_top.specs.Answer.{plan_of, las_at, answer, las_planned, status_of};
-ghost use Rattle.lasline_top.specs.Reports.{report_of, fault_line};
+ghost use Rattle.lasline_top.specs.Answer.{plan_of, answer, las_planned, status_of};
 ghost use Rattle.lasline_top.specs.Refusals.{status_for};
-ghost use Rattle.lasline_top.specs.declared.refusal.Refusal.{Refusal};
-ghost use Rattle.lasline_top.specs.Shown.{chain_of};
-ghost use Rattle.lasline_top.specs.Cause.{Because, Risen, RisenAt, IsNotOut, ToldWhy, IsDone, IsPartDone, AtText, AtRun, WerePut, IsRun, IsSettled, may_be_kept, may_be_kept_at};
+ghost use Rattle.lasline_top.specs.Cause.{ToldWhy, AtRun, may_be_kept_at};
 
 use crate::pipeline_file::read_text;
-use crate::pipeline_json::{PipeErr, Pipeline, read_pipeline};
-use crate::refusal::Refusal;
-use crate::run_engine::run_pipeline;
-use crate::run_report::{Place, fault_text, report_text};
 use crate::status::Status;
-use crate::words::command;
+use crate::words::read_command;
 use file_devices::{Files, Op, Sink};
+use pipeline_json::{PipeErr, Pipeline, read_pipeline};
+use run_engine::{Shape, run_pipeline};
+use run_report::{Place, Refusal, fault_text, report_text};
 use std::alloc::Global;
 
-/// The pipeline that the words name.
-fn read_plan<F: Files>(alloc: Global, words: &[String], files: &mut F) -> Result<Pipeline, Refusal>
-    ensures ok { IfOk result (λ p. (m : Names) → F.map files.old ≡ Some m → plan_of (map string_bytes words.now) m ≡ Ok (chain_of p)) }
+/// What is to be run, and how.
+#[derive(Drop)]
+struct Plan {
+    pipeline: Pipeline,
+    shape: Shape,
+}
+
+/// The pipeline in the file that the words name, and how they ask it to be run.
+fn read_plan<F: Files>(alloc: Global, words: &[String], files: &mut F) -> Result<Plan, Refusal>
+    ensures ok { IfOk result (λ plan. (m : Names) → F.map files.old ≡ Some m → plan_of (map string_bytes words.now) m ≡ Ok (chain_of plan.pipeline)) }
+    ensures few { IfOk result (λ plan. length plan.pipeline.heads.items ≤ 62) }
+    ensures shape { IfOk result (λ plan. IsOkAnd (command_of (map string_bytes words.now)) (λ command. (plan.shape.chunk ≡ command.chunk) × (plan.shape.queue ≡ command.queue))) }
     ensures err { IfErr result (λ refusal. (m : Names) → F.map files.old ≡ Some m
         → Because (plan_of (map string_bytes words.now) m) (AtText (Rose (F.faults files.old) (F.faults files.new))) refusal) }
     ensures inside { IfErr result IsNotOut }
@@ -36,10 +47,13 @@ fn read_plan<F: Files>(alloc: Global, words: &[String], files: &mut F) -> Result
     ensures settled { IsSettled (F.map files.old) (F.map files.new) (F.lent files.old) (F.lent files.new)
         (F.faults files.old) (F.faults files.new) }
 {
-    let file = command(words)?;
-    let text = read_text(alloc, files, file)?;
+    let asked = read_command(words)?;
+    let text = read_text(alloc, files, asked.file)?;
     match read_pipeline(alloc, &text) {
-        Ok(pipeline) => Ok(pipeline),
+        Ok(pipeline) => Ok(Plan {
+            pipeline,
+            shape: asked.shape,
+        }),
         Err(PipeErr::Memory) => Err(Refusal::Memory),
         Err(PipeErr::NotBuilt) => Err(Refusal::NotBuilt(2)),
     }
@@ -55,7 +69,7 @@ fn run_command<F: Files, K: Sink>(
     ensures ok { OnOk result ((m : Names) → F.map files.old ≡ Some m
         → IsOkAnd (answer (map string_bytes words.now) m) (IsDone (F.map files.old) (F.map files.new) (K.bytes out.old) (K.bytes out.new))) }
     ensures err { IfErr result (λ refusal. (m : Names) → F.map files.old ≡ Some m → Because (answer (map string_bytes words.now) m)
-        (AtRun (Rose (F.faults files.old) (F.faults files.new)) (Rose (K.faults out.old) (K.faults out.new)) (IsOk (plan_of (map string_bytes words.now) m))
+        (AtRun (Rose (F.faults files.old) (F.faults files.new)) (Rose (K.faults out.old) (K.faults out.new)) (plan_of (map string_bytes words.now) m)
         (IsOk (las_planned (map string_bytes words.now) m)) (IsOk (answer (map string_bytes words.now) m))) refusal) }
     ensures words_first { (r : ℕ) → command_of (map string_bytes words.now) ≡ Err (Refusal.NotBuilt r) → result ≡ Err (Refusal.NotBuilt r) }
     ensures risen { IfErr result (λ refusal. F.map files.old ≡ None → Risen (Rose (F.faults files.old) (F.faults files.new)) (Rose (K.faults out.old) (K.faults out.new)) refusal) }
@@ -67,9 +81,9 @@ fn run_command<F: Files, K: Sink>(
     ensures lent { F.lent files.new ≡ F.lent files.old }
     ensures later { F.faults files.old ≤ F.faults files.new }
 {
-    let pipeline = read_plan(alloc, words, files)?;
-    let points = run_pipeline(alloc, files, &pipeline)?;
-    match report_text(points, out) {
+    let plan = read_plan(alloc, words, files)?;
+    let counts = run_pipeline(alloc, files, &plan.pipeline, plan.shape)?;
+    match report_text(counts.as_slice(), out) {
         Ok(()) => Ok(()),
         Err(_) => Err(Refusal::Device(Place::Out, Op::Write)),
     }
@@ -81,12 +95,16 @@ fn refused<E: Sink>(refusal: Refusal, err: &mut E) -> Status
     ensures line { ToldWhy (E.bytes err.old) (E.bytes err.new) (E.faults err.old) (E.faults err.new) (fault_line refusal) }
 {
     match fault_text(refusal, err) {
-        Ok(()) => refusal.status(),
-        Err(_) => refusal.status(),
+        Ok(()) => Status::of(refusal),
+        Err(_) => Status::of(refusal),
     }
 }
 
 /// Does a command on one thread: `run FILE` runs the pipeline in FILE. It always returns, and waits for nobody.
+///
+/// Behind FILE may stand `--chunk N`, the points that a stage hands on at once, and `--queue N`, the items that a queue
+/// between two stages holds: each at most once, in any order, with N from 1 to 64. Without them N is 64 and 8. They change
+/// nothing of what is kept or reported.
 ///
 /// `words` are the command line without the program's name. On `Ok` the outputs of the pipeline are kept in `files` and
 /// the report is appended to `out`; on any other status a line that says why is appended to `err`. Every object that
@@ -116,7 +134,7 @@ pub fn lasline_solo<F: Files, K: Sink, E: Sink>(
     ensures words_first { (r : ℕ) → command_of (map string_bytes words.now) ≡ Err (Refusal.NotBuilt r) → result ≡ Status.NotBuilt r }
     ensures device { (p : Place) (o : Op) → result ≡ Status.Device p o → (m : Names) → F.map files.old ≡ Some m
         → (answer (map string_bytes words.now) m ≡ Err (Refusal.Device p o))
-        ⊎ AtRun (Rose (F.faults files.old) (F.faults files.new)) (Rose (K.faults out.old) (K.faults out.new)) (IsOk (plan_of (map string_bytes words.now) m))
+        ⊎ AtRun (Rose (F.faults files.old) (F.faults files.new)) (Rose (K.faults out.old) (K.faults out.new)) (plan_of (map string_bytes words.now) m)
         (IsOk (las_planned (map string_bytes words.now) m)) (IsOk (answer (map string_bytes words.now) m)) p o }
     ensures risen { (p : Place) (o : Op) → result ≡ Status.Device p o → F.map files.old ≡ None
         → RisenAt (Rose (F.faults files.old) (F.faults files.new)) (Rose (K.faults out.old) (K.faults out.new)) p }

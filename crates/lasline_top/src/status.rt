@@ -2,8 +2,8 @@
 
 ghost use Rattle.std.specs.Prelude.{◌≡◌};
 
-use crate::run_report::{Fault, Place};
 use file_devices::Op;
+use run_report::{Fault, Place, Refusal};
 
 /// How a command ends.
 #[derive(Clone, Copy, Debug, PartialEq, Eq)]
@@ -26,6 +26,19 @@ pub enum Status {
 
 impl Status {
     ghost use Rattle.lasline_top.specs.Codes.{code_of};
+    ghost use Rattle.lasline_top.specs.Refusals.{status_for};
+
+    /// The status of a command that was refused.
+    pub fn of(refusal: Refusal) -> Status
+        ensures { result ≡ status_for refusal }
+    {
+        match refusal {
+            Refusal::Data(stage, fault) => Status::Data(stage, fault),
+            Refusal::Device(place, op) => Status::Device(place, op),
+            Refusal::Memory => Status::Memory,
+            Refusal::NotBuilt(part) => Status::NotBuilt(part),
+        }
+    }
 
     /// The exit code of the program.
     pub fn code(&self) -> u8

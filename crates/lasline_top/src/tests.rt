@@ -1,3 +1,4 @@
+use crate::words::read_command;
 use crate::{Fault, Place, Refusal, Status, lasline_solo};
 use cloud_points::PointFault;
 use file_devices::{MemFiles, MemOut, Op, SureFiles, SureOut};
@@ -7,10 +8,15 @@ use std::test::Fail;
 
 const PIPELINE: &[u8] = b"[\"in.las\",\"o.txt\"]";
 
+const HEADED: &[u8] = b"[\"in.las\",{\"type\":\"filters.head\",\"count\":3},\"o.txt\"]";
+
 const TEXT: &[u8] = b"\"X\",\"Y\",\"Z\"\n1.000,2.000,3.000\n-0.010,0.000,0.050\n";
 
 const REPORT: &[u8] =
     b"stage 0 readers.las views 1 points 2\nstage 1 writers.text views 1 points 2 wrote 2\noutputs 1\n";
+
+const HEADED_REPORT: &[u8] =
+    b"stage 0 readers.las views 1 points 2\nstage 1 filters.head views 1 points 2\nstage 2 writers.text views 1 points 2 wrote 2\noutputs 1\n";
 
 /// A LAS 1.4 file of two points in format 0.
 fn two_points() -> [u8; 415] {
@@ -31,6 +37,46 @@ fn two_points() -> [u8; 415] {
     bytes[395..403].copy_from_slice(&[0xff, 0xff, 0xff, 0xff, 0, 0, 0, 0]);
     bytes[403..411].copy_from_slice(&[5, 0, 0, 0, 0, 0, 9, 2]);
     bytes
+}
+
+/// The same with another number of points in its header.
+fn counting(count: u16) -> [u8; 415] {
+    let mut header = two_points();
+    let [low, high] = count.to_le_bytes();
+    header[107] = low;
+    header[108] = high;
+    header[111] = low;
+    header[112] = high;
+    header[247] = low;
+    header[248] = high;
+    header[255] = low;
+    header[256] = high;
+    header
+}
+
+/// A LAS 1.4 file of so many points in format 0, of which the point with number k has X = k / 100, and 0 elsewhere.
+fn numbered(alloc: Global, count: u16) -> Result<Vec<u8>, AllocError> {
+    let header = counting(count);
+    let mut file = Vec::new(alloc);
+    for byte in header.iter().take(375) {
+        file.push(*byte)?;
+    }
+    for number in 0..count {
+        let [low, high] = number.to_le_bytes();
+        file.extend_from_slice(&[low, high, 0, 0, 0, 0, 0, 0, 0, 0])?;
+        file.extend_from_slice(&[0, 0, 0, 0, 9, 2, 0, 0, 0, 0])?;
+    }
+    Ok(file)
+}
+
+/// The text of the points of such a file.
+fn numbered_text(alloc: Global, count: u16) -> Result<String, AllocError> {
+    let mut text = String::from_str(alloc, "\"X\",\"Y\",\"Z\"\n")?;
+    for number in 0..count {
+        let line = format!(in alloc; "{}.{:02}0,0.000,0.000\n", number / 100, number % 100)?;
+        text.push_str(line.as_str())?;
+    }
+    Ok(text)
 }
 
 fn words(alloc: Global, words: &[&str]) -> Result<Vec<String>, AllocError> {
@@ -213,20 +259,26 @@ fn each_failing_call_is_answered(rt: HostRuntime) -> Result<(), Fail> {
     let las = two_points();
     let words = words(alloc, &["run", "p.json"])?;
     let rows = [
-        (0u64, 1u64, Place::PipelineFile, Op::Open),
-        (0, 2, Place::Stage(0), Op::Open),
-        (0, 3, Place::Stage(1), Op::Create),
-        (0, 4, Place::Stage(1), Op::Keep),
-        (1, 1, Place::PipelineFile, Op::Read),
-        (1, 2, Place::PipelineFile, Op::Read),
-        (2, 1, Place::Stage(0), Op::Read),
-        (2, 2, Place::Stage(0), Op::Read),
-        (3, 1, Place::Stage(1), Op::Write),
-        (3, 2, Place::Stage(1), Op::Write),
-        (3, 3, Place::Stage(1), Op::Write),
+        (PIPELINE, 0u64, 1u64, Place::PipelineFile, Op::Open),
+        (PIPELINE, 0, 2, Place::Stage(0), Op::Open),
+        (PIPELINE, 0, 3, Place::Stage(1), Op::Create),
+        (PIPELINE, 0, 4, Place::Stage(1), Op::Keep),
+        (PIPELINE, 1, 1, Place::PipelineFile, Op::Read),
+        (PIPELINE, 1, 2, Place::PipelineFile, Op::Read),
+        (PIPELINE, 2, 1, Place::Stage(0), Op::Read),
+        (PIPELINE, 2, 2, Place::Stage(0), Op::Read),
+        (PIPELINE, 3, 1, Place::Stage(1), Op::Write),
+        (PIPELINE, 3, 2, Place::Stage(1), Op::Write),
+        (PIPELINE, 3, 3, Place::Stage(1), Op::Write),
+        (HEADED, 0, 2, Place::Stage(0), Op::Open),
+        (HEADED, 0, 3, Place::Stage(2), Op::Create),
+        (HEADED, 0, 4, Place::Stage(2), Op::Keep),
+        (HEADED, 2, 2, Place::Stage(0), Op::Read),
+        (HEADED, 3, 1, Place::Stage(2), Op::Write),
+        (HEADED, 3, 3, Place::Stage(2), Op::Write),
     ];
-    for (object, call, place, op) in rows {
-        let stored = named(alloc, &[("p.json", PIPELINE), ("in.las", &las)])?;
+    for (pipeline, object, call, place, op) in rows {
+        let stored = named(alloc, &[("p.json", pipeline), ("in.las", &las)])?;
         let fails = vec![in alloc; (object, call)]?;
         let mut files = MemFiles::new(alloc, stored, 100, 1_000, fails);
         let mut out = MemOut::new(alloc, 200, Vec::new(alloc))?;
@@ -264,6 +316,120 @@ fn the_least_stage_whose_device_failed_is_named(rt: HostRuntime) -> Result<(), F
     let mut files = MemFiles::new(alloc, stored, 100, 395, fails);
     let status = lasline_solo(alloc, &words, &mut files, &mut out, &mut err);
     assert_eq!(rt; status, Status::Device(Place::Stage(0), Op::Read));
+
+    let las = numbered(alloc, 1_000)?;
+    let stored = named(alloc, &[("p.json", PIPELINE), ("in.las", &las)])?;
+    let fails = vec![in alloc; (2u64, 3u64), (3, 2)]?;
+    let mut files = MemFiles::new(alloc, stored, 100, 1_000, fails);
+    let status = lasline_solo(alloc, &words, &mut files, &mut out, &mut err);
+    assert_eq!(rt; status, Status::Device(Place::Stage(0), Op::Read));
+    Ok(())
+}
+
+#[test]
+fn a_head_in_the_least_pieces_gives_the_same(rt: HostRuntime) -> Result<(), Fail> {
+    let alloc = rt.alloc();
+    let las = two_points();
+    let given = named(alloc, &[("p.json", HEADED), ("in.las", &las)])?;
+    let mut files = SureFiles::new(alloc, given, 100);
+    let mut out = SureOut::new(alloc, 200)?;
+    let mut err = SureOut::new(alloc, 200)?;
+    let words = words(alloc, &["run", "p.json", "--chunk", "1", "--queue", "1"])?;
+    let status = lasline_solo(alloc, &words, &mut files, &mut out, &mut err);
+    assert_eq!(rt; status, Status::Ok);
+    assert_eq!(rt; files.contents("o.txt").ok_or("not kept")?, TEXT);
+    assert_eq!(rt; out.bytes().ok_or("no report")?, HEADED_REPORT);
+    assert_eq!(rt; files.lent(), 0);
+    Ok(())
+}
+
+#[test]
+fn heads_let_the_first_points_pass(rt: HostRuntime) -> Result<(), Fail> {
+    let alloc = rt.alloc();
+    let las = two_points();
+    let words = words(alloc, &["run", "p.json"])?;
+    let rows: [(u32, &[u8]); 3] = [
+        (0, b"\"X\",\"Y\",\"Z\"\n"),
+        (1, b"\"X\",\"Y\",\"Z\"\n1.000,2.000,3.000\n"),
+        (4_294_967_295, TEXT),
+    ];
+    for (count, text) in rows {
+        let pipeline = format!(in alloc;
+            "[\"in.las\",{{\"type\":\"filters.head\",\"count\":{count}}},\"o.txt\"]"
+        )?;
+        let given = named(alloc, &[("p.json", pipeline.as_bytes()), ("in.las", &las)])?;
+        let mut files = SureFiles::new(alloc, given, 100);
+        let mut out = SureOut::new(alloc, 200)?;
+        let mut err = SureOut::new(alloc, 200)?;
+        assert_eq!(rt;
+            lasline_solo(alloc, &words, &mut files, &mut out, &mut err),
+            Status::Ok
+        );
+        assert_eq!(rt; files.contents("o.txt").ok_or("not kept")?, text);
+    }
+    Ok(())
+}
+
+/// The words of a run in pieces.
+fn words_in_pieces(alloc: Global, chunk: u64, queue: u64) -> Result<Vec<String>, AllocError> {
+    let mut all = words(alloc, &["run", "p.json", "--chunk"])?;
+    all.push(format!(in alloc; "{chunk}")?)?;
+    all.push(String::from_str(alloc, "--queue")?)?;
+    all.push(format!(in alloc; "{queue}")?)?;
+    Ok(all)
+}
+
+#[test]
+fn pieces_change_nothing(rt: HostRuntime) -> Result<(), Fail> {
+    let alloc = rt.alloc();
+    for count in [0u16, 1, 63, 64, 65, 1_000] {
+        let las = numbered(alloc, count)?;
+        let text = numbered_text(alloc, count)?;
+        let report = format!(in alloc;
+            "stage 0 readers.las views 1 points {count}\nstage 1 writers.text views 1 points {count} wrote {count}\noutputs 1\n"
+        )?;
+        for (chunk, queue) in [(1u64, 1u64), (1, 64), (7, 1), (7, 64), (64, 1), (64, 64)] {
+            let words = words_in_pieces(alloc, chunk, queue)?;
+            let given = named(alloc, &[("p.json", PIPELINE), ("in.las", &las)])?;
+            let mut files = SureFiles::new(alloc, given, 20_000);
+            let mut out = SureOut::new(alloc, 200)?;
+            let mut err = SureOut::new(alloc, 200)?;
+            assert_eq!(rt;
+                lasline_solo(alloc, &words, &mut files, &mut out, &mut err),
+                Status::Ok
+            );
+            assert_eq!(rt; files.contents("o.txt").ok_or("not kept")?, text.as_bytes());
+            assert_eq!(rt; out.bytes().ok_or("no report")?, report.as_bytes());
+        }
+    }
+    Ok(())
+}
+
+#[test]
+fn a_pipeline_of_64_elements_runs(rt: HostRuntime) -> Result<(), Fail> {
+    let alloc = rt.alloc();
+    let las = numbered(alloc, 100)?;
+    let mut pipeline = String::from_str(alloc, "[\"in.las\",")?;
+    let mut report = String::from_str(alloc, "stage 0 readers.las views 1 points 100\n")?;
+    for stage in 1u32..=62 {
+        let count = 80 - stage;
+        let head = format!(in alloc; "{{\"type\":\"filters.head\",\"count\":{count}}},")?;
+        pipeline.push_str(head.as_str())?;
+        let line = format!(in alloc; "stage {stage} filters.head views 1 points {count}\n")?;
+        report.push_str(line.as_str())?;
+    }
+    pipeline.push_str("\"o.txt\"]")?;
+    report.push_str("stage 63 writers.text views 1 points 18 wrote 18\noutputs 1\n")?;
+    let text = numbered_text(alloc, 18)?;
+    let words = words(alloc, &["run", "p.json"])?;
+    let given = named(alloc, &[("p.json", pipeline.as_bytes()), ("in.las", &las)])?;
+    let mut files = SureFiles::new(alloc, given, 1_000);
+    let mut out = SureOut::new(alloc, 4_000)?;
+    let mut err = SureOut::new(alloc, 200)?;
+    let status = lasline_solo(alloc, &words, &mut files, &mut out, &mut err);
+    assert_eq!(rt; status, Status::Ok);
+    assert_eq!(rt; files.contents("o.txt").ok_or("not kept")?, text.as_bytes());
+    assert_eq!(rt; out.bytes().ok_or("no report")?, report.as_bytes());
     Ok(())
 }
 
@@ -279,8 +445,69 @@ fn a_failing_output_leaves_the_kept_file(rt: HostRuntime) -> Result<(), Fail> {
     let status = lasline_solo(alloc, &words, &mut files, &mut out, &mut err);
     assert_eq!(rt; status, Status::Device(Place::Out, Op::Write));
     assert_eq!(rt; files.contents("o.txt").ok_or("not kept")?, TEXT);
-    assert_eq!(rt; Refusal::Device(Place::Out, Op::Write).status(), status);
+    assert_eq!(rt; Status::of(Refusal::Device(Place::Out, Op::Write)), status);
     let status = lasline_solo(alloc, &words, &mut files, &mut out, &mut err);
     assert_eq!(rt; status, Status::Ok);
+    Ok(())
+}
+
+#[test]
+fn options_are_read(rt: HostRuntime) -> Result<(), Fail> {
+    let alloc = rt.alloc();
+    let rows: [(&[&str], usize, usize); 5] = [
+        (&["run", "p.json"], 64, 8),
+        (&["run", "p.json", "--chunk", "1"], 1, 8),
+        (&["run", "p.json", "--queue", "64"], 64, 64),
+        (&["run", "p.json", "--chunk", "10", "--queue", "3"], 10, 3),
+        (&["run", "p.json", "--queue", "3", "--chunk", "10"], 10, 3),
+    ];
+    for (given, chunk, queue) in rows {
+        let words = words(alloc, given)?;
+        match read_command(&words) {
+            Ok(command) => {
+                assert_eq!(rt; command.file, "p.json");
+                let shape = format!(in alloc; "{:?}", command.shape)?;
+                let wanted = format!(in alloc; "Shape {{ chunk: {chunk}, queue: {queue} }}")?;
+                assert_eq!(rt; shape.as_str(), wanted.as_str());
+            }
+            Err(_) => return Err(Fail::from("refused")),
+        }
+    }
+    Ok(())
+}
+
+#[test]
+fn other_words_are_refused(rt: HostRuntime) -> Result<(), Fail> {
+    let alloc = rt.alloc();
+    let rows: [&[&str]; 17] = [
+        &["run"],
+        &["Run", "p.json"],
+        &["run", ""],
+        &["run", "--chunk"],
+        &["run", "--chunk", "1", "p.json"],
+        &["run", "p.json", "q.json"],
+        &["run", "p.json", "--chunk"],
+        &["run", "p.json", "--chunk", "0"],
+        &["run", "p.json", "--chunk", "65"],
+        &["run", "p.json", "--chunk", "08"],
+        &["run", "p.json", "--chunk", "+8"],
+        &["run", "p.json", "--chunk", ""],
+        &["run", "p.json", "--chunk", "8", "--chunk", "8"],
+        &[
+            "run", "p.json", "--queue", "8", "--chunk", "8", "--queue", "8",
+        ],
+        &["run", "p.json", "--queue", "18446744073709551617"],
+        &["run", "p.json", "--Queue", "8"],
+        &["run", "p.json", "--queue=8"],
+    ];
+    for given in rows {
+        let words = words(alloc, given)?;
+        match read_command(&words) {
+            Ok(_) => return Err(Fail::from("read")),
+            Err(refusal) => {
+                assert_eq!(rt; refusal, Refusal::NotBuilt(1));
+            }
+        }
+    }
     Ok(())
 }

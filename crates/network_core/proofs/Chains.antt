@@ -1,13 +1,15 @@
 -- New nodes are fresh, and a chain of them is a tree.
-use Rattle.std.proofs.Common.{◌≡◌, ℕ, zero, suc, ◌+◌, ◌≤◌, ◌<◌, true, false, List, [], ◌∷◌, length, Some, refl, ap, subst, sym, ◌∙◌, inl, inr, arith, true≢false}
+use Rattle.std.proofs.Common.{◌≡◌, ℕ, zero, suc, ◌+◌, ◌-◌, ◌≤◌, ◌<◌, true, false, List, [], ◌∷◌, ◌++◌, length, Some, refl, ap, subst, sym, ◌∙◌, inl, inr, arith, true≢false}
 use Rattle.std.specs.Prelude.{◌↔◌, ◌==◌, slice_get}
 use Rattle.std.proofs.lemmas.Bool.Decides.{eqb_tells}
+use Rattle.std.proofs.lemmas.Option.{slice_get_within}
 use Rattle.cloud_points.specs.declared.work.Work.{Ghosts}
 use Rattle.network_theory.specs.Forest.{children, one_if, count_all, IsForest}
 use Rattle.network_theory.specs.Opening.{IsFresh}
 use Rattle.network_theory.specs.Shape.{Each}
 use Rattle.network_core.specs.declared.node.Node.{Node}
 use Rattle.network_core.specs.Shown.{shown, new_node}
+use Rattle.network_core.specs.Chains.{links, chain, IsNewNode, AreNew, inputs_at, IsLine}
 
 no_ins : (xs : List ℕ) → length xs ≡ 0 → xs ≡ []
 no_ins [] h = refl
@@ -33,15 +35,6 @@ new-fresh {W} {S} g ins work inputs chunk leaf same = record {
     by_inputs : (n : ℕ) → inputs ≡ n → g.leaf work ≡ false → 0 < inputs
     by_inputs zero e h = absurd (true≢false (sym (leaf.1 e) ∙ h))
     by_inputs (suc n) e h = omega arith
-
--- each node of a chain but the first has the one before it as its child
-abbrev pub links : ℕ → ℕ → List (List ℕ)
-links first zero = []
-links first (suc n) = (first ∷ []) ∷ links (first + 1) n
-
--- the children of the nodes 0 to n of a chain
-abbrev pub chain : ℕ → List (List ℕ)
-chain n = [] ∷ links 0 n
 
 links-length : (first n : ℕ) → length (links first n) ≡ n
 links-length first zero = refl
@@ -78,8 +71,88 @@ chain-forest n = record {
   once = λ k b. (let r = links-once 0 n k (omega arith) (omega arith) in omega (arith, r));
 }
 
--- two nodes
-pub two-fresh : {W S : Type 0} (g : Ghosts W S) (a b : Node W) → IsFresh (shown g [] a) → IsFresh (shown g (0 ∷ []) b) → (k : ℕ) (n : Node W) → slice_get (a ∷ b ∷ []) k ≡ Some n → IsFresh (shown g (children (chain 1) k) n)
-two-fresh g a b x y zero n e = let z : a ≡ n = cc in subst (λ (m : Node _). IsFresh (shown g [] m)) z x
-two-fresh g a b x y (suc zero) n e = let z : b ≡ n = cc in subst (λ (m : Node _). IsFresh (shown g (0 ∷ []) m)) z y
-two-fresh g a b x y (suc (suc k)) n e = cc
+links-at : (first n k : ℕ) → k < n → children (links first n) k ≡ (first + k) ∷ []
+links-at first zero k h = absurd (omega arith)
+links-at first (suc n) zero h = let e : first ≡ first + 0 = omega arith in ap (λ (j : ℕ). j ∷ []) e
+links-at first (suc n) (suc k) h = let e : first + 1 + k ≡ first + suc k = omega arith in links-at (first + 1) n k (omega arith) ∙ ap (λ (j : ℕ). j ∷ []) e
+
+pub next-reads : (n k : ℕ) → k < n → children (chain n) (suc k) ≡ k ∷ []
+next-reads n k h = let e : 0 + k ≡ k = omega arith in links-at 0 n k h ∙ ap (λ (j : ℕ). j ∷ []) e
+
+-- the first node of a chain has no children, and each other one has the one before it
+pub children-chain : (n k : ℕ) → k < n → children (chain n) (k + 1) ≡ k ∷ []
+children-chain n k h = let e : k + 1 ≡ suc k = omega arith in ap (children (chain n)) e ∙ next-reads n k h
+
+pub children-first : (n : ℕ) → children (chain n) 0 ≡ []
+children-first n = refl
+
+links-last : (first n : ℕ) → links first (suc n) ≡ links first n ++ ((first + n) ∷ []) ∷ []
+links-last first zero = let e : first ≡ first + 0 = omega arith in ap (λ (j : ℕ). (j ∷ []) ∷ []) e
+links-last first (suc n) = let e : first + 1 + n ≡ first + suc n = omega arith in
+    ap (λ xss. (first ∷ []) ∷ xss) (links-last (first + 1) n) ∙ ap (λ (j : ℕ). (first ∷ []) ∷ links (first + 1) n ++ (j ∷ []) ∷ []) e
+
+-- a chain with one node more
+pub chain-last : (n : ℕ) → chain (n + 1) ≡ chain n ++ (n ∷ []) ∷ []
+chain-last n = let e : n + 1 ≡ suc n = omega arith in let z : 0 + n ≡ n = omega arith in
+    ap chain e ∙ ap (λ xss. [] ∷ xss) (links-last 0 n) ∙ ap (λ (j : ℕ). chain n ++ (j ∷ []) ∷ []) z
+
+same_some : {A : Type 0} (x y : A) → Some x ≡ Some y → x ≡ y
+same_some x y e = cc
+
+pub some_other : {A : Type 0} (Q : A → Type 0) (xs : List A) (k : ℕ) (x : A) → Each Q xs → slice_get xs k ≡ Some x → Q x
+some_other Q [] k x h e = cc
+some_other Q (y ∷ xs) zero x h e = subst Q (same_some y x e) h.0
+some_other Q (y ∷ xs) (suc k) x h e = some_other Q xs k x h.1 e
+
+module _ {W S : Type 0} (g : Ghosts W S) (chunk : ℕ) where
+  pub new-length : (inputs : ℕ) (ws : List W) (ns : List (Node W)) → AreNew g chunk inputs ws ns → length ns ≡ length ws
+  new-length inputs [] [] new = refl
+  new-length inputs [] (n ∷ ns) new = absurd new
+  new-length inputs (w ∷ ws) [] new = absurd new
+  new-length inputs (w ∷ ws) (n ∷ ns) new = let r = new-length 1 ws ns new.1 in omega (arith, r)
+
+  ones : (ws : List W) (ns : List (Node W)) (w : W) (n : Node W) → AreNew g chunk 1 ws ns → IsNewNode g chunk 1 w n → AreNew g chunk 1 (ws ++ w ∷ []) (ns ++ n ∷ [])
+  ones [] [] w n new is = (is, tt)
+  ones [] (m ∷ ns) w n new is = absurd new
+  ones (v ∷ ws) [] w n new is = absurd new
+  ones (v ∷ ws) (m ∷ ns) w n new is = (new.0, ones ws ns w n new.1 is)
+
+  -- one node more, which has one input
+  pub new-append : (inputs : ℕ) (ws : List W) (ns : List (Node W)) (w : W) (n : Node W) → 0 < length ns → AreNew g chunk inputs ws ns → IsNewNode g chunk 1 w n → AreNew g chunk inputs (ws ++ w ∷ []) (ns ++ n ∷ [])
+  new-append inputs ws [] w n h new is = absurd (omega arith)
+  new-append inputs [] (m ∷ ns) w n h new is = absurd new
+  new-append inputs (v ∷ ws) (m ∷ ns) w n h new is = (new.0, ones ws ns w n new.1 is)
+
+  -- each node is a new one over the work at its place
+  pub new-at : (inputs : ℕ) (ws : List W) (ns : List (Node W)) → AreNew g chunk inputs ws ns → (k : ℕ) (n : Node W) → slice_get ns k ≡ Some n → (w : W) × (slice_get ws k ≡ Some w) × IsNewNode g chunk (inputs_at inputs k) w n
+  new-at inputs ws [] new k n e = cc
+  new-at inputs [] (m ∷ ns) new k n e = absurd new
+  new-at inputs (v ∷ ws) (m ∷ ns) new zero n e = (v, refl, subst (IsNewNode g chunk inputs v) (same_some m n e) new.0)
+  new-at inputs (v ∷ ws) (m ∷ ns) new (suc k) n e = let r = new-at 1 ws ns new.1 k n e in (r.0, r.1, subst (λ i. IsNewNode g chunk i r.0 n) (one k) r.2)
+    where
+      one : (j : ℕ) → inputs_at 1 j ≡ 1
+      one zero = refl
+      one (suc j) = refl
+
+  -- new nodes over a line of works are fresh in a chain
+  pub chain-fresh : (ws : List W) (ns : List (Node W)) → IsLine g ws → AreNew g chunk 0 ws ns → (k : ℕ) (n : Node W) → slice_get ns k ≡ Some n → IsFresh (shown g (children (chain (length ns - 1)) k) n)
+  chain-fresh ws [] line new k n e = cc
+  chain-fresh [] (m ∷ ns) line new k n e = absurd new
+  chain-fresh (w ∷ ws) (m ∷ ns) line new zero n e =
+      subst (λ (x : Node W). IsFresh (shown g [] x)) (same_some m n e)
+      (subst IsFresh (sym (new.0.shown [])) (new-fresh g [] w 0 chunk ((λ _. refl), (λ _. line.0)) refl))
+  chain-fresh (w ∷ ws) (m ∷ ns) line new (suc k) n e =
+      let r = new-at 0 (w ∷ ws) (m ∷ ns) new (suc k) n e in
+      let inner : g.leaf r.0 ≡ false = some_other (λ v. g.leaf v ≡ false) ws k r.0 line.1 r.1 in
+      let reads : children (chain (length (m ∷ ns) - 1)) (suc k) ≡ k ∷ [] = next-reads (length (m ∷ ns) - 1) k (let l = slice_get_within ns k n e in omega (arith, l)) in
+      subst (λ ins. IsFresh (shown g ins n)) (sym reads)
+      (subst IsFresh (sym (r.2.shown (k ∷ []))) (new-fresh g (k ∷ []) r.0 1 chunk ((λ h. absurd (true≢false (sym h ∙ inner))), (λ h. absurd (omega (arith, h)))) refl))
+
+-- a line with one work more
+pub line-append : {W S : Type 0} (g : Ghosts W S) (ws : List W) (w : W) → IsLine g ws → g.leaf w ≡ false → IsLine g (ws ++ w ∷ [])
+line-append g [] w line inner = absurd line
+line-append {W} g (v ∷ ws) w line inner = (line.0, others ws line.1)
+  where
+    others : (us : List W) → Each (λ u. g.leaf u ≡ false) us → Each (λ u. g.leaf u ≡ false) (us ++ w ∷ [])
+    others [] h = (inner, tt)
+    others (u ∷ us) h = (h.0, others us h.1)

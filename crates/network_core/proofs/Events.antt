@@ -51,7 +51,7 @@ module _ {W S : Type 0} (g : Ghosts W S) (old new : Node W) (calm : Calm g old n
 
   no_choice : NoEvent g old new → g.leaf old.work ≡ false → choice g old new ≡ net.Quiet
   no_choice none l = rw l (chosen-quiet (is_some old.fault) (event new.fault (g.short old.work) (g.short new.work) (g.state new.work))
-      (λ f. event-quiet new.fault (g.short old.work) (g.short new.work) (g.state new.work) (λ d. none.faults (calm.cause f d)) none.short))
+      (λ f. event-quiet new.fault (g.short old.work) (g.short new.work) (g.state new.work) (λ d. true≢false (sym d ∙ none.fault)) none.short))
 
   leaf-choice : g.leaf old.work ≡ true → choice g old new ≡ made_by g old new
   leaf-choice l = ap (λ b. cond b (made_by g old new) (chosen g old new)) l

@@ -1,9 +1,12 @@
 pub mod Rows
 pub mod Events
 pub mod Lent
+pub mod Holds
 pub mod Edges
 pub mod Steps
 pub mod Opened
 pub mod Running
 pub mod Turning
 pub mod Chains
+pub mod Ran
+pub mod Prefixes

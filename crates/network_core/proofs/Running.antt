@@ -1,6 +1,6 @@
 -- What a turn of a net keeps of a run.
 use Rattle.std.proofs.Common.{◌≡◌, ℕ, zero, suc, ◌+◌, ◌≤◌, ◌<◌, Bool, true, false, length, Option, Some, None, is_some, refl, ap, subst, sym, ◌∙◌, inl, inr, arith, true≢false}
-use Rattle.std.specs.Prelude.{slice_get}
+use Rattle.std.specs.Prelude.{slice_get, cond, List, [], ◌++◌}
 use Rattle.std.proofs.lemmas.Bool.Decides.{eqb_tells}
 use Rattle.cloud_points.specs.declared.point.Point.{Point}
 use Rattle.cloud_points.specs.declared.faults.StageFault.{StageFault}
@@ -9,6 +9,7 @@ use Rattle.file_devices.specs.Counts.{Rose}
 use Rattle.cloud_points.specs.Events.{is_device, ran_short}
 use Rattle.network_theory.specs.Net as net
 use Rattle.network_theory.specs.Forest.{children}
+use Rattle.network_theory.specs.History.{points_taken, points_in_step}
 use Rattle.network_theory.specs.Due.{total, node_owes, edge_owes, due}
 use Rattle.network_theory.specs.Laws.{LowersDue}
 use Rattle.network_theory.proofs.Falls.{lowers-due}
@@ -20,6 +21,7 @@ use Rattle.network_core.specs.Calm.{Calm, NoEvent, Told, Obeys}
 use Rattle.network_core.specs.Nets.{net_of, root_of, capacity_of, choice_of, choice_at, ObeysAt, SameShape, shown_or}
 use Rattle.network_core.specs.Runs.{AllCalm, NoEvents, AllTold, owes_or, owed, IsRunning}
 use Rattle.std.proofs.lemmas.Option.{slice_get_within}
+use Rattle.network_core.proofs.Holds.{holds-still}
 use Rattle.network_core.proofs.Opened.{some_at}
 
 -- the measure is what the net owes
@@ -60,17 +62,33 @@ short-second a true c h r = refl
 short-second true false c h r = absurd (true≢false (sym (h refl)))
 short-second false false c h r = r
 
+none-of-device : (f : Option StageFault) → is_some f ≡ false → is_device f ≡ false
+none-of-device None e = refl
+none-of-device (Some f) e = absurd (true≢false e)
+
 none-first : {W S : Type 0} (g : Ghosts W S) (l m n : Node W) → Calm g m n → NoEvent g l n → NoEvent g l m
 none-first g l m n c h = record {
-  faults = λ r. h.faults (rose-first (g.faults l.work) (g.faults m.work) (g.faults n.work) r c.faults);
+  fault = by_fault (is_some m.fault) refl;
   short = short-first (g.short l.work) (g.short m.work) (g.short n.work) c.short h.short;
 }
+  where
+    by_fault : (b : Bool) → is_some m.fault ≡ b → is_device m.fault ≡ false
+    by_fault true e = sym (ap is_device (c.stays e)) ∙ h.fault
+    by_fault false e = none-of-device m.fault e
 
 none-second : {W S : Type 0} (g : Ghosts W S) (l m n : Node W) → Calm g l m → NoEvent g l n → NoEvent g m n
 none-second g l m n c h = record {
-  faults = λ r. h.faults (rose-second (g.faults l.work) (g.faults m.work) (g.faults n.work) c.faults r);
+  fault = h.fault;
   short = short-second (g.short l.work) (g.short m.work) (g.short n.work) c.short h.short;
 }
+
+-- a node without a fault had none before
+pub unfaulted : {W S : Type 0} (g : Ghosts W S) (m n : Node W) → Calm g m n → n.fault ≡ None → m.fault ≡ None
+unfaulted g m n c h = by_fault m.fault refl
+  where
+    by_fault : (f : Option StageFault) → m.fault ≡ f → m.fault ≡ None
+    by_fault None e = e
+    by_fault (Some x) e = sym (c.stays (ap is_some e)) ∙ h
 
 pub calm-on : {W S : Type 0} (g : Ghosts W S) (l m n : Node W) → Calm g l m → Calm g m n → Calm g l n
 calm-on g l m n a b = record {
@@ -172,6 +190,16 @@ module _ {W S : Type 0} (g : Ghosts W S) (old new : Net W) (i : ℕ) (t : Turned
 
     pub turn-idle : net.works (turned t) ≡ false → (ch : net.Choice S Point StageFault) × (net.works (net.turn_at was root (capacity_of old) i ch).turned ≡ false)
     turn-idle w = (choice_at g old new i, ap net.works (sym turn-is) ∙ w)
+
+  pub turn-holds : NoEvents g old new → (beyond : net.Node S Point StageFault) (k : ℕ) (n m : Node W) → slice_get old.nodes.items k ≡ Some n → slice_get new.nodes.items k ≡ Some m → m.fault ≡ None
+      → (before : List Point) → g.holds n.work before ≡ true → g.holds m.work (before ++ points_in_step (net_of g beyond old) root (capacity_of old) i (choice_at g old new i) k) ≡ true
+  turn-holds none beyond k n m e f s before h = elim (eqb_tells k i) [
+    | inl p ↦ subst (λ z. g.holds m.work (before ++ points_in_step (net_of g beyond old) root (capacity_of old) i (choice_at g old new i) z) ≡ true) (sym p.1)
+        (subst (λ r. g.holds m.work (before ++ points_in_step (net_of g beyond old) r (capacity_of old) i (choice_at g old new i) i) ≡ true) is_root
+        (obeys.holds beyond n m (ap (slice_get old.nodes.items) (sym p.1) ∙ e) (ap (slice_get new.nodes.items) (sym p.1) ∙ f) (none k n m e f) s before h))
+    | inr p ↦ subst (λ b. g.holds m.work (before ++ cond b (points_taken (net.turn_at (net_of g beyond old) root (capacity_of old) i (choice_at g old new i)).turned (net.current_edge (net_of g beyond old).edge (net.open_ins ((net_of g beyond old).node i)))) []) ≡ true) (sym p.0)
+        (holds-still g n m (same_some n m (sym e ∙ sym (obeys.others k p.1) ∙ f)) before h)
+  ]
 
   pub turn-told : NoEvents g old new → AllTold g old → AllTold g new
   turn-told none told k m f = elim (eqb_tells k i) [

@@ -3,6 +3,7 @@ use Rattle.std.proofs.Common.{◌≡◌, ◌≢◌, ℕ, zero, suc, ◌≤◌, �
 use Rattle.std.proofs.Math.Path.{fun_ext}
 use Rattle.std.proofs.Math.Seq.{drop-cons}
 use Rattle.std.specs.Prelude.{slice_set, slice_get, ◌==◌}
+use Rattle.std.proofs.lemmas.Bool.{eq-eqb}
 use Rattle.std.proofs.lemmas.Bool.Decides.{eqb_tells}
 use Rattle.circular_buffer.specs.Buffer.{Buffer}
 use Rattle.circular_buffer.proofs.Places.{slice_get-set_same, slice_get-set_other}
@@ -14,11 +15,13 @@ use Rattle.cloud_points.specs.Marks.{Item}
 use Rattle.cloud_points.specs.Bodies.{bodies, numbers}
 use Rattle.network_theory.specs.Net as net
 use Rattle.network_theory.specs.Forest.{children}
+use Rattle.network_theory.specs.History.{points_taken, points_in_step}
 use Rattle.network_core.specs.declared.node.Node.{Node}
 use Rattle.network_core.specs.declared.turned.Turned.{Turned}
 use Rattle.network_core.specs.Shown.{shown, choice, left, turned}
 use Rattle.network_core.specs.Wires.{queue_at, queue_of, IsChild, IsWired}
 use Rattle.network_core.specs.Calm.{Obeys}
+use Rattle.network_core.specs.Holding.{HoldsMore}
 use Rattle.network_core.proofs.Edges.{refilled}
 use Rattle.network_core.specs.Nets.{shown_or, net_with, choice_of}
 
@@ -96,6 +99,12 @@ module _ {W S : Type 0} (g : Ghosts W S) (beyond : net.Node S Point StageFault) 
       ∙ ap (λ x. net.turn (i == length es) cap (choice g n m) x (net.current_edge old.edge os) (bodies (queue_at es i).items)) (sym node-i)
       ∙ ap (λ x. net.turn (i == length es) cap x (old.node i) (net.current_edge old.edge os) (bodies (queue_at es i).items)) (sym ch-is)
 
+  -- what the turn took from the current child's queue
+  pub taken-is : points_taken (turned t) (bodies (queue_of es child).items) ≡ points_in_step old (length es) cap i ch i
+  taken-is = ap (λ (x : net.Outcome S Point StageFault). points_taken x.turned (bodies (queue_of es child).items)) outcome
+      ∙ ap (points_taken (net.turn_at old (length es) cap i ch).turned) (sym (current-is child os os-is))
+      ∙ sym (ap (λ b. cond b (points_taken (net.turn_at old (length es) cap i ch).turned (net.current_edge old.edge os)) []) (eq-eqb i i refl))
+
   -- at a place that is the node's own, its current child's, or another's
   at_place : {A : Type 0} (f : Buffer code.Item → A) (here now : A) → here ≡ f (queue_at es' i) → now ≡ f (queue_of es' child) → (k : ℕ) → cond (k == i) here (cond (net.is_current k os) now (f (queue_at es k))) ≡ f (queue_at es' k)
   at_place {A} f here now h w k = elim (eqb_tells k i) [
@@ -161,6 +170,12 @@ obeys-at g ns i n m x y inside there ok e f =
     let a : n ≡ x = same_some n x (sym there ∙ e) in
     let b : m ≡ y = same_some m y (sym (slice_get-set_same ns i m inside) ∙ f) in
     subst (λ z. Obeys g z y) a (subst (λ z. Obeys g n z) b ok)
+
+pub holds-at : {W S : Type 0} (g : Ghosts W S) (ns : List (Node W)) (i : ℕ) (n m x y : Node W) (taken : List Point) → i < length ns → slice_get ns i ≡ Some n → HoldsMore g n m taken → slice_get ns i ≡ Some x → slice_get (slice_set ns i m) i ≡ Some y → HoldsMore g x y taken
+holds-at g ns i n m x y taken inside there more e f =
+    let a : n ≡ x = same_some n x (sym there ∙ e) in
+    let b : m ≡ y = same_some m y (sym (slice_get-set_same ns i m inside) ∙ f) in
+    subst (λ z. HoldsMore g z y taken) a (subst (λ z. HoldsMore g n z taken) b more)
 
 -- a list that was written over through its slice
 pub written : {A : Type 0} (n : ℕ) (xs ys : List A) → n ≡ length xs → length ys ≡ length xs → take n (ys ++ drop (length ys) xs) ≡ ys

@@ -3,6 +3,7 @@ use Rattle.std.proofs.Common.{◌≡◌, ℕ, zero, suc, ◌+◌, ◌≤◌, ◌
 use Rattle.std.specs.Prelude.{slice_get, nat_lt, cond, ◌||◌}
 use Rattle.std.proofs.Math.Path.{fun_ext}
 use Rattle.std.proofs.lemmas.Bool.{ltb-true, ltb-false}
+use Rattle.std.proofs.lemmas.List.{append-nil, append_assoc}
 use Rattle.std.proofs.lemmas.Option.{slice_get_within}
 use Rattle.cloud_points.specs.declared.point.Point.{Point}
 use Rattle.cloud_points.specs.declared.faults.StageFault.{StageFault}
@@ -14,22 +15,24 @@ use Rattle.network_theory.specs.Shape.{Each, IsTree, ins_of}
 use Rattle.network_theory.specs.Sound.{IsSound}
 use Rattle.network_theory.specs.Due.{IsBelow}
 use Rattle.network_theory.specs.Forest.{children, IsForest}
+use Rattle.network_theory.specs.History.{points_in_step, points_taken_by}
 use Rattle.network_theory.specs.Schedule.{run_schedule, IsAllowedRun, IsQuietRun, KeepsLaws, end_of}
 use Rattle.network_theory.proofs.Falls.{tree-run, sound-run, below-run}
 use Rattle.network_theory.proofs.Finals.{closing-run, opening-closing, done-in_rest}
 use Rattle.network_theory.proofs.Forests.{forest-depths}
 use Rattle.network_theory.proofs.Moves.{some_moves}
 use Rattle.network_theory.proofs.Openings.{opening-sound}
-use Rattle.network_theory.proofs.Run.{last-run}
+use Rattle.network_theory.proofs.Run.{last-run, step-same}
 use Rattle.network_core.specs.declared.node.Node.{Node}
 use Rattle.network_core.specs.declared.net.Net.{Net}
 use Rattle.network_core.specs.declared.turned.Turned.{Turned}
-use Rattle.network_core.specs.Shown.{shown, turned}
+use Rattle.network_core.specs.Shown.{shown, turned, work_of}
 use Rattle.network_core.specs.Calm.{Calm}
 use Rattle.network_core.specs.Nets.{net_of, root_of, capacity_of, choice_at, ObeysAt, SameShape, shown_or}
 use Rattle.network_core.specs.Runs.{AllCalm, NoEvents, owed, below_of, Runs, HadTurns, EndsInRest, IsRunToEnd}
 use Rattle.network_core.proofs.Opened.{some_at}
-use Rattle.network_core.proofs.Running.{calm-self, same_some, all-calm, all-first, all-second, now-is, turn-calm, turn-told, turn-allowed, turn-quiet, turn-falls, turn-still, turn-no_more, turn-idle}
+use Rattle.network_core.proofs.Holds.{holds-still}
+use Rattle.network_core.proofs.Running.{calm-self, same_some, unfaulted, turn-holds, all-calm, all-first, all-second, now-is, turn-calm, turn-told, turn-allowed, turn-quiet, turn-falls, turn-still, turn-no_more, turn-idle}
 
 module _ {S P F : Type 0} (root cap : ℕ) (t : ℕ × net.Choice S P F) where
   run-last : (n : net.Net S P F) (ts : List (ℕ × net.Choice S P F)) → run_schedule n root cap (ts ++ t ∷ []) ≡ net.step (run_schedule n root cap ts) root cap t.0 t.1
@@ -43,6 +46,12 @@ module _ {S P F : Type 0} (root cap : ℕ) (t : ℕ × net.Choice S P F) where
   allowed-last : (n : net.Net S P F) (ts : List (ℕ × net.Choice S P F)) → IsAllowedRun n root cap ts → net.IsAllowed t.1 ((run_schedule n root cap ts).node t.0) → IsAllowedRun n root cap (ts ++ t ∷ [])
   allowed-last n [] q h = (h, tt)
   allowed-last n (u ∷ ts) q h = (q.0, allowed-last (net.step n root cap u.0 u.1) ts q.1 h)
+
+  points-last : (n : net.Net S P F) (ts : List (ℕ × net.Choice S P F)) (k : ℕ) → points_taken_by n root cap (ts ++ t ∷ []) k ≡ points_taken_by n root cap ts k ++ points_in_step (run_schedule n root cap ts) root cap t.0 t.1 k
+  points-last n [] k = append-nil (points_in_step n root cap t.0 t.1 k)
+  points-last n (u ∷ ts) k =
+      ap (λ ps. points_in_step n root cap u.0 u.1 k ++ ps) (points-last (net.step n root cap u.0 u.1) ts k)
+      ∙ sym (append_assoc (points_in_step n root cap u.0 u.1 k) (points_taken_by (net.step n root cap u.0 u.1) root cap ts k) (points_in_step (run_schedule (net.step n root cap u.0 u.1) root cap ts) root cap t.0 t.1 k))
 
 each-last : {A : Type 0} (Q : A → Type 0) (xs : List A) (x : A) → Each Q xs → Q x → Each Q (xs ++ x ∷ [])
 each-last Q [] x h q = (q, tt)
@@ -58,7 +67,21 @@ no-turns {W} g root n = record {
   allowed = λ beyond. tt;
   quiet = λ _ _ beyond. tt;
   told = λ _ t. t;
+  holds = λ _ beyond k x y e f s before h. holds-still g x y (same_some x y (sym e ∙ f)) before h;
 }
+
+-- no turn changes a node's meaning
+run-work : {S P F : Type 0} (n : net.Net S P F) (root cap : ℕ) (ts : List (ℕ × net.Choice S P F)) (k : ℕ) → ((run_schedule n root cap ts).node k).work ≡ (n.node k).work
+run-work n root cap [] k = refl
+run-work n root cap (t ∷ ts) k = run-work (net.step n root cap t.0 t.1) root cap ts k ∙ (step-same n root cap t.0 t.1 k).work
+
+pub had-work : {W S : Type 0} (g : Ghosts W S) (root : ℕ) (old now : Net W) → HadTurns g root old now → (k : ℕ) (n m : Node W) → slice_get old.nodes.items k ≡ Some n → slice_get now.nodes.items k ≡ Some m → g.meaning (work_of m) ≡ g.meaning (work_of n)
+had-work {W} g root old now had k n m e f =
+    let beyond = shown g [] n in
+    ap (λ (x : Option (Node W)). (shown_or g (shown g [] n) (children now.ins k) x).work) (sym f)
+    ∙ ap (λ x. (x.node k).work) (had.run beyond)
+    ∙ run-work (net_of g beyond old) root (capacity_of old) had.schedule k
+    ∙ ap (λ (x : Option (Node W)). (shown_or g (shown g [] n) (children old.ins k) x).work) e
 
 -- a net that had turns runs on
 pub runs-on : {W S : Type 0} (g : Ghosts W S) (root : ℕ) (below : ℕ → ℕ) (old now : Net W) → Runs g root below old → HadTurns g root old now → Runs g root below now
@@ -88,6 +111,18 @@ module _ {W S : Type 0} (g : Ghosts W S) (root : ℕ) (below : ℕ → ℕ) (old
   none-after : NoEvents g old next → NoEvents g now next
   none-after none = all-second g old now next had.same.count same.count had.calm none
 
+  -- what node k took in all turns
+  abbrev took_before : net.Node S Point StageFault → ℕ → List Point
+  took_before beyond k = points_taken_by (net_of g beyond old) root (capacity_of old) had.schedule k
+
+  took-all : (beyond : net.Node S Point StageFault) (k : ℕ) (before : List Point) → (before ++ took_before beyond k) ++ points_in_step (net_of g beyond now) root (capacity_of now) i (choice_at g now next i) k
+      ≡ before ++ points_taken_by (net_of g beyond old) root (capacity_of old) (had.schedule ++ (i, choice_at g now next i) ∷ []) k
+  took-all beyond k before =
+      append_assoc before (took_before beyond k) (points_in_step (net_of g beyond now) root (capacity_of now) i (choice_at g now next i) k)
+      ∙ ap (λ c. before ++ (took_before beyond k ++ points_in_step (net_of g beyond now) root c i (choice_at g now next i) k)) had.same.capacity
+      ∙ ap (λ n. before ++ (took_before beyond k ++ points_in_step n root (capacity_of old) i (choice_at g now next i) k)) (had.run beyond)
+      ∙ ap (λ ps. before ++ ps) (sym (points-last root (capacity_of old) (i, choice_at g now next i) (net_of g beyond old) had.schedule k))
+
   pub one-more : HadTurns g root old next
   one-more = record {
     schedule = had.schedule ++ (i, choice_at g now next i) ∷ [];
@@ -105,6 +140,11 @@ module _ {W S : Type 0} (g : Ghosts W S) (root : ℕ) (below : ℕ → ℕ) (old
         (subst (λ n. net.IsQuiet (choice_at g now next i) (n.node i)) (had.run beyond)
         (turn-quiet g now next i t inside stepped turned_is obeys same root below is_root beyond (none-after none) (had.told (none-before none) told)));
     told = λ none told. turn-told g now next i t inside stepped turned_is obeys same root below is_root (none-after none) (had.told (none-before none) told);
+    holds = λ none beyond k x z e f s before h.
+        let y = some_at now.nodes.items k (let a = slice_get_within next.nodes.items k z f in let c = same.count in omega (arith, a, c)) in
+        let a = had.holds (none-before none) beyond k x y.0 e y.1 (unfaulted g y.0 z (calm k y.0 z y.1 f) s) before h in
+        subst (λ ps. g.holds z.work ps ≡ true) (took-all beyond k before)
+        (turn-holds g now next i t inside stepped turned_is obeys same root below is_root (none-after none) beyond k y.0 z y.1 f s (before ++ took_before beyond k) a);
   }
 
 or_true : (b : Bool) → b || true ≡ true

@@ -17,9 +17,9 @@ pub record Calm {W S : Type 0} (g : Ghosts W S) (old new : Node W) : Type 0 wher
   pub stays : is_some old.fault ≡ true → new.fault ≡ old.fault
   pub cause : is_some old.fault ≡ false → is_device new.fault ≡ true → Rose (g.faults old.work) (g.faults new.work)
 
--- no device failed and no want of memory was noted in between
+-- no device's fault stands at the node, and no want of memory was noted in between
 pub record NoEvent {W S : Type 0} (g : Ghosts W S) (old new : Node W) : Type 0 where
-  pub faults : Rose (g.faults old.work) (g.faults new.work) → ⊥
+  pub fault : is_device new.fault ≡ false
   pub short : ran_short (g.short old.work) (g.short new.work) ≡ false
 
 -- a leaf whose end is not made yet tells what it still gives, and has no fault

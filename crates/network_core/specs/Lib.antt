@@ -1,9 +1,12 @@
 pub mod Hands
 pub mod Shown
 pub mod Calm
+pub mod Holding
 pub mod Begun
 pub mod Queues
 pub mod Wires
 pub mod Nets
 pub mod Runs
+pub mod Chains
+pub mod Ran
 pub mod ToyMeaning

@@ -8,11 +8,13 @@ use Rattle.cloud_points.specs.declared.work.Work.{Ghosts}
 use Rattle.cloud_points.specs.Bodies.{bodies, numbers}
 use Rattle.network_theory.specs.Net as net
 use Rattle.network_theory.specs.Forest.{children}
+use Rattle.network_theory.specs.History.{points_in_step}
 use Rattle.network_core.specs.declared.node.Node.{Node}
 use Rattle.network_core.specs.declared.net.Net.{Net}
 use Rattle.network_core.specs.Wires.{queue_at}
 use Rattle.network_core.specs.Shown.{shown, choice}
 use Rattle.network_core.specs.Calm.{Obeys}
+use Rattle.network_core.specs.Holding.{HoldsMore}
 
 -- its nodes, the numbers of the children of each, and the room of each queue
 abbrev pub nodes_of : {W : Type 0} → Net W → List (Node W)
@@ -57,6 +59,9 @@ choice_at g old new i = choice_of g (slice_get old.nodes.items i) (slice_get new
 pub record ObeysAt {W S : Type 0} (g : Ghosts W S) (old new : Net W) (i : ℕ) : Type 0 where
   pub here : (n m : Node W) → slice_get old.nodes.items i ≡ Some n → slice_get new.nodes.items i ≡ Some m → Obeys g n m
   pub others : (k : ℕ) → k ≢ i → slice_get new.nodes.items k ≡ slice_get old.nodes.items k
+  -- the work holds besides what the turn took
+  pub holds : (beyond : net.Node S Point StageFault) (n m : Node W) → slice_get old.nodes.items i ≡ Some n → slice_get new.nodes.items i ≡ Some m
+      → HoldsMore g n m (points_in_step (net_of g beyond old) (root_of old) (capacity_of old) i (choice_at g old new i) i)
 
 -- what no turn changes
 pub record SameShape {W : Type 0} (old new : Net W) : Type 0 where

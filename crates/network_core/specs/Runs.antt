@@ -1,5 +1,5 @@
 -- Nets that are run to their end.
-use Rattle.std.specs.Prelude.{◌≡◌, ℕ, ◌+◌, ◌*◌, ◌≤◌, true, List, [], Option, Some, None, length, slice_get}
+use Rattle.std.specs.Prelude.{◌≡◌, ℕ, ◌+◌, ◌*◌, ◌≤◌, true, List, [], ◌++◌, Option, Some, None, length, slice_get}
 use Rattle.cloud_points.specs.declared.point.Point.{Point}
 use Rattle.cloud_points.specs.declared.faults.StageFault.{StageFault}
 use Rattle.cloud_points.specs.declared.work.Work.{Ghosts}
@@ -9,7 +9,8 @@ use Rattle.network_theory.specs.Net as net
 use Rattle.network_theory.specs.Depth.{depth}
 use Rattle.network_theory.specs.Due.{total, IsBelow}
 use Rattle.network_theory.specs.Forest.{parent_of}
-use Rattle.network_theory.specs.Opening.{IsSpent}
+use Rattle.network_theory.specs.History.{points_taken_by, mark_points, brings}
+use Rattle.network_theory.specs.Opening.{IsSpent, IsOpening}
 use Rattle.network_theory.specs.Shape as shape
 use Rattle.network_theory.specs.Sound.{IsSound}
 use Rattle.network_theory.specs.Schedule.{run_schedule, IsSchedule, IsAllowedRun, IsQuietRun, end_of}
@@ -63,6 +64,9 @@ pub record HadTurns {W S : Type 0} (g : Ghosts W S) (root : ℕ) (old now : Net 
   -- where nothing failed and its leaves tell, none came
   pub quiet : NoEvents g old now → AllTold g old → (beyond : net.Node S Point StageFault) → IsQuietRun (net_of g beyond old) root (capacity_of old) schedule
   pub told : NoEvents g old now → AllTold g old → AllTold g now
+  -- without an event, a node without a fault holds besides all points that it took
+  pub holds : NoEvents g old now → (beyond : net.Node S Point StageFault) (k : ℕ) (n m : Node W) → slice_get old.nodes.items k ≡ Some n → slice_get now.nodes.items k ≡ Some m → m.fault ≡ None
+      → (before : List Point) → g.holds n.work before ≡ true → g.holds m.work (before ++ points_taken_by (net_of g beyond old) root (capacity_of old) schedule k) ≡ true
 
 -- without an event, all nodes end as what was to come at the start says
 abbrev pub EndsInRest : {W S : Type 0} (g : Ghosts W S) → Net W → Net W → Type 0
@@ -71,3 +75,15 @@ EndsInRest {W} {S} g old new = NoEvents g old new → AllTold g old → (beyond 
 
 abbrev pub IsRunToEnd : {W S : Type 0} (g : Ghosts W S) → Net W → Type 0
 IsRunToEnd {W} {S} g n = (k : ℕ) (x : Node W) → slice_get n.nodes.items k ≡ Some x → (shown g [] x).done ≡ true
+
+-- of the points that a node's inputs brought at the start, it took the first ones and its work holds what these come to
+pub record HoldsSoFar {W S : Type 0} (g : Ghosts W S) (brought : List Point) (now : Node W) : Type 0 where
+  pub taken : List Point
+  pub left : List Point
+  pub whole : brought ≡ taken ++ left
+  pub holds : g.holds now.work taken ≡ true
+
+-- that is so after all turns without an event, of a node without a fault whose work held nothing at the start
+abbrev pub WorksHoldPrefixes : {W S : Type 0} (g : Ghosts W S) → Type 0
+WorksHoldPrefixes {W} {S} g = (old now : Net W) (root : ℕ) (beyond : net.Node S Point StageFault) → IsOpening (net_of g beyond old) root → KeepsCutting beyond.work → HadTurns g root old now → NoEvents g old now → AllTold g old →
+    (k : ℕ) (n m : Node W) → slice_get old.nodes.items k ≡ Some n → slice_get now.nodes.items k ≡ Some m → m.fault ≡ None → g.holds n.work [] ≡ true → HoldsSoFar g (mark_points (brings (net_of g beyond old) k)) m

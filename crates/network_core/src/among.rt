@@ -3,8 +3,10 @@
 ghost use Rattle.std.specs.Prelude.{◌≡◌, ◌≢◌, ◌<◌, ◌≤◌, ◌==◌, ℕ, List, [], Some, Option, IfOk, length, slice_get, replicate};
 ghost use Rattle.circular_buffer.specs.Buffer.{buffer};
 ghost use Rattle.cloud_points.specs.Bodies.{bodies, numbers};
+ghost use Rattle.network_theory.specs.History.{points_taken};
 ghost use Rattle.network_theory.specs.Net as net;
 ghost use Rattle.network_core.specs.Calm.{Obeys};
+ghost use Rattle.network_core.specs.Holding.{KeepsHolding, HoldsMore};
 ghost use Rattle.network_core.specs.Shown.{shown, choice, left, turned};
 ghost use Rattle.network_core.specs.Wires.{queue_at, queue_of};
 
@@ -49,6 +51,7 @@ pub(crate) fn turn_among<W: Work>(
     ensures others { (k : ℕ) → k ≢ at → child ≢ Some k → queue_at edges.new k ≡ queue_at edges.old k }
     ensures rooms { (k : ℕ) → (queue_at edges.new k).capacity ≡ (queue_at edges.old k).capacity }
     ensures obeys { Obeys W.Work node.old node.new }
+    ensures holds { HoldsMore W.Work node.old node.new (points_taken (turned result) (bodies (queue_of edges.old child).items)) }
 {
     match child {
         None => turn_childless(node, edges, at),
@@ -68,6 +71,7 @@ fn turn_parent<W: Work>(node: &mut Node<W>, edges: &mut [PlainQueue], c: usize, 
     ensures others { (k : ℕ) → k ≢ at → k ≢ c → queue_at edges.new k ≡ queue_at edges.old k }
     ensures rooms { (k : ℕ) → (queue_at edges.new k).capacity ≡ (queue_at edges.old k).capacity }
     ensures obeys { Obeys W.Work node.old node.new }
+    ensures holds { HoldsMore W.Work node.old node.new (points_taken (turned result) (bodies (queue_at edges.old c).items)) }
 {
     if at == edges.len() {
         let input = &mut edges[c];
@@ -89,6 +93,7 @@ fn turn_childless<W: Work>(node: &mut Node<W>, edges: &mut [PlainQueue], at: usi
     ensures others { (k : ℕ) → k ≢ at → queue_at edges.new k ≡ queue_at edges.old k }
     ensures rooms { (k : ℕ) → (queue_at edges.new k).capacity ≡ (queue_at edges.old k).capacity }
     ensures obeys { Obeys W.Work node.old node.new }
+    ensures holds { KeepsHolding W.Work node.old node.new }
 {
     if at == edges.len() {
         return node.turn_alone();

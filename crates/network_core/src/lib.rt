@@ -2,6 +2,7 @@
 #![tactic(auto)]
 
 mod among;
+mod chain;
 mod lists;
 mod net;
 mod node;
@@ -9,10 +10,11 @@ mod parts;
 mod run;
 mod turned;
 
+pub use chain::run_chain;
 pub use lists::{InsList, NodeList};
 pub use net::Net;
 pub use node::Node;
-pub use run::run_to_end;
+pub use run::{run_to_end, works_hold_prefixes};
 pub use turned::{Turned, Why};
 
 #[cfg(test)]

@@ -49,9 +49,11 @@ impl<W: Work> Node<W> {
     ghost use Rattle.cloud_points.specs.Marks as marks;
     ghost use Rattle.chunk_queue.specs.Slots.{brings_points};
     ghost use Rattle.network_theory.specs.Net as net;
+    ghost use Rattle.network_theory.specs.History.{points_taken, item_points};
     ghost use Rattle.network_core.specs.Hands.{kind_item, seen_hand};
     ghost use Rattle.network_core.specs.Shown.{shown, new_node, work_of, current_of, chosen, choice, made_choice, new_fault, left, turned};
     ghost use Rattle.network_core.specs.Calm.{Calm, NoEvent, Told, Obeys};
+    ghost use Rattle.network_core.specs.Holding.{KeepsHolding, HoldsMore};
     ghost use Rattle.network_core.specs.Begun.{Begins, IsStill, WillMake, made_by};
     ghost use Rattle.network_core.specs.Queues.{lent_items, room, left_items};
 
@@ -133,6 +135,7 @@ impl<W: Work> Node<W> {
         ensures within { WillMake W.Work self.old → (ins : List ℕ) → net.IsWithin (made_by W.Work self.old self.new) (shown W.Work ins self.old) }
         ensures part { NoEvent W.Work self.old self.new → Told W.Work self.old → WillMake W.Work self.old → (ins : List ℕ) → net.IsPart (made_by W.Work self.old self.new) (shown W.Work ins self.old) }
         ensures told { NoEvent W.Work self.old self.new → Told W.Work self.old → Told W.Work self.new }
+        ensures holds { KeepsHolding W.Work self.old self.new }
     {
         if let Some(kind) = self.hand {
             return Begun::Give(kind);
@@ -156,6 +159,7 @@ impl<W: Work> Node<W> {
         requires hand { self.old.hand ≡ None }
         ensures calm { Calm W.Work self.old self.new }
         ensures told { Told W.Work self.old → Told W.Work self.new }
+        ensures holds { KeepsHolding W.Work self.old self.new }
         ensures made { (ins : List ℕ) → shown W.Work ins self.new ≡ net.end_made (shown W.Work ins self.old) }
     {
         self.hand = Some(Kind::End(either(self.cut, self.fault.is_some())));
@@ -166,6 +170,7 @@ impl<W: Work> Node<W> {
     fn make_next(&mut self)
         requires leaf { W.leaf self.old.work ≡ true }
         ensures calm { Calm W.Work self.old self.new }
+        ensures holds { KeepsHolding W.Work self.old self.new }
         ensures within { (ins : List ℕ) → net.IsWithin (made_by W.Work self.old self.new) (shown W.Work ins self.old) }
         ensures part { NoEvent W.Work self.old self.new → W.tells self.old.work ≡ true → self.old.fault ≡ None → (ins : List ℕ) → net.IsPart (made_by W.Work self.old self.new) (shown W.Work ins self.old) }
         ensures tells { NoEvent W.Work self.old self.new → W.tells self.old.work ≡ true → net.holds_end (seen_hand self.new.hand self.new.spread.items) ≡ false → (W.tells self.new.work ≡ true) × (self.new.fault ≡ self.old.fault) }
@@ -198,6 +203,7 @@ impl<W: Work> Node<W> {
         ensures above { numbers (left_items out.exit) ≡ net.numbers_above (is_none out.entry) (turned result) (numbers (lent_items out.entry)) (shown W.Work [] self.old).sent }
         ensures left { numbers (left_items input.exit) ≡ net.numbers_left (turned result) (numbers (lent_items input.entry)) }
         ensures obeys { Obeys W.Work self.old self.new }
+        ensures holds { HoldsMore W.Work self.old self.new (points_taken (turned result) (bodies (lent_items input.entry))) }
     {
         let Some(out) = out else {
             let Some(input) = input else {
@@ -220,6 +226,7 @@ impl<W: Work> Node<W> {
         ensures left { numbers input.new.items ≡ net.numbers_left (turned result) (numbers input.old.items) }
         ensures room { (input.new.capacity ≡ input.old.capacity) × (out.new.capacity ≡ out.old.capacity) }
         ensures obeys { Obeys W.Work self.old self.new }
+        ensures holds { HoldsMore W.Work self.old self.new (points_taken (turned result) (bodies input.old.items)) }
     {
         match self.begin() {
             Begun::Give(kind) => self.give_to(kind, out),
@@ -236,6 +243,7 @@ impl<W: Work> Node<W> {
         ensures left { net.numbers_left (turned result) [] ≡ [] }
         ensures room { out.new.capacity ≡ out.old.capacity }
         ensures obeys { Obeys W.Work self.old self.new }
+        ensures holds { KeepsHolding W.Work self.old self.new }
     {
         match self.begin() {
             Begun::Give(kind) => self.give_to(kind, out),
@@ -253,6 +261,7 @@ impl<W: Work> Node<W> {
         ensures left { numbers input.new.items ≡ net.numbers_left (turned result) (numbers input.old.items) }
         ensures room { input.new.capacity ≡ input.old.capacity }
         ensures obeys { Obeys W.Work self.old self.new }
+        ensures holds { HoldsMore W.Work self.old self.new (points_taken (turned result) (bodies input.old.items)) }
     {
         match self.begin() {
             Begun::Give(kind) => self.lay_down(kind),
@@ -268,6 +277,7 @@ impl<W: Work> Node<W> {
         ensures above { (ns : List ℕ) (number : ℕ) → net.numbers_above true (turned result) ns number ≡ ns }
         ensures left { net.numbers_left (turned result) [] ≡ [] }
         ensures obeys { Obeys W.Work self.old self.new }
+        ensures holds { KeepsHolding W.Work self.old self.new }
     {
         match self.begin() {
             Begun::Give(kind) => self.lay_down(kind),
@@ -285,6 +295,7 @@ impl<W: Work> Node<W> {
         ensures left { (ns : List ℕ) → net.numbers_left (turned result) ns ≡ ns }
         ensures calm { Calm W.Work self.old self.new }
         ensures told { Told W.Work self.old → Told W.Work self.new }
+        ensures holds { KeepsHolding W.Work self.old self.new }
     {
         self.count_up(kind);
         Turned::Gave
@@ -298,6 +309,7 @@ impl<W: Work> Node<W> {
         ensures numbers { numbers out.new.items ≡ net.numbers_above false (turned result) (numbers out.old.items) self.old.given }
         ensures calm { Calm W.Work self.old self.new }
         ensures told { Told W.Work self.old → Told W.Work self.new }
+        ensures holds { KeepsHolding W.Work self.old self.new }
         ensures capacity { out.new.capacity ≡ out.old.capacity }
         ensures left { (ns : List ℕ) → net.numbers_left (turned result) ns ≡ ns }
     {
@@ -318,6 +330,7 @@ impl<W: Work> Node<W> {
         ensures given { (ins : List ℕ) → shown W.Work ins self.new ≡ net.given (shown W.Work ins self.old) (kind_item kind self.old.spread.items) }
         ensures calm { Calm W.Work self.old self.new }
         ensures told { Told W.Work self.old → Told W.Work self.new }
+        ensures holds { KeepsHolding W.Work self.old self.new }
     {
         let (views, points, end) = match kind {
             Kind::Points => (0, self.spread.len() as u64, false),
@@ -343,6 +356,7 @@ impl<W: Work> Node<W> {
         ensures above { (root : Bool) (ns : List ℕ) (number : ℕ) → net.numbers_above root (turned result) ns number ≡ ns }
         ensures capacity { input.new.capacity ≡ input.old.capacity }
         ensures calm { Calm W.Work self.old self.new }
+        ensures holds { HoldsMore W.Work self.old self.new (points_taken (turned result) (bodies input.old.items)) }
     {
         match input.pop_into(&mut self.spread) {
             None => Turned::Idle(Why::Empty),
@@ -362,6 +376,7 @@ impl<W: Work> Node<W> {
         requires some { brings_points kind ≡ true → 0 < length self.old.spread.items }
         ensures taken { (ins : List ℕ) → shown W.Work ins self.new ≡ net.taken (chosen W.Work self.old self.new) (shown W.Work ins self.old) (kind_item kind self.old.spread.items) }
         ensures calm { Calm W.Work self.old self.new }
+        ensures holds { HoldsMore W.Work self.old self.new (item_points (kind_item kind self.old.spread.items)) }
     {
         match kind {
             Kind::Points => self.take_points(),
@@ -378,6 +393,7 @@ impl<W: Work> Node<W> {
         requires some { 0 < length self.old.spread.items }
         ensures taken { (ins : List ℕ) → shown W.Work ins self.new ≡ net.taken (chosen W.Work self.old self.new) (shown W.Work ins self.old) (marks.Points self.old.spread.items) }
         ensures calm { Calm W.Work self.old self.new }
+        ensures holds { HoldsMore W.Work self.old self.new self.old.spread.items }
     {
         if self.fault.is_some() {
             return;
@@ -393,6 +409,7 @@ impl<W: Work> Node<W> {
         requires no_end { self.old.ending ≡ false }
         ensures taken { (ins : List ℕ) → shown W.Work ins self.new ≡ net.taken (chosen W.Work self.old self.new) (shown W.Work ins self.old) marks.End_view }
         ensures calm { Calm W.Work self.old self.new }
+        ensures holds { KeepsHolding W.Work self.old self.new }
     {
         if self.fault.is_some() {
             return;
@@ -410,6 +427,7 @@ impl<W: Work> Node<W> {
         requires more { self.old.ended < self.old.inputs }
         ensures taken { (ins : List ℕ) → shown W.Work ins self.new ≡ net.taken (chosen W.Work self.old self.new) (shown W.Work ins self.old) (marks.End_all cut) }
         ensures calm { Calm W.Work self.old self.new }
+        ensures holds { KeepsHolding W.Work self.old self.new }
     {
         self.cut = either(self.cut, cut);
         self.ended += 1;

@@ -7,14 +7,14 @@ ghost use Rattle.network_theory.specs.Forest.{IsForest};
 ghost use Rattle.network_theory.specs.Net as net_type;
 ghost use Rattle.network_theory.specs.Opening.{IsSpent, IsOpening};
 ghost use Rattle.network_core.specs.Nets.{net_of, root_of, ins_of, capacity_of};
-ghost use Rattle.network_core.specs.Runs.{HadTurns, IsRunToEnd, EndsInRest};
+ghost use Rattle.network_core.specs.Runs.{HadTurns, IsRunToEnd, EndsInRest, WorksHoldPrefixes};
 
 use crate::net::Net;
 use crate::parts::either;
 use cloud_points::Work;
 
-/// Lets the nodes of a new net take turns until all are done. Where no device failed, no memory was wanting and its leaves
-/// tell, each node ends as what was to come at the start says.
+/// Lets the nodes of a new net take turns until all are done. Where no node met a device's fault, no memory was wanting and
+/// its leaves tell, each node ends as what was to come at the start says.
 pub fn run_to_end<W: Work>(net: &mut Net<W>)
     requires forest { IsForest (ins_of net.old) (root_of net.old) }
     requires opening { (beyond : net_type.Node W.State Point StageFault) → IsSpent beyond → IsOpening (net_of W.Work beyond net.old) (root_of net.old) }
@@ -32,3 +32,9 @@ pub fn run_to_end<W: Work>(net: &mut Net<W>)
         }
     }
 }
+
+/// At any time of a run without an event, a work without a fault holds what the first of the points come to that its inputs
+/// bring: what a text writer's sink holds is a beginning of what it holds in the end.
+pub fn works_hold_prefixes<W: Work>(_work: &W)
+    ensures { WorksHoldPrefixes W.Work }
+{}

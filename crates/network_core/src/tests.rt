@@ -45,6 +45,8 @@ impl Work for Toy {
 
     ghost views_left = { λ w. cond w.viewed 0 1 };
 
+    ghost holds = { λ _ _. true };
+
     ghost cutting = { λ _. passing_keeps };
 
     fn is_leaf(&self) -> bool {
@@ -132,8 +134,8 @@ fn ran(alloc: Global) -> Result<Net<Toy>, AllocError>
         Node::new(make_toy(true, 7), 0, 64),
         Node::new(make_toy(false, 0), 1, 64),
     ]?;
-    let lists = vec![in alloc; Vec::new(alloc), vec![in alloc; 0]?]?;
-    match Net::new(alloc, NodeList::new(nodes), InsList::new(lists), 2) {
+    let ins = InsList::chain(alloc, 2)?;
+    match Net::new(alloc, NodeList::new(nodes), ins, 2) {
         Ok(net) => {
             let mut net = net;
             run_to_end(&mut net);

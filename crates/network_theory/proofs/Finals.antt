@@ -102,7 +102,7 @@ opening-closing net root o k b = let f = o.fresh k b in record {
   told = λ _ z. conflict ((net.node k).done || holds_end (net.node k).hand) z (ap (λ d. d || holds_end (net.node k).hand) f.done ∙ ap holds_end f.hand);
 }
 
-all_dropped : (n : ℕ) (xs : List ℕ) → n ≡ length xs → drop n xs ≡ []
+pub all_dropped : (n : ℕ) (xs : List ℕ) → n ≡ length xs → drop n xs ≡ []
 all_dropped zero [] h = refl
 all_dropped zero (x ∷ xs) h = absurd (omega arith)
 all_dropped (suc n) [] h = refl

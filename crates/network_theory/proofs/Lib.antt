@@ -20,3 +20,5 @@ pub mod Carries
 pub mod Chain
 pub mod CarriedTurn
 pub mod JoinTree
+pub mod Brought
+pub mod Chained

@@ -9,6 +9,7 @@ use Rattle.network_theory.specs.Machine.{after_all, output}
 use Rattle.network_theory.proofs.MachineLaws.{after_all-append, output-append}
 use Rattle.network_theory.specs.Net.{Node, Net, Choice, Quiet, Outcome, Took, taken, in_hand, still_end, remains, last_of, open_ins, IsQuiet, inputs_of, flow, rest, current_edge, is_current, with_turn, turn_at, step}
 use Rattle.network_theory.specs.Shape.{Each, Apart, IsTree, ins_of}
+use Rattle.network_theory.specs.History.{brings}
 use Rattle.network_theory.proofs.Turns.{either, TakenAs, took}
 use Rattle.network_theory.proofs.Rows.{Stands, Takes, turn-keeps, same_last}
 
@@ -146,6 +147,17 @@ module _ {S P F : Type 0} (net : Net S P F) (root : ℕ) (tree : IsTree (ins_of 
       | inr p ↦ λ h. ap (λ n. last_of n (inputs_of f (open_ins n))) (node-other k p.0) ∙ ap (λ x. last_of (net.node k) x) h
     ]
 
+    inputs-level : (k : ℕ) (f g : ℕ → List (Mark P)) → inputs_of f (open_ins (net.node k)) ≡ inputs_of g (open_ins (net.node k)) → inputs_of f (open_ins ((with_turn net root i o).node k)) ≡ inputs_of g (open_ins (net.node k))
+    inputs-level k f g = elim (eqb_tells k i) [
+      | inl p ↦ subst (λ z. inputs_of f (open_ins (net.node z)) ≡ inputs_of g (open_ins (net.node z)) → inputs_of f (open_ins ((with_turn net root i o).node z)) ≡ inputs_of g (open_ins (net.node z))) (sym p.1)
+          (λ h. ap (λ n. inputs_of f (open_ins n)) node-here ∙ ap (inputs_of f) stands.ins ∙ h)
+      | inr p ↦ λ h. ap (λ n. inputs_of f (open_ins n)) (node-other k p.0) ∙ h
+    ]
+
+    pub brings-stands : (k : ℕ) → brings (with_turn net root i o) k ≡ brings net k
+    brings-stands k = inputs-level k (flow (with_turn net root i o) k) (flow net k)
+        (inputs-same _ _ _ (Each-map _ _ _ (λ j h. flow-stands k j h) (Each-drop _ (net.node k).machine.ended _ (tree.no_root k))))
+
     last-stands : (k : ℕ) → rest (with_turn net root i o) k ≡ rest net k
     last-stands k = last-level k (flow (with_turn net root i o) k) (flow net k)
         (inputs-same _ _ _ (Each-map _ _ _ (λ j h. flow-stands k j h) (Each-drop _ (net.node k).machine.ended _ (tree.no_root k))))
@@ -217,6 +229,15 @@ module _ {S P F : Type 0} (net : Net S P F) (root : ℕ) (tree : IsTree (ins_of 
     flow-compares : (d k : ℕ) → k < d → Compares c it (flow net d) (flow (with_turn net root i o) d) k
     flow-compares zero k h = absurd (omega arith)
     flow-compares (suc d) k h = level-taken k (flow net d) (flow (with_turn net root i o) d) (Each-map _ _ _ (λ j b. flow-compares d j (omega arith)) (opens_below k)) (eqb_tells k i)
+
+    pub brings-taken : (k : ℕ) → brings net k ≡ cond (k == i) (marks it) [] ++ brings (with_turn net root i o) k
+    brings-taken k =
+        let below : Each (Compares c it (flow net k) (flow (with_turn net root i o) k)) (open_ins (net.node k)) = Each-map _ _ _ (λ j b. flow-compares k j b) (opens_below k) in
+        elim (eqb_tells k i) [
+          | inl p ↦ subst (λ z. Each (Compares c it (flow net k) (flow (with_turn net root i o) k)) (open_ins (net.node z)) → inputs_of (flow net k) (open_ins (net.node z)) ≡ marks it ++ inputs_of (flow (with_turn net root i o) k) (open_ins ((with_turn net root i o).node z))) (sym p.1)
+              (λ b. inputs-here _ _ b ∙ ap (λ n. marks it ++ inputs_of (flow (with_turn net root i o) k) (open_ins n)) (sym node-i)) below ∙ ap (λ b. cond {A = List (Mark P)} b (marks it) [] ++ brings (with_turn net root i o) k) (sym p.0)
+          | inr p ↦ inputs-other k (flow net k) (flow (with_turn net root i o) k) p.1 below ∙ ap (λ n. inputs_of (flow (with_turn net root i o) k) (open_ins n)) (sym (node-other k p.0)) ∙ ap (λ b. cond {A = List (Mark P)} b (marks it) [] ++ brings (with_turn net root i o) k) (sym p.0)
+        ]
 
     last-taken-at : (k : ℕ) → rest (with_turn net root i o) k ≡ rest net k
     last-taken-at k =

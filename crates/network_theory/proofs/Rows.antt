@@ -9,23 +9,23 @@ use Rattle.cloud_points.specs.Queue.{up_to_limit}
 use Rattle.network_theory.specs.Net.{Node, Choice, Quiet, Failed, Short, Makes, Outcome, Turned, Took, Gave, Made, Idle, Done, Full, taken, given, makes, of_machine, remains, last_of, Last, open_ins, takes, with_hand, turn, IsQuiet, IsPart, count_views, count_points}
 use Rattle.network_theory.proofs.Turns.{either}
 
-count_views-append : {P : Type 0} (xs ys : List (Mark P)) → count_views (xs ++ ys) ≡ count_views xs + count_views ys
+pub count_views-append : {P : Type 0} (xs ys : List (Mark P)) → count_views (xs ++ ys) ≡ count_views xs + count_views ys
 count_views-append [] ys = omega arith
 count_views-append (At p ∷ xs) ys = count_views-append xs ys
 count_views-append (View_end ∷ xs) ys = omega (arith, count_views-append xs ys)
 count_views-append (End c ∷ xs) ys = count_views-append xs ys
 
-count_points-append : {P : Type 0} (xs ys : List (Mark P)) → count_points (xs ++ ys) ≡ count_points xs + count_points ys
+pub count_points-append : {P : Type 0} (xs ys : List (Mark P)) → count_points (xs ++ ys) ≡ count_points xs + count_points ys
 count_points-append [] ys = omega arith
 count_points-append (At p ∷ xs) ys = omega (arith, count_points-append xs ys)
 count_points-append (View_end ∷ xs) ys = count_points-append xs ys
 count_points-append (End c ∷ xs) ys = count_points-append xs ys
 
-no_views : {P : Type 0} (ps : List P) → count_views (map At ps) ≡ 0
+pub no_views : {P : Type 0} (ps : List P) → count_views (map At ps) ≡ 0
 no_views [] = refl
 no_views (p ∷ ps) = no_views ps
 
-all_points : {P : Type 0} (ps : List P) → count_points (map At ps) ≡ length ps
+pub all_points : {P : Type 0} (ps : List P) → count_points (map At ps) ≡ length ps
 all_points [] = refl
 all_points (p ∷ ps) = omega (arith, all_points ps)
 

@@ -10,7 +10,7 @@ use Rattle.network_theory.specs.Sound.{IsSound}
 use Rattle.network_theory.specs.Opening.{IsOpening}
 use Rattle.network_theory.specs.Due.{IsBelow, due, total}
 use Rattle.network_theory.specs.Flight.{in_flight}
-use Rattle.network_theory.specs.History.{number_of, ends_all, held, given_by, taken_from}
+use Rattle.network_theory.specs.History.{number_of, ends_all, held, given_by, taken_from, mark_points, points_taken_by, brings}
 use Rattle.network_theory.specs.Schedule.{run_schedule, IsSchedule, IsAllowedRun, IsQuietRun, KeepsLaws, IsFinal, end_of}
 
 -- each edge keeps the rule of a queue for what was given to it and taken from it, and a node is done exactly where it gave its End
@@ -61,6 +61,11 @@ pub record EndAlike {S P F : Type 0} (net : Net S P F) (root cap : ℕ) (ts us :
 abbrev pub SchedulesAgree : Type 0 → Type 0 → Type 0 → Type 0
 SchedulesAgree S P F = (net : Net S P F) (root cap : ℕ) (ts us : List (ℕ × Choice S P F)) → IsOpening net root → KeepsLaws net → IsQuietRun net root cap ts → IsQuietRun net root cap us →
     IsFinal (run_schedule net root cap ts) root → IsFinal (run_schedule net root cap us) root → (k : ℕ) → k ≤ root → EndAlike net root cap ts us k
+
+-- without an event, what a node took and what its inputs still bring are the points that they brought at the start
+abbrev pub PointsComeInOrder : Type 0 → Type 0 → Type 0 → Type 0
+PointsComeInOrder S P F = (net : Net S P F) (root cap : ℕ) (ts : List (ℕ × Choice S P F)) → IsOpening net root → KeepsLaws net → IsQuietRun net root cap ts →
+    (k : ℕ) → mark_points (brings net k) ≡ points_taken_by net root cap ts k ++ mark_points (brings (run_schedule net root cap ts) k)
 
 -- a net at its start is sound, and stays so
 abbrev pub NetsStaySound : Type 0 → Type 0 → Type 0 → Type 0

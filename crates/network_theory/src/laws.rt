@@ -6,7 +6,7 @@ ghost use Rattle.cloud_points.specs.declared.faults.StageFault.{StageFault};
 ghost use Rattle.network_theory.specs.Depth.{depth};
 ghost use Rattle.network_theory.specs.Due.{IsBelow};
 ghost use Rattle.network_theory.specs.Forest.{IsForest, children};
-ghost use Rattle.network_theory.specs.Laws.{QueuesKeepOrder, RestStays, FlightIsBounded, SomeNodeMoves, DueFalls, OpeningOwes, SchedulesAgree, NetsStaySound, TurnsCarry};
+ghost use Rattle.network_theory.specs.Laws.{QueuesKeepOrder, RestStays, FlightIsBounded, SomeNodeMoves, DueFalls, OpeningOwes, SchedulesAgree, NetsStaySound, PointsComeInOrder, TurnsCarry};
 ghost use Rattle.network_theory.specs.Shape.{IsTree};
 
 use cloud_points::Work;
@@ -19,6 +19,11 @@ pub fn queues_keep_order<W: Work>(_work: &W)
 /// Without an event what is still to come is that of the opening net.
 pub fn rest_stays<W: Work>(_work: &W)
     ensures { RestStays W.State Point StageFault }
+{}
+
+/// Without an event each node takes the points that its inputs bring, in their order.
+pub fn points_come_in_order<W: Work>(_work: &W)
+    ensures { PointsComeInOrder W.State Point StageFault }
 {}
 
 /// Whatever the events, the points in flight are at most those of full queues of full chunks and one chunk a node.

@@ -5,6 +5,6 @@ mod laws;
 
 pub use laws::{
     due_falls, flight_is_bounded, forests_are_trees, nets_stay_sound, opening_owes,
-    queues_keep_order, rest_stays, schedules_agree, some_node_moves, trees_have_depths,
-    turns_carry,
+    points_come_in_order, queues_keep_order, rest_stays, schedules_agree, some_node_moves,
+    trees_have_depths, turns_carry,
 };

@@ -2,27 +2,43 @@
 use Rattle.std.proofs.Common.{◌≡◌, ℕ, List, [], ◌∷◌, take, codes, Option, Some, None, Result, Ok, Err, refl, pos, negsuc, ap, ◌∙◌}
 use Rattle.std.specs.Fmt.{digits}
 use Rattle.std.specs.Str.{is_utf8, chars}
+use Rattle.std.specs.Float.Numeral.{scan_numeral}
 use Rattle.std.proofs.Math.Utf8.{encode}
 use Rattle.json.specs.Json.{value}
 use Rattle.json.specs.Lex.{punctuate, lex}
 use Rattle.json.specs.Text.{content}
+use Rattle.json.specs.Word.{word, after_number}
+use Rattle.serde_json.specs.Read.{number_of}
 use Rattle.las_reader.specs.declared.las_header.HeaderFault.TheVariants.{NotLas}
 use Rattle.las_reader.specs.Headers.{LasFault, In_header, Not_built, header_of}
 use Rattle.cloud_points.specs.Points.{zero_point}
 use Rattle.las_reader.specs.Records.{points_from}
 use Rattle.las_reader.specs.Files.{Las, las_of}
 use Rattle.file_devices.specs.declared.devices.Op.TheVariants.{Open}
-use Rattle.lasline_top.specs.declared.run_report.Place.TheVariants.{Stage}
-use Rattle.lasline_top.specs.declared.refusal.Refusal.TheVariants.{Device}
-use Rattle.lasline_top.specs.declared.refusal.Refusal.{Refusal}
-use Rattle.lasline_top.specs.Refusals.{and_then}
-use Rattle.lasline_top.specs.Pipelines.{Chain, pipeline_of}
-use Rattle.lasline_top.specs.Answer.{Run, las_read, converted, piped, run_of, answer}
-use Rattle.worked_rows.specs.Rows.{run_p, files, files_with, pipeline_alone, pipeline_text, file_a, file_of_format_1, file_with_x, file_without_points}
+use Rattle.run_report.specs.declared.refusal.Place.TheVariants.{Stage}
+use Rattle.run_report.specs.declared.refusal.Refusal.TheVariants.{Device}
+use Rattle.run_report.specs.declared.refusal.Refusal.{Refusal}
+use Rattle.pipeline_json.specs.Pipelines.{Chain, pipeline_of}
+use Rattle.run_engine.specs.Refusals.{and_then}
+use Rattle.run_engine.specs.Runs.{Run, las_read, converted, run_of}
+use Rattle.lasline_top.specs.Answer.{piped, answer}
+use Rattle.worked_rows.specs.Rows.{run_p, files, files_with, pipeline_alone, pipeline_text, head_of_1, head_of_0, file_a, file_of_format_1, file_with_x, file_without_points, first_point, none_pass}
 
-chain_is : pipeline_of pipeline_text ≡ Some (record { from = codes "in.las"; to = codes "o.txt" })
+-- from the LAS file to the text file through these heads
+abbrev through : List ℕ → Chain
+through heads = record { from = codes "in.las"; heads = heads; to = codes "o.txt" }
+
+chain_is : pipeline_of pipeline_text ≡ Some (through [])
 unfolding is_utf8 chars encode value punctuate lex content
 chain_is = refl
+
+one_is : pipeline_of head_of_1 ≡ Some (through (1 ∷ []))
+unfolding is_utf8 chars encode value punctuate lex content word after_number number_of scan_numeral
+one_is = refl
+
+zero_is : pipeline_of head_of_0 ≡ Some (through (0 ∷ []))
+unfolding is_utf8 chars encode value punctuate lex content word after_number number_of scan_numeral
+zero_is = refl
 
 pub empty_array : pipeline_of (codes "[]") ≡ None
 unfolding is_utf8 chars encode value punctuate lex content
@@ -39,6 +55,18 @@ another_ending = refl
 pub numbered_name : pipeline_of (codes "[\"in.las\",\"o#.txt\"]") ≡ None
 unfolding is_utf8 chars encode value punctuate lex content
 numbered_name = refl
+
+pub head_first : pipeline_of (codes "[{\"type\":\"filters.head\"},\"in.las\",\"o.txt\"]") ≡ None
+unfolding is_utf8 chars encode value punctuate lex content
+head_first = refl
+
+pub further_member : pipeline_of (codes "[\"in.las\",{\"type\":\"filters.head\",\"tag\":\"a\"},\"o.txt\"]") ≡ None
+unfolding is_utf8 chars encode value punctuate lex content
+further_member = refl
+
+pub count_too_large : pipeline_of (codes "[\"in.las\",{\"type\":\"filters.head\",\"count\":4294967296},\"o.txt\"]") ≡ None
+unfolding is_utf8 chars encode value punctuate lex content word after_number number_of scan_numeral
+count_too_large = refl
 
 pub two_read : las_of file_a ≡ Ok (record { points = record zero_point { x = pos 1000000000; y = pos 2000000000; z = pos 3000000000 } ∷ record zero_point { x = negsuc 9999999; y = pos 0; z = pos 50000000 } ∷ []; cut = None })
 unfolding header_of points_from
@@ -77,12 +105,25 @@ unfolding header_of
 no_bytes = refl
 
 -- the run of the example's pipeline over a LAS file
-pub run_over : (las : List ℕ) (read : Result Las LasFault) → las_of las ≡ read → answer run_p (files las) ≡ and_then (las_read read) (converted (codes "o.txt"))
-run_over las read is = ap (λ chain. and_then (piped chain) (run_of (files las))) chain_is ∙ ap (λ r. and_then (las_read r) (converted (codes "o.txt"))) is
+pub run_over : (las : List ℕ) (read : Result Las LasFault) → las_of las ≡ read → answer run_p (files las) ≡ and_then (las_read read) (converted (through []))
+run_over las read is = ap (λ chain. and_then (piped chain) (run_of (files las))) chain_is ∙ ap (λ r. and_then (las_read r) (converted (through []))) is
 
 -- the run of another pipeline
 pub planned : (pipeline : List ℕ) (plan : Option Chain) → pipeline_of pipeline ≡ plan → and_then (piped (pipeline_of pipeline)) (run_of (files_with pipeline file_a)) ≡ and_then (piped plan) (run_of (files_with pipeline file_a))
 planned pipeline plan is = ap (λ chain. and_then (piped chain) (run_of (files_with pipeline file_a))) is
+
+-- the run of a pipeline with a head over the file of two points
+through_head : (pipeline : List ℕ) (count : ℕ) (read : Result Las LasFault) → pipeline_of pipeline ≡ Some (through (count ∷ [])) → las_of file_a ≡ read
+    → and_then (piped (pipeline_of pipeline)) (run_of (files_with pipeline file_a)) ≡ and_then (las_read read) (converted (through (count ∷ [])))
+through_head pipeline count read chain las = planned pipeline (Some (through (count ∷ []))) chain ∙ ap (λ r. and_then (las_read r) (converted (through (count ∷ [])))) las
+
+pub one_passes : answer run_p (files_with head_of_1 file_a) ≡ Ok first_point
+unfolding digits
+one_passes = through_head head_of_1 1 _ one_is two_read
+
+pub no_point_passes : answer run_p (files_with head_of_0 file_a) ≡ Ok none_pass
+unfolding digits
+no_point_passes = through_head head_of_0 0 _ zero_is two_read
 
 -- the pipeline's file is there, and its LAS file isn't
 pub absent_las : answer run_p pipeline_alone ≡ Err (Device (Stage 0) Open)

@@ -2,7 +2,7 @@
 use Rattle.std.specs.Prelude.{ℕ, List, [], ◌∷◌, ◌++◌, replicate, codes, Option, Some, None, if◌then◌else◌}
 use Rattle.std.specs.Str.{bytes_eq}
 use Rattle.file_devices.specs.Named.{Names}
-use Rattle.lasline_top.specs.Answer.{Output, Run}
+use Rattle.run_engine.specs.Runs.{Run}
 
 -- the binary64 word nearest to 0.01
 abbrev pub cent : List ℕ
@@ -43,6 +43,13 @@ files_with pipeline las = λ name. (if bytes_eq name (codes "p.json") then Some 
 abbrev pub pipeline_text : List ℕ
 pipeline_text = codes "[\"in.las\",\"o.txt\"]"
 
+-- the same with a head between
+abbrev pub head_of_1 : List ℕ
+head_of_1 = codes "[\"in.las\",{\"type\":\"filters.head\",\"count\":1},\"o.txt\"]"
+
+abbrev pub head_of_0 : List ℕ
+head_of_0 = codes "[\"in.las\",{\"type\":\"filters.head\",\"count\":0},\"o.txt\"]"
+
 abbrev pub files : List ℕ → Names
 files las = files_with pipeline_text las
 
@@ -51,6 +58,10 @@ pipeline_alone = λ name. (if bytes_eq name (codes "p.json") then Some pipeline_
 
 abbrev pub run_p : List (List ℕ)
 run_p = codes "run" ∷ codes "p.json" ∷ []
+
+-- the same command in the least pieces
+abbrev pub run_p_in_pieces : List (List ℕ)
+run_p_in_pieces = codes "run" ∷ codes "p.json" ∷ codes "--chunk" ∷ codes "1" ∷ codes "--queue" ∷ codes "1" ∷ []
 
 abbrev pub two_points : Run
 two_points = record {
@@ -62,4 +73,16 @@ abbrev pub no_points : Run
 no_points = record {
   outputs = record { name = codes "o.txt"; bytes = codes "\"X\",\"Y\",\"Z\"\n" } ∷ [];
   report = codes "stage 0 readers.las views 1 points 0\nstage 1 writers.text views 1 points 0 wrote 0\noutputs 1\n";
+}
+
+abbrev pub first_point : Run
+first_point = record {
+  outputs = record { name = codes "o.txt"; bytes = codes "\"X\",\"Y\",\"Z\"\n1.000,2.000,3.000\n" } ∷ [];
+  report = codes "stage 0 readers.las views 1 points 2\nstage 1 filters.head views 1 points 1\nstage 2 writers.text views 1 points 1 wrote 1\noutputs 1\n";
+}
+
+abbrev pub none_pass : Run
+none_pass = record {
+  outputs = record { name = codes "o.txt"; bytes = codes "\"X\",\"Y\",\"Z\"\n" } ∷ [];
+  report = codes "stage 0 readers.las views 1 points 2\nstage 1 filters.head views 1 points 0\nstage 2 writers.text views 1 points 0 wrote 0\noutputs 1\n";
 }

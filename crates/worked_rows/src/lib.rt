@@ -8,16 +8,27 @@ ghost use Rattle.file_devices.specs.declared.devices.Op.{Op};
 ghost use Rattle.las_reader.specs.declared.las_header.HeaderFault.{HeaderFault};
 ghost use Rattle.cloud_points.specs.declared.faults.PointFault.{PointFault};
 ghost use Rattle.lasline_top.specs.Answer.{answer};
-ghost use Rattle.lasline_top.specs.declared.refusal.Refusal.{Refusal};
-ghost use Rattle.lasline_top.specs.declared.run_report.Fault.{Fault};
-ghost use Rattle.lasline_top.specs.declared.run_report.Place.{Place};
-ghost use Rattle.worked_rows.specs.Rows.{run_p, file_a, file_of_format_1, file_with_x, file_without_points, files, files_with, pipeline_alone, two_points, no_points};
+ghost use Rattle.run_report.specs.declared.refusal.Refusal.{Refusal};
+ghost use Rattle.run_report.specs.declared.refusal.Fault.{Fault};
+ghost use Rattle.run_report.specs.declared.refusal.Place.{Place};
+ghost use Rattle.worked_rows.specs.Rows.{run_p, run_p_in_pieces, head_of_1, head_of_0, file_a, file_of_format_1, file_with_x, file_without_points, files, files_with, pipeline_alone, two_points, no_points, first_point, none_pass};
 
 /// A file of two points becomes 49 bytes of text and a report of three lines; one of no points becomes the names of
 /// the columns.
 pub fn whole_files_become_text()
     ensures two_points { answer run_p (files file_a) ≡ Ok two_points }
     ensures no_points { answer run_p (files file_without_points) ≡ Ok no_points }
+{}
+
+/// A head lets the first points of a view pass, and each stage is counted by what it gives on.
+pub fn heads_let_the_first_points_pass()
+    ensures one { answer run_p (files_with head_of_1 file_a) ≡ Ok first_point }
+    ensures none { answer run_p (files_with head_of_0 file_a) ≡ Ok none_pass }
+{}
+
+/// The pieces that a run is cut into change nothing, whatever files there are.
+pub fn pieces_change_nothing()
+    ensures { (m : Names) → answer run_p_in_pieces m ≡ answer run_p m }
 {}
 
 /// A file that can't be read whole is refused for its first fault.
@@ -39,12 +50,17 @@ pub fn pipelines_are_refused()
     ensures no_json { answer run_p (files_with (codes "[\"in.las\"") file_a) ≡ Err (Refusal.NotBuilt 2) }
     ensures another_ending { answer run_p (files_with (codes "[\"in.las\",\"o.laz\"]") file_a) ≡ Err (Refusal.NotBuilt 2) }
     ensures a_numbered_name { answer run_p (files_with (codes "[\"in.las\",\"o#.txt\"]") file_a) ≡ Err (Refusal.NotBuilt 2) }
+    ensures a_head_first { answer run_p (files_with (codes "[{\"type\":\"filters.head\"},\"in.las\",\"o.txt\"]") file_a) ≡ Err (Refusal.NotBuilt 2) }
+    ensures a_further_member { answer run_p (files_with (codes "[\"in.las\",{\"type\":\"filters.head\",\"tag\":\"a\"},\"o.txt\"]") file_a) ≡ Err (Refusal.NotBuilt 2) }
+    ensures a_count_too_large { answer run_p (files_with (codes "[\"in.las\",{\"type\":\"filters.head\",\"count\":4294967296},\"o.txt\"]") file_a) ≡ Err (Refusal.NotBuilt 2) }
 {}
 
-/// Other words than `run FILE` aren't built, whatever files there are.
+/// Other words than `run FILE` and its options aren't built, whatever files there are.
 pub fn words_are_refused()
     ensures none { (m : Names) → answer [] m ≡ Err (Refusal.NotBuilt 1) }
     ensures another_command { (m : Names) → answer (codes "fly" ∷ []) m ≡ Err (Refusal.NotBuilt 1) }
     ensures no_file { (m : Names) → answer (codes "run" ∷ []) m ≡ Err (Refusal.NotBuilt 1) }
     ensures one_more { (m : Names) → answer (codes "run" ∷ codes "p.json" ∷ codes "--chunk" ∷ []) m ≡ Err (Refusal.NotBuilt 1) }
+    ensures chunk_of_none { (m : Names) → answer (codes "run" ∷ codes "p.json" ∷ codes "--chunk" ∷ codes "0" ∷ []) m ≡ Err (Refusal.NotBuilt 1) }
+    ensures an_option_twice { (m : Names) → answer (codes "run" ∷ codes "p.json" ∷ codes "--chunk" ∷ codes "1" ∷ codes "--chunk" ∷ codes "1" ∷ []) m ≡ Err (Refusal.NotBuilt 1) }
 {}

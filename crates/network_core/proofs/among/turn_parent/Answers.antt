@@ -1,13 +1,15 @@
-use Rattle.std.proofs.Common.{◌≢◌, ◌<◌, ◌++◌, false, true, ap, sym, ◌∙◌, length, arith}
+use Rattle.std.proofs.Common.{◌≢◌, ◌<◌, ◌++◌, false, true, ap, subst, sym, ◌∙◌, length, arith}
 use Rattle.std.specs.Prelude.{slice_set, slice_index_or}
 use Rattle.std.proofs.lemmas.Bool.{eq-eqb}
 use Rattle.circular_buffer.specs.Buffer.{Buffer}
 use Rattle.cloud_points.specs.declared.item.Item.{Item}
 use Rattle.cloud_points.specs.Bodies.{bodies}
 use Rattle.network_theory.specs.Net as net
-use Rattle.network_core.specs.Shown.{choice, shown, left}
+use Rattle.network_core.specs.Shown.{choice, shown, left, turned}
 use Rattle.network_core.specs.Wires.{queue_at}
 use Rattle.network_core.proofs.Edges.{ne-eqb, queue-set_here, queue-set_other, queue_there, joined-child, joined-here, was-child, was-here, joined-rooms}
+use Rattle.network_theory.specs.History.{points_taken}
+use Rattle.network_core.specs.Holding.{HoldsMore}
 use Rattle.network_core.proofs.among.turn_parent.Goals as goal
 
 pub returns-then-at-edges-clause-row : goal.returns-then-at-edges-clause-row
@@ -49,3 +51,15 @@ returns-clause-rooms g c =
     let old_here = was-here c.args.edges.now c.split_at_mut-front.result.0.now c.split_at_mut-front.result.1.now c.args.at c.args.c s.value s.front_len c.requires.child lt p q c.index-back-0.result in
     joined-rooms c.args.edges.now c.split_at_mut-front.result.0.now c.split_at_mut-front.result.1.now c.args.at c.args.c s.value s.front_len c.requires.child lt p q
     (c.turn_inner.ensures.room.0 ∙ ap (λ (x : Buffer Item). x.capacity) old_child) (c.turn_inner.ensures.room.1 ∙ ap (λ (x : Buffer Item). x.capacity) old_here)
+
+pub returns-then-at-edges-clause-holds : goal.returns-then-at-edges-clause-holds
+returns-then-at-edges-clause-holds g c =
+    let lt : c.args.c < length c.args.edges.now = (let r = c.requires.child in let e = c.if-at-edges.true in omega (arith, r, e)) in
+    subst (λ (q : Buffer Item). HoldsMore g.W.Work c.args.node.now c.turn_root.new.self (points_taken (turned c.turn_root.result) (bodies q.items))) (queue_there c.args.edges.now c.args.c c.index-edges-c.result lt) c.turn_root.ensures.holds
+
+pub returns-clause-holds : goal.returns-clause-holds
+returns-clause-holds g c =
+    let s = c.split_at_mut-front.ensures in
+    let lt : c.args.at < length c.args.edges.now = (let r = c.requires.within in let e = c.if-at-edges.false in omega (arith, r, e)) in
+    let old_child = was-child c.args.edges.now c.split_at_mut-front.result.0.now c.split_at_mut-front.result.1.now c.args.at c.args.c s.value s.front_len c.requires.child lt c.turn_inner.new.input c.turn_inner.new.out c.index-front-c.result in
+    subst (λ (q : Buffer Item). HoldsMore g.W.Work c.args.node.now c.turn_inner.new.self (points_taken (turned c.turn_inner.result) (bodies q.items))) old_child c.turn_inner.ensures.holds

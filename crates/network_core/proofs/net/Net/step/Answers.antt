@@ -4,9 +4,11 @@ use Rattle.std.proofs.lemmas.Option.{slice_get-get_or}
 use Rattle.circular_buffer.proofs.Places.{slice_get-set_other}
 use Rattle.network_theory.specs.Net as net
 use Rattle.network_theory.specs.Forest.{children}
+use Rattle.network_theory.specs.History.{points_in_step}
+use Rattle.network_core.specs.Holding.{HoldsMore}
 use Rattle.network_core.specs.Nets.{net_with, choice_of}
 use Rattle.network_core.specs.Wires.{queue_at, IsWired}
-use Rattle.network_core.proofs.Steps.{stepped, outcome, child-reads, wired-after, obeys-at, written}
+use Rattle.network_core.proofs.Steps.{stepped, outcome, taken-is, child-reads, wired-after, obeys-at, holds-at, written}
 use Rattle.network_core.proofs.net.Net.step.Goals as goal
 
 pub turn_among-requires-clause-more : goal.turn_among-requires-clause-more
@@ -67,4 +69,18 @@ returns-clause-obeys g c =
     record {
       here = λ x y e f. obeys-at g.W.Work c.args.self.now.nodes.items c.args.i c.index_mut-node.result.now c.turn_among.new.node x y c.requires there c.turn_among.ensures.obeys e f;
       others = λ k ne. slice_get-set_other c.args.self.now.nodes.items c.args.i k c.turn_among.new.node ne;
+      holds = λ beyond x y e f.
+          let value = c.as_mut_slice.ensures.value in
+          let w = c.args.self.now.wired in
+          let t = c.turn_among.ensures in
+          let s = taken-is g.W.Work beyond c.args.self.now.nodes.items c.args.self.now.ins c.as_mut_slice.result.now c.turn_among.new.edges c.args.self.now.capacity c.args.i c.index_mut-node.result.now c.turn_among.new.node c.current_child-child.result c.turn_among.result
+          c.requires there c.current_child-child.ensures (w.inputs c.args.i c.index_mut-node.result.now there)
+          (let l = ap length value in let e = w.edges in let r = c.requires in omega (arith, l, e, r))
+          (λ k h. ap (λ q. (queue_at q k).capacity) value ∙ w.rooms k (subst (λ (z : ℕ). k < z) (ap length value) h))
+          (t.row (children c.args.self.now.ins c.args.i)) t.above t.left t.others in
+          let root : length c.as_mut_slice.result.now ≡ length c.args.self.now.nodes.items - 1 = (let l = ap length value in let e = w.edges in omega (arith, l, e)) in
+          let taken = s
+          ∙ ap (λ q. points_in_step (net_with g.W.Work beyond c.args.self.now.nodes.items c.args.self.now.ins q) (length c.as_mut_slice.result.now) c.args.self.now.capacity c.args.i (choice_of g.W.Work (slice_get c.args.self.now.nodes.items c.args.i) (slice_get (slice_set c.args.self.now.nodes.items c.args.i c.turn_among.new.node) c.args.i)) c.args.i) value
+          ∙ ap (λ r. points_in_step (net_with g.W.Work beyond c.args.self.now.nodes.items c.args.self.now.ins c.args.self.now.edges.items) r c.args.self.now.capacity c.args.i (choice_of g.W.Work (slice_get c.args.self.now.nodes.items c.args.i) (slice_get (slice_set c.args.self.now.nodes.items c.args.i c.turn_among.new.node) c.args.i)) c.args.i) root in
+          holds-at g.W.Work c.args.self.now.nodes.items c.args.i c.index_mut-node.result.now c.turn_among.new.node x y _ c.requires there (subst (HoldsMore g.W.Work c.index_mut-node.result.now c.turn_among.new.node) taken t.holds) e f;
     }

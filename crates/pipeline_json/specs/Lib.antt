@@ -1,0 +1,2 @@
+pub mod Pipelines
+pub mod Shown

@@ -1,0 +1,93 @@
+//! What the stages of a run came to.
+
+ghost use Rattle.std.specs.Prelude.{◌≡◌, ◌<◌, ◌≤◌, ◌==◌, ℕ, length, map, cond, Some, None, IfOk, IfErr, IfSome, IfNone};
+ghost use Rattle.cloud_points.specs.Events.{is_device};
+ghost use Rattle.run_engine.specs.Outcomes.{NoDevice, DeviceAt, PointFaultAt, NoPointFault, NoFault, IsOutcome, point_fault, count_at, op_at};
+
+use arrayvec::ArrayVec;
+use cloud_points::{PointFault, StageFault, Work};
+use file_devices::Op;
+use network_core::Node;
+use run_report::{Fault, Place, Refusal, StageCount};
+
+/// How many views and points each stage of a run gave on, in the order of the stages, which are at most 64.
+pub type Counts = ArrayVec<StageCount, 64>;
+
+fn is_device(fault: Option<StageFault>) -> bool
+    ensures { result ≡ is_device fault }
+{
+    matches!(fault, Some(StageFault::Device(_)))
+}
+
+/// The first stage whose device failed.
+fn failed_stage<W: Work>(nodes: &[Node<W>]) -> Option<usize>
+    ensures some { IfSome result (λ i. DeviceAt nodes.now i) }
+    ensures none { IfNone result (NoDevice nodes.now (length nodes.now)) }
+{
+    for i in 0..nodes.len() {
+        if is_device(nodes[i].fault()) {
+            return Some(i);
+        }
+    }
+    None
+}
+
+fn point_fault(fault: Option<StageFault>) -> Option<PointFault>
+    ensures { result ≡ point_fault fault }
+{
+    match fault {
+        Some(StageFault::Point(fault)) => Some(fault),
+        _ => None,
+    }
+}
+
+/// The first stage whose points have a fault, and that fault.
+fn faulty_stage<W: Work>(nodes: &[Node<W>]) -> Option<(usize, PointFault)>
+    ensures some { IfSome result (λ r. PointFaultAt nodes.now r.0 r.1) }
+    ensures none { IfNone result (NoPointFault nodes.now (length nodes.now)) }
+{
+    for i in 0..nodes.len() {
+        if let Some(fault) = point_fault(nodes[i].fault()) {
+            return Some((i, fault));
+        }
+    }
+    None
+}
+
+/// What each stage gave on.
+fn counts<W: Work>(nodes: &[Node<W>]) -> Counts
+    requires { length nodes.now ≤ 64 }
+    ensures { result.items ≡ map count_at nodes.now }
+{
+    let mut counts = Counts::new();
+    for node in nodes {
+        counts.push(StageCount {
+            views: node.views(),
+            points: node.points(),
+        });
+    }
+    counts
+}
+
+/// The operation that a stage's device does in turns: the first stage reads, and the last one writes.
+fn op_at(stage: usize) -> Op
+    ensures { result ≡ op_at stage }
+{
+    if stage == 0 { Op::Read } else { Op::Write }
+}
+
+/// What a run came to whose nodes are done: the least stage whose device failed, or else the least stage whose points have a
+/// fault, or else what each stage gave on.
+pub(crate) fn outcome<W: Work>(nodes: &[Node<W>]) -> Result<Counts, Refusal>
+    requires { length nodes.now ≤ 64 }
+    ensures ok { IfOk result (λ counts. NoFault nodes.now × (counts.items ≡ map count_at nodes.now)) }
+    ensures err { IfErr result (IsOutcome nodes.now) }
+{
+    if let Some(stage) = failed_stage(nodes) {
+        return Err(Refusal::Device(Place::Stage(stage as u32), op_at(stage)));
+    }
+    if let Some((stage, fault)) = faulty_stage(nodes) {
+        return Err(Refusal::Data(stage as u32, Fault::Point(fault)));
+    }
+    Ok(counts(nodes))
+}

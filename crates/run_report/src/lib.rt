@@ -1,0 +1,11 @@
+//! What is printed of a run: its report, or the line that says why it was refused.
+#![tactic(auto)]
+
+mod faults;
+mod refusal;
+mod report;
+mod text;
+
+pub use faults::fault_text;
+pub use refusal::{Fault, Place, Refusal};
+pub use report::{StageCount, report_text};

@@ -1,0 +1,44 @@
+//! Why a command ends without its outputs.
+
+use cloud_points::PointFault;
+use file_devices::Op;
+use las_reader::HeaderFault;
+
+/// Where a device stands.
+#[derive(Clone, Copy, Debug, PartialEq, Eq)]
+pub enum Place {
+    /// The file of the pipeline.
+    PipelineFile,
+
+    /// The stage with this number.
+    Stage(u32),
+
+    /// The output of the program.
+    Out,
+}
+
+/// A fault in the data of a stage.
+#[derive(Clone, Copy, Debug, PartialEq, Eq)]
+pub enum Fault {
+    /// In the header block of its file.
+    Header(HeaderFault),
+
+    /// At a point.
+    Point(PointFault),
+}
+
+/// Why a command ends without its outputs.
+#[derive(Clone, Copy, Debug, PartialEq, Eq)]
+pub enum Refusal {
+    /// The data of the stage with this number have a fault.
+    Data(u32, Fault),
+
+    /// A device failed, or a file that is to be read isn't there.
+    Device(Place, Op),
+
+    /// There was no memory.
+    Memory,
+
+    /// What was asked isn't built yet: 1 the words, 2 the pipeline, 3 the form of a LAS file.
+    NotBuilt(u8),
+}

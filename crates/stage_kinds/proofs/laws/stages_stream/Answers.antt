@@ -1,0 +1,10 @@
+use Rattle.stage_kinds.proofs.Streams as streams
+use Rattle.stage_kinds.proofs.laws.stages_stream.Goals as goal
+
+pub returns : goal.returns
+returns c = record {
+  head_gives = streams.head_gives;
+  head_sound = streams.head_sound;
+  text_gives = streams.text_gives;
+  text_sound = streams.text_sound;
+}

@@ -1,0 +1,102 @@
+-- What a reader still gives of its file.
+use Rattle.std.specs.Prelude.{ℕ, ◌-◌, nat_le, Bool, true, false, List, [], ◌∷◌, ◌++◌, length, map, drop, Option, Some, None}
+use Rattle.cloud_points.specs.declared.point.Point.{Point}
+use Rattle.cloud_points.specs.declared.faults.StageFault.{StageFault}
+use Rattle.cloud_points.specs.declared.faults.StageFault.TheVariants as stage
+use Rattle.cloud_points.specs.declared.faults.PointFault.TheVariants.{Cut}
+use Rattle.cloud_points.specs.Flows.{Flow}
+use Rattle.cloud_points.specs.Marks.{Mark, At, View_end, End}
+use Rattle.las_reader.specs.Files.{Las, las_with}
+use Rattle.las_reader.specs.declared.reader.Progress.{Progress}
+use Rattle.las_reader.specs.declared.reader.Progress.TheVariants.{Records, ViewEnded, Ended}
+use Rattle.stage_kinds.specs.declared.kind.Kind.{Kind}
+use Rattle.stage_kinds.specs.declared.kind.Kind.TheVariants.{Reader, Head, Text}
+
+abbrev pub flow_with : List Point → Option ℕ → Flow Point
+flow_with points None = record { views = points ∷ []; open_view = []; cut = false }
+flow_with points (Some k) = record { views = []; open_view = points; cut = true }
+
+-- a whole file is one view, and a cut one an open view
+abbrev pub las_flow : Las → Flow Point
+las_flow las = flow_with las.points las.cut
+
+abbrev pub fault_with : Option ℕ → Option StageFault
+fault_with None = None
+fault_with (Some k) = Some (stage.Point (Cut k))
+
+-- the fault of a cut file: the number of the first record that isn't whole
+abbrev pub cut_fault : Las → Option StageFault
+cut_fault las = fault_with las.cut
+
+abbrev pub end_marks : Option ℕ → List (Mark Point)
+end_marks None = View_end ∷ End false ∷ []
+end_marks (Some k) = End true ∷ []
+
+-- what comes from a place in a file on
+abbrev pub rest_marks : Las → Progress → List (Mark Point)
+rest_marks las (Records given) = map At (drop given las.points) ++ end_marks las.cut
+rest_marks las ViewEnded = End false ∷ []
+rest_marks las (Ended cut) = []
+
+-- the fault that is still to come
+abbrev pub rest_fault : Las → Progress → Option StageFault
+rest_fault las (Records given) = cut_fault las
+rest_fault las ViewEnded = None
+rest_fault las (Ended cut) = None
+
+-- it isn't ended, nor past the whole records
+abbrev pub is_within : Las → Progress → Bool
+is_within las (Records given) = nat_le given (length las.points)
+is_within las ViewEnded = true
+is_within las (Ended cut) = false
+
+-- the same by the bytes that the source tells, and how many records the header counts
+abbrev pub tells_at : Option (List ℕ) → ℕ → Progress → Bool
+tells_at None count progress = false
+tells_at (Some file) count progress = is_within (las_with count file) progress
+
+abbrev pub told_at : Option (List ℕ) → ℕ → Progress → List (Mark Point)
+told_at None count progress = []
+told_at (Some file) count progress = rest_marks (las_with count file) progress
+
+abbrev pub told_fault_at : Option (List ℕ) → ℕ → Progress → Option StageFault
+told_fault_at None count progress = None
+told_fault_at (Some file) count progress = rest_fault (las_with count file) progress
+
+-- how many points and views are left at most
+abbrev pub points_left : ℕ → Progress → ℕ
+points_left count (Records given) = count - given
+points_left count ViewEnded = 0
+points_left count (Ended cut) = 0
+
+abbrev pub views_left : Progress → ℕ
+views_left (Records given) = 1
+views_left ViewEnded = 0
+views_left (Ended cut) = 0
+
+-- of a stage, by the bytes that a source tells: only a reader has something to give
+module _ {S K : Type 0} where
+  abbrev pub tells_of : (S → Option (List ℕ)) → Kind S K → Bool
+  tells_of bytes (Reader r) = tells_at (bytes r.source) r.count r.progress
+  tells_of bytes (Head h) = false
+  tells_of bytes (Text w) = false
+
+  abbrev pub told_of : (S → Option (List ℕ)) → Kind S K → List (Mark Point)
+  told_of bytes (Reader r) = told_at (bytes r.source) r.count r.progress
+  told_of bytes (Head h) = []
+  told_of bytes (Text w) = []
+
+  abbrev pub told_fault_of : (S → Option (List ℕ)) → Kind S K → Option StageFault
+  told_fault_of bytes (Reader r) = told_fault_at (bytes r.source) r.count r.progress
+  told_fault_of bytes (Head h) = None
+  told_fault_of bytes (Text w) = None
+
+  abbrev pub points_left_of : Kind S K → ℕ
+  points_left_of (Reader r) = points_left r.count r.progress
+  points_left_of (Head h) = 0
+  points_left_of (Text w) = 0
+
+  abbrev pub views_left_of : Kind S K → ℕ
+  views_left_of (Reader r) = views_left r.progress
+  views_left_of (Head h) = 0
+  views_left_of (Text w) = 0

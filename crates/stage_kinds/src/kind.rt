@@ -1,0 +1,106 @@
+//! The works of the stages.
+
+use crate::Head;
+use cloud_points::{Make, Spread, StageFault, Work};
+use file_devices::{Op, Sink, Source};
+use las_reader::LasReader;
+use text_writer::TextWriter;
+
+/// What a stage remembers while it runs.
+#[derive(Clone, Copy, Debug, PartialEq, Eq)]
+pub enum StageState {
+    /// A reader takes no points, and remembers nothing of them.
+    Reading,
+
+    /// A head still lets so many points of this view pass.
+    Heading(u32),
+
+    /// A writer remembers nothing of its points but what its sink holds.
+    Writing,
+}
+
+/// The work of a stage.
+pub enum Kind<S, K> {
+    /// Reads the points of a LAS file.
+    Reader(LasReader<S>),
+
+    /// Lets the first points of each view pass.
+    Head(Head),
+
+    /// Writes each point as a line of text, and lets it pass.
+    Text(TextWriter<K>),
+}
+
+impl<S: Source, K: Sink> Work for Kind<S, K> {
+    ghost use Rattle.stage_kinds.specs.Stages.{state_of, meaning_of, is_reader, faults_of, holds_of};
+    ghost use Rattle.stage_kinds.specs.Reads.{tells_of, told_of, told_fault_of, points_left_of, views_left_of};
+    ghost use Rattle.stage_kinds.specs.Keeps.{meaning_keeps};
+    ghost use Rattle.std.specs.Prelude.{false};
+
+    type State = StageState;
+
+    ghost state = { λ k. state_of k };
+
+    ghost meaning = { λ k. meaning_of k };
+
+    ghost leaf = { λ k. is_reader k };
+
+    ghost short = { λ _. false };
+
+    ghost faults = { λ k. faults_of S.faults K.faults k };
+
+    ghost tells = { λ k. tells_of S.bytes k };
+
+    ghost told = { λ k. told_of S.bytes k };
+
+    ghost told_fault = { λ k. told_fault_of S.bytes k };
+
+    ghost points_left = { λ k. points_left_of k };
+
+    ghost views_left = { λ k. views_left_of k };
+
+    ghost holds = { λ k points. holds_of K.bytes k points };
+
+    ghost cutting = { λ k. meaning_keeps k };
+
+    fn is_leaf(&self) -> bool {
+        matches!(self, Kind::Reader(_))
+    }
+
+    fn make(&mut self, chunk: usize, into: &mut Spread) -> Make {
+        match self {
+            Kind::Reader(reader) => reader.next(chunk, into),
+            Kind::Head(_) | Kind::Text(_) => unreachable!(),
+        }
+    }
+
+    fn on_chunk(&mut self, points: &mut Spread) -> Option<StageFault> {
+        match self {
+            Kind::Reader(_) => unreachable!(),
+            Kind::Head(head) => {
+                head.pass(points);
+                None
+            }
+            Kind::Text(writer) => match writer.put(points) {
+                Ok(()) => None,
+                Err(_) => {
+                    points.clear();
+                    Some(StageFault::Device(Op::Write))
+                }
+            },
+        }
+    }
+
+    fn on_end_view(&mut self) -> bool {
+        match self {
+            Kind::Reader(_) => unreachable!(),
+            Kind::Head(head) => head.begin_view(),
+            Kind::Text(_) => {}
+        }
+        true
+    }
+
+    fn on_end(&mut self, _cut: bool) -> bool {
+        false
+    }
+}

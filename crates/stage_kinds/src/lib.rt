@@ -1,0 +1,13 @@
+//! The stages of a pipeline: what each does with the points of its inputs.
+#![tactic(auto)]
+
+mod head;
+mod kind;
+mod laws;
+
+pub use head::Head;
+pub use kind::{Kind, StageState};
+pub use laws::stages_stream;
+
+#[cfg(test)]
+mod tests;
