@@ -6,7 +6,7 @@ mod solo;
 mod status;
 mod words;
 
-pub use run_report::{Fault, Place, Refusal, fault_text, report_text};
+pub use run_report::{Fault, Place, Refusal, StageCount, fault_text, report_text};
 pub use solo::lasline_solo;
 pub use status::Status;
 

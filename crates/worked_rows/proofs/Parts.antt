@@ -17,10 +17,9 @@ use Rattle.las_reader.specs.Files.{Las, las_of}
 use Rattle.file_devices.specs.declared.devices.Op.TheVariants.{Open}
 use Rattle.run_report.specs.declared.refusal.Place.TheVariants.{Stage}
 use Rattle.run_report.specs.declared.refusal.Refusal.TheVariants.{Device}
-use Rattle.run_report.specs.declared.refusal.Refusal.{Refusal}
 use Rattle.pipeline_json.specs.Pipelines.{Chain, pipeline_of}
 use Rattle.run_engine.specs.Refusals.{and_then}
-use Rattle.run_engine.specs.Runs.{Run, las_read, converted, run_of}
+use Rattle.run_engine.specs.Runs.{las_read, converted, run_of}
 use Rattle.lasline_top.specs.Answer.{piped, answer}
 use Rattle.worked_rows.specs.Rows.{run_p, files, files_with, pipeline_alone, pipeline_text, head_of_1, head_of_0, file_a, file_of_format_1, file_with_x, file_without_points, first_point, none_pass}
 

@@ -1,4 +1,4 @@
-use Rattle.std.proofs.Common.{refl, take, []}
+use Rattle.std.proofs.Common.{take, []}
 use Rattle.worked_rows.specs.Rows.{file_a, file_of_format_1, file_with_x}
 use Rattle.worked_rows.proofs.Parts.{run_over, absent_las, cut_at_1, cut_at_0, other_format, short_header, other_signature, short_signature, no_bytes}
 use Rattle.worked_rows.proofs.files_are_refused.Goals as goal

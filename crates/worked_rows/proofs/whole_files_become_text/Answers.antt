@@ -1,4 +1,3 @@
-use Rattle.std.proofs.Common.{refl, ◌∙◌}
 use Rattle.std.specs.Fmt.{digits}
 use Rattle.worked_rows.specs.Rows.{file_a, file_without_points}
 use Rattle.worked_rows.proofs.Parts.{run_over, two_read, none_read}

@@ -1,0 +1,138 @@
+//! Writes the header.
+
+ghost use Rattle.std.specs.Prelude.{◌≡◌, ◌+◌, ◌*◌, ◌≤◌, ◌++◌, length};
+ghost use Rattle.std.specs.List.{flat_map};
+ghost use Rattle.std.specs.Int.{w32, w64, to_le_bytes};
+ghost use Rattle.arrayvec.specs.ArrayVec.{array_vec_len};
+ghost use Rattle.las_header.specs.Written.{nano_bytes, scale_bytes, file_part, record_part, grid_part, count_part, header_bytes};
+
+use crate::Header;
+use arrayvec::ArrayVec;
+use decimal_coords::Scale;
+use ieee_words::near;
+
+fn put<const CAP: usize>(part: &mut ArrayVec<u8, CAP>, bytes: &[u8])
+    requires { array_vec_len part.old + length bytes.now ≤ CAP }
+    ensures items { part.new.items ≡ part.old.items ++ bytes.now }
+    ensures len { array_vec_len part.new ≡ array_vec_len part.old + length bytes.now }
+{
+    match part.try_extend_from_slice(bytes) {
+        Ok(()) => (),
+        Err(_) => unreachable!(),
+    }
+}
+
+fn put_u32s<const CAP: usize>(part: &mut ArrayVec<u8, CAP>, numbers: &[u32])
+    requires { array_vec_len part.old + 4 * length numbers.now ≤ CAP }
+    ensures items { part.new.items ≡ part.old.items ++ flat_map (to_le_bytes w32) numbers.now }
+    ensures len { array_vec_len part.new ≡ array_vec_len part.old + 4 * length numbers.now }
+{
+    for number in numbers {
+        put(part, &number.to_le_bytes());
+    }
+}
+
+fn put_u64s<const CAP: usize>(part: &mut ArrayVec<u8, CAP>, numbers: &[u64])
+    requires { array_vec_len part.old + 8 * length numbers.now ≤ CAP }
+    ensures items { part.new.items ≡ part.old.items ++ flat_map (to_le_bytes w64) numbers.now }
+    ensures len { array_vec_len part.new ≡ array_vec_len part.old + 8 * length numbers.now }
+{
+    for number in numbers {
+        put(part, &number.to_le_bytes());
+    }
+}
+
+fn put_scales<const CAP: usize>(part: &mut ArrayVec<u8, CAP>, scales: &[Scale])
+    requires { array_vec_len part.old + 8 * length scales.now ≤ CAP }
+    ensures items { part.new.items ≡ part.old.items ++ flat_map scale_bytes scales.now }
+    ensures len { array_vec_len part.new ≡ array_vec_len part.old + 8 * length scales.now }
+{
+    for scale in scales {
+        let word = near(scale.nano(), 9);
+        put(part, &word.to_le_bytes());
+    }
+}
+
+fn put_offsets<const CAP: usize>(part: &mut ArrayVec<u8, CAP>, offsets: &[i64])
+    requires { array_vec_len part.old + 8 * length offsets.now ≤ CAP }
+    ensures items { part.new.items ≡ part.old.items ++ flat_map nano_bytes offsets.now }
+    ensures len { array_vec_len part.new ≡ array_vec_len part.old + 8 * length offsets.now }
+{
+    for offset in offsets {
+        let word = near(*offset, 9);
+        put(part, &word.to_le_bytes());
+    }
+}
+
+#[tactic(auto, unfolding(crate::specs::Written::file_part))]
+fn file_part(h: &Header) -> ArrayVec<u8, 94>
+    ensures items { result.items ≡ file_part h.now }
+    ensures len { array_vec_len result ≡ 94 }
+{
+    let mut part = ArrayVec::new();
+    put(&mut part, &h.signature);
+    put(&mut part, &h.source_id.to_le_bytes());
+    put(&mut part, &h.encoding.to_le_bytes());
+    put(&mut part, &h.guid);
+    put(&mut part, &[h.major, h.minor]);
+    put(&mut part, &h.system);
+    put(&mut part, &h.software);
+    put(&mut part, &h.day.to_le_bytes());
+    put(&mut part, &h.year.to_le_bytes());
+    part
+}
+
+#[tactic(auto, unfolding(crate::specs::Written::record_part))]
+fn record_part(h: &Header) -> ArrayVec<u8, 37>
+    ensures items { result.items ≡ record_part h.now }
+    ensures len { array_vec_len result ≡ 37 }
+{
+    let mut part = ArrayVec::new();
+    put(&mut part, &h.header_size.to_le_bytes());
+    put(&mut part, &h.points_at.to_le_bytes());
+    put(&mut part, &h.vlrs.to_le_bytes());
+    put(&mut part, &[h.format.number()]);
+    put(&mut part, &h.record_length.to_le_bytes());
+    put(&mut part, &h.legacy_count.to_le_bytes());
+    put_u32s(&mut part, &h.legacy_returns);
+    part
+}
+
+#[tactic(auto, unfolding(crate::specs::Written::grid_part))]
+fn grid_part(h: &Header) -> ArrayVec<u8, 96>
+    ensures items { result.items ≡ grid_part h.now }
+    ensures len { array_vec_len result ≡ 96 }
+{
+    let mut part = ArrayVec::new();
+    put_scales(&mut part, &h.scale);
+    put_offsets(&mut part, &h.offset);
+    put_u64s(&mut part, &h.bounds);
+    part
+}
+
+#[tactic(auto, unfolding(crate::specs::Written::count_part))]
+fn count_part(h: &Header) -> ArrayVec<u8, 148>
+    ensures items { result.items ≡ count_part h.now }
+    ensures len { array_vec_len result ≡ 148 }
+{
+    let mut part = ArrayVec::new();
+    put(&mut part, &h.waveform.to_le_bytes());
+    put(&mut part, &h.evlrs_at.to_le_bytes());
+    put(&mut part, &h.evlrs.to_le_bytes());
+    put(&mut part, &h.count.to_le_bytes());
+    put_u64s(&mut part, &h.returns);
+    part
+}
+
+/// Writes the 375 bytes of a header: each field at its place, the numbers with their lowest byte first, the scales
+/// and offsets as the binary64 words nearest to them.
+pub fn write_header(h: &Header, out: &mut [u8; 375])
+    ensures { out.new ≡ header_bytes h.now }
+{
+    let mut block = ArrayVec::<u8, 375>::new();
+    put(&mut block, &file_part(h));
+    put(&mut block, &record_part(h));
+    put(&mut block, &grid_part(h));
+    put(&mut block, &count_part(h));
+    out.copy_from_slice(&block);
+}

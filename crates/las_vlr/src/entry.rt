@@ -1,0 +1,80 @@
+//! A variable length record, and why a list of them isn't read.
+ghost use Rattle.std.specs.Prelude.{◌≡◌};
+ghost use Rattle.las_vlr.specs.declared.entry.VlrErr.TheVariants.{Fault, Memory};
+
+use file_devices::Bytes;
+use std::alloc::AllocError;
+
+/// A variable length record, plain or extended.
+#[derive(Drop)]
+pub struct Vlr {
+    /// The reserved word at its beginning.
+    pub reserved: u16,
+
+    /// The id of the user that defined it, filled with zero bytes.
+    pub user: [u8; 16],
+
+    /// Its number among those of this user.
+    pub id: u16,
+
+    /// The description, filled with zero bytes.
+    pub text: [u8; 32],
+
+    /// What it holds.
+    pub payload: Bytes,
+}
+
+/// Which of the two kinds of record a list has.
+#[derive(Clone, Copy, Debug, PartialEq, Eq)]
+pub(crate) enum Form {
+    /// VLRs, which end where the points begin, at this place.
+    Plain(u64),
+
+    /// EVLRs.
+    Extended,
+}
+
+/// What is wrong with a list of records. A record is named by its number, from 0 on.
+#[derive(Clone, Copy, Debug, PartialEq, Eq)]
+pub enum VlrFault {
+    /// There are more than 4,096 records, or their payloads have more than 16,777,216 bytes.
+    TooManyVlrs,
+
+    /// A VLR ends after the points begin.
+    VlrPastPoints(u32),
+
+    /// A VLR ends after the file.
+    VlrPastEnd(u32),
+
+    /// An EVLR ends after the file.
+    EvlrPastEnd(u32),
+}
+
+/// Why a list of records isn't read.
+#[derive(Clone, Copy, Debug, PartialEq, Eq)]
+pub enum VlrErr {
+    /// The list has a fault.
+    Fault(VlrFault),
+
+    /// A read failed.
+    ReadFailed,
+
+    /// There was no memory for the list.
+    Memory,
+}
+
+impl From<AllocError> for VlrErr {
+    ghost from_gives = { λ _ e. e ≡ Memory };
+
+    fn from(_: AllocError) -> Self {
+        VlrErr::Memory
+    }
+}
+
+impl From<VlrFault> for VlrErr {
+    ghost from_gives = { λ fault e. e ≡ Fault fault };
+
+    fn from(fault: VlrFault) -> Self {
+        VlrErr::Fault(fault)
+    }
+}

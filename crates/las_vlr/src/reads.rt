@@ -1,0 +1,295 @@
+//! Reading lists of variable length records.
+
+ghost use Rattle.std.specs.Prelude.{◌≡◌, ◌≢◌, ◌+◌, ◌-◌, ◌^◌, ◌<◌, ◌≤◌, ℕ, List, length, take, drop, max, Some, None, Ok, Err, IfOk, IfErr, OnOk, OnErr, vec_len};
+ghost use Rattle.file_devices.specs.Counts.{Rose};
+ghost use Rattle.las_vlr.specs.Bytes.{number_at, piece};
+ghost use Rattle.las_vlr.specs.Vlrs.{head_size, payload_length, entry_size, entry_of, past, entry_fault, entries, vlrs_of, evlrs_of, IsRefusal, IsFault, IsInFront, MayReach};
+
+use crate::entry::Form;
+use crate::{Vlr, VlrErr, VlrFault, VlrList};
+use file_devices::{Bytes, Source, fill};
+use std::alloc::{AllocError, Global};
+
+/// The most records of a list.
+const MOST_VLRS: u32 = 4096;
+
+/// The most bytes of all payloads of a list.
+const MOST_PAYLOAD: u64 = 16_777_216;
+
+/// The bytes of the longest head.
+const MOST_HEAD: usize = 60;
+
+/// The bytes in front of the payload.
+fn head_size(form: Form) -> usize
+    ensures { result ≡ head_size form }
+{
+    match form {
+        Form::Plain(_) => 54,
+        Form::Extended => 60,
+    }
+}
+
+fn u16_at(bytes: &[u8], at: usize) -> u16
+    requires { at + 2 ≤ length bytes.now }
+    ensures { result ≡ number_at at 2 bytes.now }
+{
+    u16::from_le_bytes([bytes[at], bytes[at + 1]])
+}
+
+fn u64_at(bytes: &[u8], at: usize) -> u64
+    requires { at + 8 ≤ length bytes.now }
+    ensures { result ≡ number_at at 8 bytes.now }
+{
+    u64::from_le_bytes([
+        bytes[at],
+        bytes[at + 1],
+        bytes[at + 2],
+        bytes[at + 3],
+        bytes[at + 4],
+        bytes[at + 5],
+        bytes[at + 6],
+        bytes[at + 7],
+    ])
+}
+
+/// The length of the payload that a head announces.
+fn payload_length(form: Form, head: &[u8]) -> u64
+    requires { MOST_HEAD ≤ length head.now }
+    ensures { result ≡ payload_length form head.now }
+{
+    match form {
+        Form::Plain(_) => u64::from(u16_at(head, 20)),
+        Form::Extended => u64_at(head, 20),
+    }
+}
+
+/// The place `size` bytes behind another, where record `number` may reach up to it.
+fn end_of(form: Form, number: u32, at: u64, size: u64) -> Result<u64, VlrFault>
+    ensures ok { IfOk result (λ end. (end ≡ at + size) × MayReach form end) }
+    ensures err { IfErr result (λ fault. (file : List ℕ) → length file < 2 ^ 64 → past form number (at + size) file ≡ Some fault) }
+{
+    match form {
+        Form::Plain(points_at) => match at.checked_add(size) {
+            Some(end) if end <= points_at => Ok(end),
+            _ => Err(VlrFault::VlrPastPoints(number)),
+        },
+        Form::Extended => at.checked_add(size).ok_or(VlrFault::EvlrPastEnd(number)),
+    }
+}
+
+/// The fault of record `number` where it ends after the file.
+fn past_file(form: Form, number: u32) -> VlrFault
+    ensures { (end : ℕ) (file : List ℕ) → MayReach form end → length file < end → past form number end file ≡ Some result }
+{
+    match form {
+        Form::Plain(_) => VlrFault::VlrPastEnd(number),
+        Form::Extended => VlrFault::EvlrPastEnd(number),
+    }
+}
+
+/// Reads the bytes of record `number` from a place on, as many as the slice holds.
+fn read_piece<S: Source>(
+    source: &mut S,
+    form: Form,
+    number: u32,
+    at: u64,
+    into: &mut [u8],
+) -> Result<(), VlrErr>
+    requires some { 0 < length into.old }
+    ensures fits { OnOk result (at + length into.old < 2 ^ 64) }
+    ensures whole { OnOk result ((file : List ℕ) → S.bytes source.old ≡ Some file → past form number (at + length into.old) file ≡ None) }
+    ensures piece { OnOk result ((file : List ℕ) → S.bytes source.old ≡ Some file → into.new ≡ take (length into.old) (drop at file)) }
+    ensures fault { IfErr result (λ e. (file : List ℕ) → S.bytes source.old ≡ Some file → IsFault (past form number (at + length into.old) file) e) }
+    ensures failed { result ≡ Err VlrErr.ReadFailed → Rose (S.faults source.old) (S.faults source.new) }
+    ensures later { S.faults source.old ≤ S.faults source.new }
+    ensures in_front { IsInFront form (S.reached source.old) (S.reached source.new) }
+    ensures same { S.bytes source.new ≡ S.bytes source.old }
+{
+    end_of(form, number, at, into.len() as u64)?;
+    let Ok(count) = fill(source, at, into) else {
+        return Err(VlrErr::ReadFailed);
+    };
+    if count < into.len() {
+        return Err(VlrErr::Fault(past_file(form, number)));
+    }
+    Ok(())
+}
+
+/// Reads the payload of record `number`, whose head ends at a place. Memory for it is taken only once its last byte is
+/// there.
+fn read_payload<S: Source>(
+    alloc: Global,
+    source: &mut S,
+    form: Form,
+    number: u32,
+    at: u64,
+    size: u64,
+) -> Result<Bytes, VlrErr>
+    requires small { size ≤ MOST_PAYLOAD }
+    ensures fits { IfOk result (λ payload. at + size < 2 ^ 64) }
+    ensures size { IfOk result (λ payload. length payload ≡ size) }
+    ensures whole { IfOk result (λ payload. (file : List ℕ) → S.bytes source.old ≡ Some file → past form number at file ≡ None → past form number (at + size) file ≡ None) }
+    ensures piece { IfOk result (λ payload. (file : List ℕ) → S.bytes source.old ≡ Some file → payload ≡ take size (drop at file)) }
+    ensures fault { IfErr result (λ e. (file : List ℕ) → S.bytes source.old ≡ Some file → IsFault (past form number (at + size) file) e) }
+    ensures failed { result ≡ Err VlrErr.ReadFailed → Rose (S.faults source.old) (S.faults source.new) }
+    ensures later { S.faults source.old ≤ S.faults source.new }
+    ensures in_front { IsInFront form (S.reached source.old) (S.reached source.new) }
+    ensures same { S.bytes source.new ≡ S.bytes source.old }
+{
+    let end = end_of(form, number, at, size)?;
+    if size == 0 {
+        return Ok(Bytes::new(Vec::new(alloc)));
+    }
+    let mut last = [0u8; 1];
+    read_piece(source, form, number, end - 1, &mut last)?;
+    let mut payload = vec![in alloc; 0u8; size as usize]?;
+    read_piece(source, form, number, at, &mut payload)?;
+    Ok(Bytes::new(payload))
+}
+
+/// Reads the head of record `number`, which stands at a place, into the front of `head`.
+fn read_head<S: Source>(
+    source: &mut S,
+    form: Form,
+    number: u32,
+    at: u64,
+    head: &mut [u8],
+) -> Result<(), VlrErr>
+    requires room { length head.old ≡ MOST_HEAD }
+    ensures fits { OnOk result (at + head_size form < 2 ^ 64) }
+    ensures whole { OnOk result ((file : List ℕ) → S.bytes source.old ≡ Some file → past form number (at + head_size form) file ≡ None) }
+    ensures front { OnOk result ((file : List ℕ) → S.bytes source.old ≡ Some file → take (head_size form) head.new ≡ take (head_size form) (drop at file)) }
+    ensures fault { IfErr result (λ e. (file : List ℕ) → S.bytes source.old ≡ Some file → IsFault (past form number (at + head_size form) file) e) }
+    ensures failed { result ≡ Err VlrErr.ReadFailed → Rose (S.faults source.old) (S.faults source.new) }
+    ensures later { S.faults source.old ≤ S.faults source.new }
+    ensures in_front { IsInFront form (S.reached source.old) (S.reached source.new) }
+    ensures same { S.bytes source.new ≡ S.bytes source.old }
+{
+    let size = head_size(form);
+    read_piece(source, form, number, at, &mut head[..size])
+}
+
+/// The record with this head.
+fn with_payload(form: Form, head: &[u8], payload: Bytes) -> Vlr
+    requires { MOST_HEAD ≤ length head.now }
+    ensures { result ≡ record (entry_of form head.now) { payload = payload } }
+{
+    let size = head_size(form);
+    let mut user = [0u8; 16];
+    user.copy_from_slice(&head[2..18]);
+    let mut text = [0u8; 32];
+    text.copy_from_slice(&head[size - 32..size]);
+    Vlr {
+        reserved: u16_at(head, 0),
+        user,
+        id: u16_at(head, 18),
+        text,
+        payload,
+    }
+}
+
+/// Reads record `number`, which stands at a place, behind payloads of `before` bytes.
+fn read_entry<S: Source>(
+    alloc: Global,
+    source: &mut S,
+    form: Form,
+    number: u32,
+    at: u64,
+    before: u64,
+) -> Result<Vlr, VlrErr>
+    requires { before ≤ MOST_PAYLOAD }
+    ensures fits { IfOk result (λ vlr. at + (head_size form + length vlr.payload) < 2 ^ 64) }
+    ensures room { IfOk result (λ vlr. before + length vlr.payload ≤ MOST_PAYLOAD) }
+    ensures whole { IfOk result (λ vlr. (file : List ℕ) → S.bytes source.old ≡ Some file → entry_fault form number at before file ≡ None) }
+    ensures entry { IfOk result (λ vlr. (file : List ℕ) → S.bytes source.old ≡ Some file → vlr ≡ entry_of form (drop at file)) }
+    ensures size { IfOk result (λ vlr. (file : List ℕ) → S.bytes source.old ≡ Some file → length vlr.payload ≡ payload_length form (drop at file)) }
+    ensures fault { IfErr result (λ e. (file : List ℕ) → S.bytes source.old ≡ Some file → IsFault (entry_fault form number at before file) e) }
+    ensures failed { result ≡ Err VlrErr.ReadFailed → Rose (S.faults source.old) (S.faults source.new) }
+    ensures later { S.faults source.old ≤ S.faults source.new }
+    ensures in_front { IsInFront form (S.reached source.old) (S.reached source.new) }
+    ensures same { S.bytes source.new ≡ S.bytes source.old }
+{
+    let mut head = [0u8; MOST_HEAD];
+    read_head(source, form, number, at, &mut head)?;
+    let size = payload_length(form, &head);
+    if size > MOST_PAYLOAD - before {
+        return Err(VlrErr::Fault(VlrFault::TooManyVlrs));
+    }
+    let payload_at = at + head_size(form) as u64;
+    let payload = read_payload(alloc, source, form, number, payload_at, size)?;
+    Ok(with_payload(form, &head, payload))
+}
+
+/// Reads a list of records, which stand one behind another from a place.
+fn read_list<S: Source>(
+    alloc: Global,
+    source: &mut S,
+    form: Form,
+    start: u64,
+    count: u32,
+) -> Result<VlrList, VlrErr>
+    ensures ok { IfOk result (λ vlrs. (file : List ℕ) → S.bytes source.old ≡ Some file → entries form count start file ≡ Ok vlrs) }
+    ensures fault { IfErr result (λ e. (file : List ℕ) → S.bytes source.old ≡ Some file → IsRefusal (entries form count start file) e) }
+    ensures failed { result ≡ Err VlrErr.ReadFailed → Rose (S.faults source.old) (S.faults source.new) }
+    ensures later { S.faults source.old ≤ S.faults source.new }
+    ensures in_front { IsInFront form (S.reached source.old) (S.reached source.new) }
+    ensures same { S.bytes source.new ≡ S.bytes source.old }
+{
+    if count > MOST_VLRS {
+        return Err(VlrErr::Fault(VlrFault::TooManyVlrs));
+    }
+    let mut vlrs = Vec::new(alloc);
+    let mut at = start;
+    let mut before = 0;
+    for number in 0..count {
+        let vlr = read_entry(alloc, source, form, number, at, before)?;
+        let size = vlr.payload.as_slice().len() as u64;
+        at += head_size(form) as u64 + size;
+        before += size;
+        if vlrs.push(vlr).is_err() {
+            return Err(VlrErr::Memory);
+        }
+    }
+    Ok(VlrList::new(vlrs))
+}
+
+/// Reads the VLRs that stand one behind another from `start` on, `count` of them as the header says, in front of the
+/// points at `points_at`. No byte past `points_at` is asked for.
+///
+/// It answers the first fault of the list, `ReadFailed` only where a read failed, and `Memory` where there is none for
+/// the list. Memory for a payload is taken only once its last byte is there.
+pub fn read_vlrs<S: Source>(
+    alloc: Global,
+    source: &mut S,
+    start: u64,
+    points_at: u64,
+    count: u32,
+) -> Result<VlrList, VlrErr>
+    ensures ok { IfOk result (λ vlrs. (file : List ℕ) → S.bytes source.old ≡ Some file → vlrs_of start points_at count file ≡ Ok vlrs) }
+    ensures fault { IfErr result (λ e. (file : List ℕ) → S.bytes source.old ≡ Some file → IsRefusal (vlrs_of start points_at count file) e) }
+    ensures failed { result ≡ Err VlrErr.ReadFailed → Rose (S.faults source.old) (S.faults source.new) }
+    ensures later { S.faults source.old ≤ S.faults source.new }
+    ensures reached { S.reached source.new ≤ max (S.reached source.old) points_at }
+    ensures same { S.bytes source.new ≡ S.bytes source.old }
+{
+    read_list(alloc, source, Form::Plain(points_at), start, count)
+}
+
+/// Reads the EVLRs that stand one behind another from `at` on, `count` of them as the header says.
+///
+/// It answers the first fault of the list, `ReadFailed` only where a read failed, and `Memory` where there is none for
+/// the list. Memory for a payload is taken only once its last byte is there.
+pub fn read_evlrs<S: Source>(
+    alloc: Global,
+    source: &mut S,
+    at: u64,
+    count: u32,
+) -> Result<VlrList, VlrErr>
+    ensures ok { IfOk result (λ vlrs. (file : List ℕ) → S.bytes source.old ≡ Some file → evlrs_of at count file ≡ Ok vlrs) }
+    ensures fault { IfErr result (λ e. (file : List ℕ) → S.bytes source.old ≡ Some file → IsRefusal (evlrs_of at count file) e) }
+    ensures failed { result ≡ Err VlrErr.ReadFailed → Rose (S.faults source.old) (S.faults source.new) }
+    ensures later { S.faults source.old ≤ S.faults source.new }
+    ensures same { S.bytes source.new ≡ S.bytes source.old }
+{
+    read_list(alloc, source, Form::Extended, at, count)
+}

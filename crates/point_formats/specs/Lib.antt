@@ -1,0 +1,5 @@
+pub mod Grids
+pub mod Formats
+pub mod Records
+pub mod Encoded
+pub mod Laws

@@ -1,0 +1,17 @@
+//! Point data records (ASPRS LAS Specification 1.4 R15, "Point Data Record Format 0" to "8") and the points that they
+//! stand for.
+#![tactic(auto)]
+
+mod decoding;
+mod encoding;
+mod grid;
+mod laws;
+mod numbers;
+
+pub use decoding::decode;
+pub use encoding::{EncodeFault, encode};
+pub use grid::Grid;
+pub use laws::{numbers_return, records_are_whole};
+
+#[cfg(test)]
+mod tests;
