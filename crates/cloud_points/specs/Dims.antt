@@ -5,6 +5,31 @@ use Rattle.cloud_points.specs.declared.dims.Kind.TheVariants.{Fixed, Whole, Word
 use Rattle.cloud_points.specs.declared.dims.Dim.{Dim}
 use Rattle.cloud_points.specs.declared.dims.Dim.TheVariants.{X, Y, Z, Intensity, ReturnNumber, NumberOfReturns, ScanDirectionFlag, EdgeOfFlightLine, Classification, Synthetic, KeyPoint, Withheld, Overlap, ScanChannel, ScanAngleRank, UserData, PointSourceId, GpsTime, Red, Green, Blue, Infrared}
 
+-- the place of a dimension among all, from 0
+abbrev pub number_of : Dim → ℕ
+number_of X = 0
+number_of Y = 1
+number_of Z = 2
+number_of Intensity = 3
+number_of ReturnNumber = 4
+number_of NumberOfReturns = 5
+number_of ScanDirectionFlag = 6
+number_of EdgeOfFlightLine = 7
+number_of Classification = 8
+number_of Synthetic = 9
+number_of KeyPoint = 10
+number_of Withheld = 11
+number_of Overlap = 12
+number_of ScanChannel = 13
+number_of ScanAngleRank = 14
+number_of UserData = 15
+number_of PointSourceId = 16
+number_of GpsTime = 17
+number_of Red = 18
+number_of Green = 19
+number_of Blue = 20
+number_of Infrared = 21
+
 abbrev pub kind_of : Dim → Kind
 kind_of X = Fixed
 kind_of Y = Fixed

@@ -1,5 +1,6 @@
 pub mod Dims
 pub mod Points
+pub mod Layouts
 pub mod Flows
 pub mod Marks
 pub mod Meaning

@@ -1,5 +1,5 @@
 -- What a point has in each dimension.
-use Rattle.std.specs.Prelude.{ℕ, ◌*◌, ◌^◌, ℤ, pos, int_le, Bool, false, ◌&&◌, unsigned_abs, Option, Some, None, if◌then◌else◌}
+use Rattle.std.specs.Prelude.{ℕ, ◌*◌, ◌^◌, ℤ, pos, int_le, Bool, ◌&&◌, unsigned_abs, Option, Some, None, if◌then◌else◌}
 use Rattle.exact_numbers.specs.Rounding.{half_away}
 use Rattle.ieee_words.specs.Order.{order_number}
 use Rattle.cloud_points.specs.Dims.{kind_of, greatest, low_of, high_of}

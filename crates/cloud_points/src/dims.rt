@@ -1,7 +1,7 @@
 //! The dimensions of a point.
 
-ghost use Rattle.std.specs.Prelude.{◌≡◌, ◌≤◌, length};
-ghost use Rattle.cloud_points.specs.Dims.{kind_of, greatest, low_of, high_of, name_of};
+ghost use Rattle.std.specs.Prelude.{◌≡◌, ◌≤◌, ◌<◌, length};
+ghost use Rattle.cloud_points.specs.Dims.{number_of, kind_of, greatest, low_of, high_of, name_of};
 
 /// A dimension of a point, by its name in the ASPRS LAS Specification 1.4 R15 ("Point Data Records").
 #[derive(Clone, Copy, Debug, PartialEq, Eq)]
@@ -52,6 +52,9 @@ pub enum Dim {
     Infrared,
 }
 
+/// How many dimensions there are.
+pub(crate) const COUNT: usize = 22;
+
 /// How the values of a dimension are counted.
 #[derive(Clone, Copy, Debug, PartialEq, Eq)]
 pub enum Kind {
@@ -70,6 +73,37 @@ pub enum Kind {
 pub struct OutOfRange;
 
 impl Dim {
+    // Its place among all, from 0.
+    pub(crate) fn number(self) -> usize
+        ensures number { result ≡ number_of self }
+        ensures small { result < 22 }
+    {
+        match self {
+            Dim::X => 0,
+            Dim::Y => 1,
+            Dim::Z => 2,
+            Dim::Intensity => 3,
+            Dim::ReturnNumber => 4,
+            Dim::NumberOfReturns => 5,
+            Dim::ScanDirectionFlag => 6,
+            Dim::EdgeOfFlightLine => 7,
+            Dim::Classification => 8,
+            Dim::Synthetic => 9,
+            Dim::KeyPoint => 10,
+            Dim::Withheld => 11,
+            Dim::Overlap => 12,
+            Dim::ScanChannel => 13,
+            Dim::ScanAngleRank => 14,
+            Dim::UserData => 15,
+            Dim::PointSourceId => 16,
+            Dim::GpsTime => 17,
+            Dim::Red => 18,
+            Dim::Green => 19,
+            Dim::Blue => 20,
+            Dim::Infrared => 21,
+        }
+    }
+
     /// How its values are counted.
     pub fn kind(self) -> Kind
         ensures { result ≡ kind_of self }

@@ -1,4 +1,4 @@
-use crate::{Body, Chunk, Dim, Item, Point, Spread, put_points};
+use crate::{Body, Chunk, Dim, Item, Layout, Point, Spread, flow_laws, put_points};
 use std::test::Fail;
 
 const UNIT: i128 = 1_000_000_000;
@@ -117,5 +117,27 @@ fn only_an_end_ends(rt: HostRuntime) {
         (Body::End(true), true),
     ] {
         assert_eq!(rt; Item { no: 3, body }.is_end(), ends);
+    }
+}
+
+#[test]
+fn a_set_has_the_dimensions_that_were_put_in(rt: HostRuntime) {
+    flow_laws();
+    let mut colours = Layout::none();
+    for dim in [Dim::Red, Dim::Green, Dim::Blue] {
+        assert!(rt; !colours.has(dim));
+        colours.add(dim);
+        assert!(rt; colours.has(dim));
+    }
+    let mut all = Layout::none();
+    all.add(Dim::X);
+    all.join(&colours);
+    for (dim, held) in [
+        (Dim::X, true),
+        (Dim::Y, false),
+        (Dim::Red, true),
+        (Dim::Infrared, false),
+    ] {
+        assert_eq!(rt; all.has(dim), held, "{dim:?}");
     }
 }

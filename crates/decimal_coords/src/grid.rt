@@ -42,9 +42,9 @@ impl Scale {
     }
 }
 
-/// The value of a raw coordinate in nanounits: `raw` steps from `off`, which is below 10^18 in size.
+/// The value of a raw coordinate in nanounits: `raw` steps from `off`, which is at most 10^18 in size.
 pub fn real(raw: i32, scale: Scale, off: i64) -> i64
-    requires { unsigned_abs off < 10 ^ 18 }
+    requires { unsigned_abs off ≤ 10 ^ 18 }
     ensures { result ≡ raw *ℤ scale.nano +ℤ off }
 {
     raw as i64 * scale.nano() + off
@@ -53,10 +53,10 @@ pub fn real(raw: i32, scale: Scale, off: i64) -> i64
 /// The raw coordinate of a value in nanounits: the quotient of its distance from `off` and the step,
 /// rounded half away from zero. It is refused exactly where that number leaves i32.
 ///
-/// `nano` is at most 4 * 10^18 in size, and `off` is below 10^18 in size.
+/// `nano` is at most 4 * 10^18 in size, and `off` is at most 10^18 in size.
 pub fn raw(nano: i64, scale: Scale, off: i64) -> Result<i32, NotHeld>
     requires nano { unsigned_abs nano ≤ 4 * 10 ^ 18 }
-    requires off { unsigned_abs off < 10 ^ 18 }
+    requires off { unsigned_abs off ≤ 10 ^ 18 }
     ensures { OkIff result (FitsSigned w32 (nearest_step nano scale.nano off)) (nearest_step nano scale.nano off) }
 {
     match i32::try_from(steps(nano - off, scale.nano() as u64)) {
@@ -68,7 +68,7 @@ pub fn raw(nano: i64, scale: Scale, off: i64) -> Result<i32, NotHeld>
 /// The quotient rounded half away from zero, in 64 bits.
 #[inline]
 fn steps(distance: i64, unit: u64) -> i64
-    requires distance { unsigned_abs distance < 5 * 10 ^ 18 }
+    requires distance { unsigned_abs distance ≤ 5 * 10 ^ 18 }
     requires low { 1 ≤ unit }
     requires high { unit ≤ 10 ^ 9 }
     ensures value { result ≡ half_away distance unit }

@@ -1,2 +1,11 @@
 pub mod ScaleLemmas
 pub mod Putting
+pub mod Places
+pub mod FilePart
+pub mod RecordPart
+pub mod ShortWords
+pub mod Words
+pub mod GridPart
+pub mod CountPart
+pub mod Standing
+pub mod ReadBack

@@ -3,5 +3,10 @@ pub mod Formats
 pub mod ScaleWords
 pub mod Steps
 pub mod Headers
+pub mod Offsets
+pub mod Sound
 pub mod Counts
 pub mod Written
+pub mod Sizes
+pub mod WordOffsets
+pub mod Standing

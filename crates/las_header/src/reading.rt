@@ -1,10 +1,14 @@
 //! Reads the header.
 
-ghost use Rattle.std.specs.Prelude.{◌≡◌, ◌+◌, ◌≤◌, length, OnOk};
+ghost use Rattle.std.specs.Prelude.{◌≡◌, ◌+◌, ◌≤◌, length, IfOk, OnOk};
 ghost use Rattle.ieee_words.specs.DecimalOfWord.{decimal_of_word};
 ghost use Rattle.las_header.specs.Bytes.{number_at, numbers_at};
 ghost use Rattle.las_header.specs.Headers.{has_signature, has_version, has_block, holds_fields, has_points_behind, record_format, format_in, scale_on, scales_of, offset_on, offsets_of, header_with, header_of};
+ghost use Rattle.las_header.specs.Formats.{format_size};
+ghost use Rattle.las_header.specs.Offsets.{IsOffset};
 ghost use Rattle.las_header.specs.ScaleWords.{scale_read};
+ghost use Rattle.las_header.specs.Sound.{IsSound};
+ghost use Rattle.std.specs.List.{All};
 
 use crate::numbers::{piece_at, u8_at, u16_at, u32_at, u64_at};
 use crate::{Axis, Format, Header, HeaderFault, ScaleFault, scale_of_word};
@@ -43,7 +47,9 @@ fn has_points_behind(bytes: &[u8]) -> bool
 #[tactic(auto, unfolding(crate::specs::Headers::record_format))]
 fn record_format(bytes: &[u8]) -> Result<Format, HeaderFault>
     requires { HEADER_SIZE ≤ length bytes.now }
-    ensures { result ≡ record_format bytes.now }
+    ensures value { result ≡ record_format bytes.now }
+    ensures long { IfOk result (λ format. format_size format ≤ number_at 105 2 bytes.now) }
+    ensures behind { OnOk result (number_at 94 2 bytes.now ≤ number_at 96 4 bytes.now) }
 {
     let number = u8_at(bytes, 104);
     if number >= 128 {
@@ -65,6 +71,9 @@ fn record_format(bytes: &[u8]) -> Result<Format, HeaderFault>
 fn format_in(bytes: &[u8]) -> Result<Format, HeaderFault>
     ensures value { result ≡ format_in bytes.now }
     ensures block { OnOk result (HEADER_SIZE ≤ length bytes.now) }
+    ensures size { OnOk result (HEADER_SIZE ≤ number_at 94 2 bytes.now) }
+    ensures long { IfOk result (λ format. format_size format ≤ number_at 105 2 bytes.now) }
+    ensures behind { OnOk result (number_at 94 2 bytes.now ≤ number_at 96 4 bytes.now) }
 {
     if !bytes.starts_with(b"LASF") {
         return Err(HeaderFault::NotLas);
@@ -91,7 +100,8 @@ fn scale_at(bytes: &[u8], at: usize, axis: Axis) -> Result<Scale, HeaderFault>
 
 fn offset_at(bytes: &[u8], at: usize, axis: Axis) -> Result<i64, HeaderFault>
     requires { at + 8 ≤ length bytes.now }
-    ensures { result ≡ offset_on axis (decimal_of_word (number_at at 8 bytes.now)) }
+    ensures value { result ≡ offset_on axis (decimal_of_word (number_at at 8 bytes.now)) }
+    ensures size { IfOk result IsOffset }
 {
     match decimal(u64_at(bytes, at)) {
         Ok(decimal) => Ok(decimal.nano),
@@ -113,7 +123,8 @@ fn scales(bytes: &[u8]) -> Result<[Scale; 3], HeaderFault>
 #[tactic(auto, unfolding(crate::specs::Headers::offsets_of))]
 fn offsets(bytes: &[u8]) -> Result<[i64; 3], HeaderFault>
     requires { HEADER_SIZE ≤ length bytes.now }
-    ensures { result ≡ offsets_of bytes.now }
+    ensures value { result ≡ offsets_of bytes.now }
+    ensures sizes { IfOk result (All IsOffset) }
 {
     let x = offset_at(bytes, 155, Axis::X)?;
     let y = offset_at(bytes, 163, Axis::Y)?;
@@ -174,7 +185,12 @@ fn returns(bytes: &[u8]) -> [u64; 15]
 #[tactic(auto, unfolding(crate::specs::Headers::header_with))]
 fn header_with(format: Format, scale: [Scale; 3], offset: [i64; 3], bytes: &[u8]) -> Header
     requires { HEADER_SIZE ≤ length bytes.now }
-    ensures { result ≡ header_with format scale offset bytes.now }
+    ensures value { result ≡ header_with format scale offset bytes.now }
+    ensures size { result.header_size ≡ number_at 94 2 bytes.now }
+    ensures points_at { result.points_at ≡ number_at 96 4 bytes.now }
+    ensures format { result.format ≡ format }
+    ensures record_length { result.record_length ≡ number_at 105 2 bytes.now }
+    ensures offset { result.offset ≡ offset }
 {
     Header {
         signature: piece_at(bytes, 0),
@@ -206,10 +222,12 @@ fn header_with(format: Format, scale: [Scale; 3], offset: [i64; 3], bytes: &[u8]
 }
 
 /// The header that the first 375 bytes of a file stand for, or its first fault. `bytes` are these 375 bytes, or all
-/// of a shorter file.
+/// of a shorter file. The header's size is at least 375 bytes, its points begin behind it, their records have the bytes
+/// of their format's fields, and its offsets have a size of at most 10^18 nanounits.
 #[tactic(auto, unfolding(crate::specs::Headers::header_of))]
 pub fn read_header(bytes: &[u8]) -> Result<Header, HeaderFault>
-    ensures { result ≡ header_of bytes.now }
+    ensures value { result ≡ header_of bytes.now }
+    ensures sound { IfOk result IsSound }
 {
     let format = format_in(bytes)?;
     let scale = scales(bytes)?;

@@ -1,9 +1,13 @@
 //! Writes the header.
 
-ghost use Rattle.std.specs.Prelude.{◌≡◌, ◌+◌, ◌*◌, ◌≤◌, ◌++◌, length};
-ghost use Rattle.std.specs.List.{flat_map};
+ghost use Rattle.std.specs.Prelude.{◌≡◌, ◌+◌, ◌*◌, ◌^◌, ◌<◌, ◌≤◌, ◌++◌, length, Ok};
+ghost use Rattle.std.specs.List.{All, flat_map};
 ghost use Rattle.std.specs.Int.{w32, w64, to_le_bytes};
 ghost use Rattle.arrayvec.specs.ArrayVec.{array_vec_len};
+ghost use Rattle.las_header.specs.Headers.{header_of};
+ghost use Rattle.las_header.specs.Sizes.{HasFileSizes, HasRecordSizes, HasGridSizes, HasCountSizes};
+ghost use Rattle.las_header.specs.Standing.{Stands, HasNoFault};
+ghost use Rattle.las_header.specs.WordOffsets.{IsWordOffset};
 ghost use Rattle.las_header.specs.Written.{nano_bytes, scale_bytes, file_part, record_part, grid_part, count_part, header_bytes};
 
 use crate::Header;
@@ -26,6 +30,7 @@ fn put_u32s<const CAP: usize>(part: &mut ArrayVec<u8, CAP>, numbers: &[u32])
     requires { array_vec_len part.old + 4 * length numbers.now ≤ CAP }
     ensures items { part.new.items ≡ part.old.items ++ flat_map (to_le_bytes w32) numbers.now }
     ensures len { array_vec_len part.new ≡ array_vec_len part.old + 4 * length numbers.now }
+    ensures fits { All (λ n. n < 2 ^ 32) numbers.now }
 {
     for number in numbers {
         put(part, &number.to_le_bytes());
@@ -36,6 +41,7 @@ fn put_u64s<const CAP: usize>(part: &mut ArrayVec<u8, CAP>, numbers: &[u64])
     requires { array_vec_len part.old + 8 * length numbers.now ≤ CAP }
     ensures items { part.new.items ≡ part.old.items ++ flat_map (to_le_bytes w64) numbers.now }
     ensures len { array_vec_len part.new ≡ array_vec_len part.old + 8 * length numbers.now }
+    ensures fits { All (λ n. n < 2 ^ 64) numbers.now }
 {
     for number in numbers {
         put(part, &number.to_le_bytes());
@@ -68,6 +74,7 @@ fn put_offsets<const CAP: usize>(part: &mut ArrayVec<u8, CAP>, offsets: &[i64])
 fn file_part(h: &Header) -> ArrayVec<u8, 94>
     ensures items { result.items ≡ file_part h.now }
     ensures len { array_vec_len result ≡ 94 }
+    ensures sizes { HasFileSizes h.now }
 {
     let mut part = ArrayVec::new();
     put(&mut part, &h.signature);
@@ -86,6 +93,7 @@ fn file_part(h: &Header) -> ArrayVec<u8, 94>
 fn record_part(h: &Header) -> ArrayVec<u8, 37>
     ensures items { result.items ≡ record_part h.now }
     ensures len { array_vec_len result ≡ 37 }
+    ensures sizes { HasRecordSizes h.now }
 {
     let mut part = ArrayVec::new();
     put(&mut part, &h.header_size.to_le_bytes());
@@ -102,6 +110,7 @@ fn record_part(h: &Header) -> ArrayVec<u8, 37>
 fn grid_part(h: &Header) -> ArrayVec<u8, 96>
     ensures items { result.items ≡ grid_part h.now }
     ensures len { array_vec_len result ≡ 96 }
+    ensures sizes { HasGridSizes h.now }
 {
     let mut part = ArrayVec::new();
     put_scales(&mut part, &h.scale);
@@ -114,6 +123,7 @@ fn grid_part(h: &Header) -> ArrayVec<u8, 96>
 fn count_part(h: &Header) -> ArrayVec<u8, 148>
     ensures items { result.items ≡ count_part h.now }
     ensures len { array_vec_len result ≡ 148 }
+    ensures sizes { HasCountSizes h.now }
 {
     let mut part = ArrayVec::new();
     put(&mut part, &h.waveform.to_le_bytes());
@@ -126,8 +136,13 @@ fn count_part(h: &Header) -> ArrayVec<u8, 148>
 
 /// Writes the 375 bytes of a header: each field at its place, the numbers with their lowest byte first, the scales
 /// and offsets as the binary64 words nearest to them.
+///
+/// Where each offset is below 10^9 units in size and a decimal of at most 15 digits and 9 places, the bytes stand for
+/// the header, and where it has no fault either `read_header` gives it back.
 pub fn write_header(h: &Header, out: &mut [u8; 375])
-    ensures { out.new ≡ header_bytes h.now }
+    ensures bytes { out.new ≡ header_bytes h.now }
+    ensures stands { All IsWordOffset h.now.offset → Stands out.new h.now }
+    ensures read_back { All IsWordOffset h.now.offset → HasNoFault h.now → header_of out.new ≡ Ok h.now }
 {
     let mut block = ArrayVec::<u8, 375>::new();
     put(&mut block, &file_part(h));

@@ -1,3 +1,5 @@
 pub mod Pieces
-pub mod Openings
+pub mod Wholes
+pub mod Readings
 pub mod Steps
+pub mod Openings

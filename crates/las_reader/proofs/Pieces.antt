@@ -1,85 +1,115 @@
 -- Points of records, piece by piece.
-use Rattle.std.proofs.Common.{◌≡◌, ℕ, zero, suc, ◌+◌, ◌-◌, ◌*◌, ◌<◌, ◌≤◌, min, List, [], ◌∷◌, ◌++◌, length, take, drop, set, slice_range, refl, ap, sym, ◌∙◌, arith, add-one, add-zero, drop-drop}
-use Rattle.std.proofs.lemmas.List.{drop-take, take-take, take_more_set}
+use Rattle.std.proofs.Common.{◌≡◌, ℕ, zero, suc, ◌+◌, ◌-◌, ◌*◌, ◌≤◌, min, List, [], ◌∷◌, ◌++◌, length, take, drop, slice_range, refl, ap, sym, ◌∙◌, arith, add-one, add-zero, drop-drop, append_assoc, append-nil}
+use Rattle.std.proofs.Math.Nat.{mul-add}
+use Rattle.std.proofs.lemmas.List.{drop-take, take-take}
 use Rattle.cloud_points.specs.declared.point.Point.{Point}
-use Rattle.las_reader.specs.Records.{decoded, record_at, points_from}
+use Rattle.las_header.specs.declared.block.Header.{Header}
+use Rattle.las_reader.specs.Records.{point_of, record_at, points_from}
 
-pub points_none : (k : ℕ) (b : List ℕ) → points_from k 0 b ≡ []
+pub points_none : (header : Header) (k : ℕ) (b : List ℕ) → points_from header k 0 b ≡ []
 unfolding points_from
-points_none k b = refl
+points_none header k b = refl
 
-pub points_more : (k n : ℕ) (b : List ℕ) → points_from k (n + 1) b ≡ points_from k n b ++ decoded (record_at (k + n) b) ∷ []
+pub points_more : (header : Header) (k n : ℕ) (b : List ℕ) → points_from header k (n + 1) b ≡ points_from header k n b ++ point_of header (record_at header.record_length (k + n) b) ∷ []
 unfolding points_from
-points_more k zero b = rw (add-zero k) refl
-points_more k (suc n) b =
+points_more header k zero b = rw (add-zero k) refl
+points_more header k (suc n) b =
     let next : k + 1 + n ≡ k + suc n = omega arith in
-    ap (λ j. points_from k j b) (add-one (suc n))
-    ∙ ap (λ ps. decoded (record_at k b) ∷ ps) (ap (λ j. points_from (k + 1) j b) (sym (add-one n)) ∙ points_more (k + 1) n b ∙ ap (λ j. points_from (k + 1) n b ++ decoded (record_at j b) ∷ []) next)
+    ap (λ j. points_from header k j b) (add-one (suc n))
+    ∙ ap (λ ps. point_of header (record_at header.record_length k b) ∷ ps) (ap (λ j. points_from header (k + 1) j b) (sym (add-one n)) ∙ points_more header (k + 1) n b ∙ ap (λ j. points_from header (k + 1) n b ++ point_of header (record_at header.record_length j b) ∷ []) next)
 
-pub length-points_from : (k n : ℕ) (b : List ℕ) → length (points_from k n b) ≡ n
+pub length-points_from : (header : Header) (k n : ℕ) (b : List ℕ) → length (points_from header k n b) ≡ n
 unfolding points_from
-length-points_from k zero b = refl
-length-points_from k (suc n) b = ap (λ j. suc j) (length-points_from (k + 1) n b)
+length-points_from header k zero b = refl
+length-points_from header k (suc n) b = ap (λ j. suc j) (length-points_from header (k + 1) n b)
 
-pub drop-points_from : (j k n : ℕ) (b : List ℕ) → drop j (points_from k n b) ≡ points_from (k + j) (n - j) b
+pub drop-points_from : (header : Header) (j k n : ℕ) (b : List ℕ) → drop j (points_from header k n b) ≡ points_from header (k + j) (n - j) b
 unfolding points_from
-drop-points_from zero k n b = let stay : k ≡ k + 0 = omega arith in let all : n ≡ n - 0 = omega arith in ap (λ i. points_from i n b) stay ∙ ap (λ i. points_from (k + 0) i b) all
-drop-points_from (suc j) k zero b = let none : 0 ≡ 0 - suc j = omega arith in ap (λ i. points_from (k + suc j) i b) none
-drop-points_from (suc j) k (suc n) b =
+drop-points_from header zero k n b = let stay : k ≡ k + 0 = omega arith in let all : n ≡ n - 0 = omega arith in ap (λ i. points_from header i n b) stay ∙ ap (λ i. points_from header (k + 0) i b) all
+drop-points_from header (suc j) k zero b = let none : 0 ≡ 0 - suc j = omega arith in ap (λ i. points_from header (k + suc j) i b) none
+drop-points_from header (suc j) k (suc n) b =
     let at : k + 1 + j ≡ k + suc j = omega arith in
     let left : n - j ≡ suc n - suc j = omega arith in
-    drop-points_from j (k + 1) n b ∙ ap (λ i. points_from i (n - j) b) at ∙ ap (λ i. points_from (k + suc j) i b) left
+    drop-points_from header j (k + 1) n b ∙ ap (λ i. points_from header i (n - j) b) at ∙ ap (λ i. points_from header (k + suc j) i b) left
 
-pub take-points_from : (m k n : ℕ) (b : List ℕ) → take m (points_from k n b) ≡ points_from k (min m n) b
+pub take-points_from : (header : Header) (m k n : ℕ) (b : List ℕ) → take m (points_from header k n b) ≡ points_from header k (min m n) b
 unfolding points_from
-take-points_from zero k n b = let none : 0 ≡ min 0 n = omega arith in ap (λ i. points_from k i b) none
-take-points_from (suc m) k zero b = let none : 0 ≡ min (suc m) 0 = omega arith in ap (λ i. points_from k i b) none
-take-points_from (suc m) k (suc n) b =
+take-points_from header zero k n b = let none : 0 ≡ min 0 n = omega arith in ap (λ i. points_from header k i b) none
+take-points_from header (suc m) k zero b = let none : 0 ≡ min (suc m) 0 = omega arith in ap (λ i. points_from header k i b) none
+take-points_from header (suc m) k (suc n) b =
     let more : suc (min m n) ≡ min (suc m) (suc n) = omega arith in
-    ap (λ ps. decoded (record_at k b) ∷ ps) (take-points_from m (k + 1) n b) ∙ ap (λ i. points_from k i b) more
+    ap (λ ps. point_of header (record_at header.record_length k b) ∷ ps) (take-points_from header m (k + 1) n b) ∙ ap (λ i. points_from header k i b) more
+
+-- the points of more records stand behind those of the first
+pub points-append : (header : Header) (n m k : ℕ) (b : List ℕ) → points_from header k n b ++ points_from header (k + n) m b ≡ points_from header k (n + m) b
+unfolding points_from
+points-append header zero m k b = let here : k + 0 ≡ k = omega arith in let all : m ≡ 0 + m = omega arith in ap (λ j. points_from header j m b) here ∙ ap (λ j. points_from header k j b) all
+points-append header (suc n) m k b =
+    let next : k + suc n ≡ k + 1 + n = omega arith in
+    let all : suc (n + m) ≡ suc n + m = omega arith in
+    ap (λ ps. point_of header (record_at header.record_length k b) ∷ ps) (ap (λ j. points_from header (k + 1) n b ++ points_from header j m b) next ∙ points-append header n m (k + 1) b)
+    ∙ ap (λ j. points_from header k j b) all
 
 -- a record of a piece that begins at record k
-record_of_piece : (j k size : ℕ) (b : List ℕ) → 20 * j + 20 ≤ size → record_at j (take size (drop (20 * k) b)) ≡ record_at (k + j) b
-record_of_piece j k size b h =
-    let split : size ≡ 20 * j + (size - 20 * j) = omega arith in
-    let place : 20 * k + 20 * j ≡ 20 * (k + j) = omega arith in
-    let enough : 20 ≤ size - 20 * j = omega arith in
-    ap (λ n. take 20 (drop (20 * j) (take n (drop (20 * k) b)))) split
-    ∙ ap (take 20) (drop-take (20 * j) (size - 20 * j) (drop (20 * k) b))
-    ∙ take-take 20 (size - 20 * j) (drop (20 * j) (drop (20 * k) b)) enough
-    ∙ ap (take 20) (drop-drop (20 * j) (20 * k) b)
-    ∙ ap (λ n. take 20 (drop n b)) place
+record_of_piece : (L j k size : ℕ) (b : List ℕ) → L * j + L ≤ size → record_at L j (take size (drop (L * k) b)) ≡ record_at L (k + j) b
+record_of_piece L j k size b h =
+    let split : size ≡ L * j + (size - L * j) = omega arith in
+    let place : L * k + L * j ≡ L * (k + j) = sym (mul-add L k j) in
+    let enough : L ≤ size - L * j = omega arith in
+    ap (λ n. take L (drop (L * j) (take n (drop (L * k) b)))) split
+    ∙ ap (take L) (drop-take (L * j) (size - L * j) (drop (L * k) b))
+    ∙ take-take L (size - L * j) (drop (L * j) (drop (L * k) b)) enough
+    ∙ ap (take L) (drop-drop (L * j) (L * k) b)
+    ∙ ap (λ n. take L (drop n b)) place
 
-piece_from : (n j k size : ℕ) (b : List ℕ) → 20 * (j + n) ≤ size → points_from j n (take size (drop (20 * k) b)) ≡ points_from (k + j) n b
+piece_from : (header : Header) (n j k size : ℕ) (b : List ℕ) → header.record_length * (j + n) ≤ size → points_from header j n (take size (drop (header.record_length * k) b)) ≡ points_from header (k + j) n b
 unfolding points_from
-piece_from zero j k size b h = refl
-piece_from (suc n) j k size b h =
-    let here : 20 * j + 20 ≤ size = omega arith in
-    let there : 20 * (j + 1 + n) ≤ size = omega arith in
+piece_from header zero j k size b h = refl
+piece_from header (suc n) j k size b h =
+    let L = header.record_length in
+    let all : L * (j + suc n) ≡ L * j + (L + L * n) = omega (arith, mul-add L j (suc n), mul-add L 1 n) in
+    let here : L * j + L ≤ size = omega arith in
+    let after : j + 1 + n ≡ j + suc n = omega arith in
+    let there : L * (j + 1 + n) ≤ size = rw after h in
     let next : k + (j + 1) ≡ k + j + 1 = omega arith in
-    ap (λ r. decoded r ∷ points_from (j + 1) n (take size (drop (20 * k) b))) (record_of_piece j k size b here)
-    ∙ ap (λ ps. decoded (record_at (k + j) b) ∷ ps) (piece_from n (j + 1) k size b there ∙ ap (λ i. points_from i n b) next)
+    ap (λ r. point_of header r ∷ points_from header (j + 1) n (take size (drop (L * k) b))) (record_of_piece L j k size b here)
+    ∙ ap (λ ps. point_of header (record_at L (k + j) b) ∷ ps) (piece_from header n (j + 1) k size b there ∙ ap (λ i. points_from header i n b) next)
 
 -- the points of a piece of n records that begins at record k
-pub points_of_piece : (n k size : ℕ) (b : List ℕ) → 20 * n ≤ size → points_from 0 n (take size (drop (20 * k) b)) ≡ points_from k n b
-points_of_piece n k size b h = let fits : 20 * (0 + n) ≤ size = omega arith in piece_from n 0 k size b fits ∙ ap (λ i. points_from i n b) (add-zero k)
+points_of_piece : (header : Header) (n k size : ℕ) (b : List ℕ) → header.record_length * n ≤ size → points_from header 0 n (take size (drop (header.record_length * k) b)) ≡ points_from header k n b
+points_of_piece header n k size b h = let fits : header.record_length * (0 + n) ≤ size = omega arith in piece_from header n 0 k size b fits ∙ ap (λ i. points_from header i n b) (add-zero k)
 
-record_is : (k : ℕ) (b : List ℕ) → slice_range b (20 * k) (20 * k + 20) ≡ record_at (0 + k) b
-record_is k b =
-    let size : 20 * k + 20 - 20 * k ≡ 20 = omega arith in
+-- the points of a buffer that holds a piece of the file
+pub points_of_buffer : (header : Header) (n given : ℕ) (buffer file : List ℕ) → take (header.record_length * n) buffer ≡ take (header.record_length * n) (drop (header.points_at + header.record_length * given) file)
+    → points_from header 0 n buffer ≡ points_from header given n (drop header.points_at file)
+points_of_buffer header n given buffer file same =
+    let L = header.record_length in
+    let fits : L * n ≤ L * n = omega arith in
+    let none : L * 0 ≡ 0 = omega arith in
+    sym (points_of_piece header n 0 (L * n) buffer fits) ∙ ap (λ m. points_from header 0 n (take (L * n) (drop m buffer))) none
+    ∙ ap (points_from header 0 n) (same ∙ ap (take (L * n)) (sym (drop-drop (L * given) header.points_at file))) ∙ points_of_piece header n given (L * n) (drop header.points_at file) fits
+
+record_is : (L k : ℕ) (b : List ℕ) → slice_range b (L * k) (L * k + L) ≡ record_at L (0 + k) b
+record_is L k b =
+    let size : L * k + L - L * k ≡ L = omega arith in
     let same : k ≡ 0 + k = omega arith in
-    ap (λ n. take n (drop (20 * k) b)) size ∙ ap (λ i. record_at i b) same
+    ap (λ n. take n (drop (L * k) b)) size ∙ ap (λ i. record_at L i b) same
 
 -- one more point
-pub one_more : (k : ℕ) (b : List ℕ) (ps : List Point) (p : Point) → ps ≡ points_from 0 k b → p ≡ decoded (slice_range b (20 * k) (20 * k + 20)) → ps ++ p ∷ [] ≡ points_from 0 (k + 1) b
-one_more k b ps p were is =
-    ap (λ qs. qs ++ p ∷ []) were ∙ ap (λ q. points_from 0 k b ++ q ∷ []) (is ∙ ap decoded (record_is k b)) ∙ sym (points_more 0 k b)
+pub one_more : (header : Header) (k : ℕ) (b : List ℕ) (before ps : List Point) (p : Point) → ps ≡ before ++ points_from header 0 k b
+    → p ≡ point_of header (slice_range b (header.record_length * k) (header.record_length * k + header.record_length)) → ps ++ p ∷ [] ≡ before ++ points_from header 0 (k + 1) b
+one_more header k b before ps p were is =
+    ap (λ qs. qs ++ p ∷ []) were ∙ append_assoc before (points_from header 0 k b) (p ∷ [])
+    ∙ ap (λ q. before ++ (points_from header 0 k b ++ q ∷ [])) (is ∙ ap (point_of header) (record_is header.record_length k b))
+    ∙ ap (λ l. before ++ l) (sym (points_more header 0 k b))
 
--- one more point is written over an old one
-pub one_more_over : (k : ℕ) (b : List ℕ) (cells : List Point) (p : Point) → k < length cells → take k cells ≡ points_from 0 k b → p ≡ decoded (slice_range b (20 * k) (20 * k + 20)) → take (k + 1) (set cells k p) ≡ points_from 0 (k + 1) b
-one_more_over k b cells p h were is = take_more_set cells k p h ∙ one_more k b (take k cells) p were is
+-- the points of the first k records stand behind others
+pub record Decoded (header : Header) (k : ℕ) (records : List ℕ) (before points : List Point) (size_before size : ℕ) : Type 0 where
+  pub points_are : points ≡ before ++ points_from header 0 k records
+  pub size_is : size ≡ size_before + k
 
--- the first k points are there
-pub record Decoded (k : ℕ) (records : List ℕ) (points : List Point) (size : ℕ) : Type 0 where
-  pub points_are : points ≡ points_from 0 k records
-  pub size_is : size ≡ k
+pub decoded_none : (header : Header) (records : List ℕ) (before : List Point) (size : ℕ) → Decoded header 0 records before before size size
+decoded_none header records before size = record {
+  points_are = sym (ap (λ l. before ++ l) (points_none header 0 records) ∙ append-nil before);
+  size_is = omega arith;
+}

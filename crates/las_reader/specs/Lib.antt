@@ -1,6 +1,6 @@
-pub mod Bytes
-pub mod Headers
+pub mod Frames
 pub mod Records
 pub mod Files
+pub mod Pieces
 pub mod Reading
 pub mod Opening

@@ -6,6 +6,8 @@ use Rattle.cloud_points.specs.declared.faults.Make.{Make}
 use Rattle.cloud_points.specs.declared.faults.Make.TheVariants.{Points, EndView, End}
 use Rattle.cloud_points.specs.declared.faults.StageFault.TheVariants as stage
 use Rattle.cloud_points.specs.declared.faults.PointFault.TheVariants.{Cut}
+use Rattle.las_header.specs.declared.block.Header.{Header}
+use Rattle.las_header.specs.Counts.{points_in}
 use Rattle.las_reader.specs.declared.reader.Progress.{Progress}
 use Rattle.las_reader.specs.declared.reader.Progress.TheVariants.{Records, ViewEnded, Ended}
 
@@ -51,7 +53,7 @@ Moves count chunk ViewEnded made points after = (points ≡ []) × (after ≡ En
 Moves count chunk (Ended cut) made points after = (points ≡ []) × (after ≡ Ended cut) × (made ≡ End cut None)
 
 -- the end of the next records, which a call may ask for
-abbrev pub asked_to : ℕ → ℕ → Progress → ℕ
-asked_to count chunk (Records given) = 375 + 20 * min (given + chunk) count
-asked_to count chunk ViewEnded = 0
-asked_to count chunk (Ended cut) = 0
+abbrev pub asked_to : Header → ℕ → Progress → ℕ
+asked_to header chunk (Records given) = header.points_at + header.record_length * min (given + chunk) (points_in header)
+asked_to header chunk ViewEnded = 0
+asked_to header chunk (Ended cut) = 0

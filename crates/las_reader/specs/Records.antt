@@ -1,22 +1,19 @@
--- Point data records of format 0 (LAS 1.4 R15, "Point Data Record Format 0").
-use Rattle.std.specs.Prelude.{ℕ, zero, suc, ◌+◌, ◌*◌, ℤ, pos, ◌*ℤ◌, List, [], ◌∷◌, take, drop}
+-- Point data records, one after another.
+use Rattle.std.specs.Prelude.{ℕ, zero, suc, ◌+◌, ◌*◌, List, [], ◌∷◌, take, drop}
 use Rattle.cloud_points.specs.declared.point.Point.{Point}
-use Rattle.cloud_points.specs.Points.{zero_point}
-use Rattle.las_reader.specs.Bytes.{number_at, signed}
+use Rattle.las_header.specs.declared.block.Header.{Header}
+use Rattle.point_formats.specs.Grids.{grid_of}
+use Rattle.point_formats.specs.Records.{decoded}
 
--- the coordinate whose raw number stands at a place: a count of hundredths, in nanounits
-abbrev pub coordinate_at : ℕ → List ℕ → ℤ
-coordinate_at at bytes = signed 32 (number_at at 4 bytes) *ℤ pos 10000000
+-- the point of a record in a file with this header
+unfoldable pub point_of : Header → List ℕ → Point
+point_of header record_bytes = decoded header.format (grid_of header) record_bytes
 
--- the point of a record; only its coordinates are read
-abbrev pub decoded : List ℕ → Point
-decoded bytes = record zero_point { x = coordinate_at 0 bytes; y = coordinate_at 4 bytes; z = coordinate_at 8 bytes }
+-- the bytes of record k, where each has so many
+abbrev pub record_at : ℕ → ℕ → List ℕ → List ℕ
+record_at size k bytes = take size (drop (size * k) bytes)
 
--- the bytes of record k, where the records stand one after another
-abbrev pub record_at : ℕ → List ℕ → List ℕ
-record_at k bytes = take 20 (drop (20 * k) bytes)
-
--- the points of so many records from record k on
-unfoldable pub points_from : ℕ → ℕ → List ℕ → List Point
-points_from k zero bytes = []
-points_from k (suc left) bytes = decoded (record_at k bytes) ∷ points_from (k + 1) left bytes
+-- the points of so many records from record k on; bytes behind the fields of a record aren't looked at
+unfoldable pub points_from : Header → ℕ → ℕ → List ℕ → List Point
+points_from header k zero bytes = []
+points_from header k (suc left) bytes = point_of header (record_at header.record_length k bytes) ∷ points_from header (k + 1) left bytes

@@ -1,9 +1,10 @@
-//! Reads the points of a LAS file (ASPRS LAS Specification 1.4 R15) from a source, a chunk at a time.
+//! Reads LAS files (ASPRS LAS Specification 1.4 R15) from a source: the header, the variable length records, and the
+//! points, a chunk at a time.
 #![tactic(auto)]
 
-mod las_header;
-mod point_formats;
+mod opening;
 mod reader;
+mod records;
 
-pub use las_header::HeaderFault;
-pub use reader::{LasReader, OpenErr, Progress};
+pub use opening::OpenErr;
+pub use reader::{LasReader, Progress};

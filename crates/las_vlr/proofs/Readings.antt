@@ -28,6 +28,7 @@ pub record Reading (form : Form) (count start number at before : ℕ) (told now 
   pub same : now ≡ told
   pub later : faults_before ≤ faults
   pub in_front : IsInFront form reached_before reached
+  pub unread : number ≡ 0 → reached ≡ reached_before
   pub room : before ≤ 16777216
 
 pub in_front_none : (form : Form) (r : ℕ) → IsInFront form r r
@@ -44,6 +45,7 @@ reading_none form count start told faults reached = record {
   same = refl;
   later = omega arith;
   in_front = in_front_none form reached;
+  unread = λ none. refl;
   room = omega arith;
 }
 
@@ -73,6 +75,7 @@ reading_more form count start number at before size told now now_after f0 f1 f2 
   same = same ∙ was.same;
   later = omega (arith, was.later);
   in_front = in_front_more form r0 r1 r2 was.in_front in_front;
+  unread = λ none. absurd (omega (arith, none));
   room = room;
 }
 

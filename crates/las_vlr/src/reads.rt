@@ -233,6 +233,7 @@ fn read_list<S: Source>(
     ensures failed { result ≡ Err VlrErr.ReadFailed → Rose (S.faults source.old) (S.faults source.new) }
     ensures later { S.faults source.old ≤ S.faults source.new }
     ensures in_front { IsInFront form (S.reached source.old) (S.reached source.new) }
+    ensures unread { count ≡ 0 → S.reached source.new ≡ S.reached source.old }
     ensures same { S.bytes source.new ≡ S.bytes source.old }
 {
     if count > MOST_VLRS {
@@ -275,7 +276,8 @@ pub fn read_vlrs<S: Source>(
     read_list(alloc, source, Form::Plain(points_at), start, count)
 }
 
-/// Reads the EVLRs that stand one behind another from `at` on, `count` of them as the header says.
+/// Reads the EVLRs that stand one behind another from `at` on, `count` of them as the header says. Where it is 0, no byte
+/// is asked for.
 ///
 /// It answers the first fault of the list, `ReadFailed` only where a read failed, and `Memory` where there is none for
 /// the list. Memory for a payload is taken only once its last byte is there.
@@ -289,6 +291,7 @@ pub fn read_evlrs<S: Source>(
     ensures fault { IfErr result (λ e. (file : List ℕ) → S.bytes source.old ≡ Some file → IsRefusal (evlrs_of at count file) e) }
     ensures failed { result ≡ Err VlrErr.ReadFailed → Rose (S.faults source.old) (S.faults source.new) }
     ensures later { S.faults source.old ≤ S.faults source.new }
+    ensures unread { count ≡ 0 → S.reached source.new ≡ S.reached source.old }
     ensures same { S.bytes source.new ≡ S.bytes source.old }
 {
     read_list(alloc, source, Form::Extended, at, count)

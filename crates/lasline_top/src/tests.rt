@@ -1,8 +1,12 @@
 use crate::words::read_command;
 use crate::{Fault, Place, Refusal, Status, lasline_solo};
-use cloud_points::PointFault;
-use file_devices::{MemFiles, MemOut, Op, SureFiles, SureOut};
-use las_reader::HeaderFault;
+use arrayvec::ArrayString;
+use cloud_points::{Make, PointFault, Spread};
+use decimal_coords::print_fixed;
+use file_devices::{MemFiles, MemIn, MemOut, Op, SureFiles, SureOut};
+use las_header::{Axis, HeaderFault};
+use las_reader::LasReader;
+use las_vlr::{VlrFault, VlrList};
 use std::alloc::{AllocError, Global};
 use std::test::Fail;
 
@@ -121,13 +125,11 @@ fn two_points_become_text(rt: HostRuntime) -> Result<(), Fail> {
 fn refusals_keep_nothing_and_say_why(rt: HostRuntime) -> Result<(), Fail> {
     let alloc = rt.alloc();
     let whole = two_points();
-    let mut format_1 = whole;
-    format_1[104] = 1;
     let mut other_signature = whole;
     other_signature[0] = b'X';
     let cut = Fault::Point(PointFault::Cut(1));
     let not_las = Fault::Header(HeaderFault::NotLas);
-    let rows: [(&[&str], &[u8], &[u8], Status, &[u8]); 12] = [
+    let rows: [(&[&str], &[u8], &[u8], Status, &[u8]); 11] = [
         (
             &["run", "p.json"],
             PIPELINE,
@@ -153,15 +155,8 @@ fn refusals_keep_nothing_and_say_why(rt: HostRuntime) -> Result<(), Fail> {
             &["run", "p.json"],
             PIPELINE,
             &whole[..374],
-            Status::NotBuilt(3),
-            b"lasline: not built\n",
-        ),
-        (
-            &["run", "p.json"],
-            PIPELINE,
-            &format_1,
-            Status::NotBuilt(3),
-            b"lasline: not built\n",
+            Status::Data(0, Fault::Header(HeaderFault::HeaderSize)),
+            b"lasline: stage 0: header too short\n",
         ),
         (
             &["run", "p.json"],
@@ -230,6 +225,356 @@ fn refusals_keep_nothing_and_say_why(rt: HostRuntime) -> Result<(), Fail> {
             assert_eq!(rt; files.lent(), 0);
         }
     }
+    Ok(())
+}
+
+/// The file with bytes of its own in some places.
+fn patched(alloc: Global, file: &[u8], patches: &[(usize, &[u8])]) -> Result<Vec<u8>, Fail> {
+    let mut bytes = Vec::from_slice(alloc, file)?;
+    for (place, piece) in patches {
+        for (k, byte) in piece.iter().enumerate() {
+            let cell = bytes.get_mut(place.wrapping_add(k)).ok_or("past the end")?;
+            *cell = *byte;
+        }
+    }
+    Ok(bytes)
+}
+
+/// What a run over a LAS file answers, with the line that it says and with what it keeps.
+fn run_over(alloc: Global, las: &[u8]) -> Result<(Status, SureOut, SureFiles), Fail> {
+    let given = named(alloc, &[("p.json", PIPELINE), ("in.las", las)])?;
+    let mut files = SureFiles::new(alloc, given, 100);
+    let mut out = SureOut::new(alloc, 200)?;
+    let mut err = SureOut::new(alloc, 200)?;
+    let words = words(alloc, &["run", "p.json"])?;
+    let status = lasline_solo(alloc, &words, &mut files, &mut out, &mut err);
+    Ok((status, err, files))
+}
+
+/// The word next to that of 0.01, and those of 10^9 and of infinity, the lowest byte first.
+const NEIGHBOUR: [u8; 8] = [0x7C, 0x14, 0xAE, 0x47, 0xE1, 0x7A, 0x84, 0x3F];
+
+const BILLION: [u8; 8] = [0, 0, 0, 0, 0x65, 0xCD, 0xCD, 0x41];
+
+const INFINITE: [u8; 8] = [0, 0, 0, 0, 0, 0, 0xF0, 0x7F];
+
+#[test]
+fn the_first_fault_of_a_header_is_told(rt: HostRuntime) -> Result<(), Fail> {
+    let alloc = rt.alloc();
+    let whole = two_points();
+    let rows: [(&[(usize, &[u8])], HeaderFault, &str); 17] = [
+        (
+            &[(0, b"X"), (24, &[2])],
+            HeaderFault::NotLas,
+            "not a LAS file",
+        ),
+        (
+            &[(25, &[3]), (94, &[0x76])],
+            HeaderFault::VersionNotRead,
+            "version not read",
+        ),
+        (
+            &[(94, &[0x76]), (104, &[131])],
+            HeaderFault::HeaderSize,
+            "header too short",
+        ),
+        (
+            &[(104, &[131]), (105, &[0])],
+            HeaderFault::Compressed,
+            "compressed points",
+        ),
+        (
+            &[(104, &[5]), (105, &[0])],
+            HeaderFault::FormatNotRead,
+            "point format not read",
+        ),
+        (
+            &[(105, &[19]), (96, &[0x76])],
+            HeaderFault::RecordTooShort,
+            "record too short for its format",
+        ),
+        (
+            &[(96, &[0x76]), (131, &[0; 8])],
+            HeaderFault::PointsInHeader,
+            "points begin inside the header",
+        ),
+        (
+            &[(131, &[0; 8]), (139, &[0; 8])],
+            HeaderFault::ScaleNotPositive(Axis::X),
+            "scale of X not positive",
+        ),
+        (
+            &[(138, &[0xBF]), (139, &NEIGHBOUR)],
+            HeaderFault::ScaleNotPositive(Axis::X),
+            "scale of X not positive",
+        ),
+        (
+            &[(131, &NEIGHBOUR), (139, &[0; 8])],
+            HeaderFault::ScaleNotDecimal(Axis::X),
+            "scale of X has no decimal of 9 places",
+        ),
+        (
+            &[(139, &[0; 8]), (147, &NEIGHBOUR)],
+            HeaderFault::ScaleNotPositive(Axis::Y),
+            "scale of Y not positive",
+        ),
+        (
+            &[(139, &NEIGHBOUR), (147, &[0; 8])],
+            HeaderFault::ScaleNotDecimal(Axis::Y),
+            "scale of Y has no decimal of 9 places",
+        ),
+        (
+            &[(147, &[0; 8]), (155, &BILLION)],
+            HeaderFault::ScaleNotPositive(Axis::Z),
+            "scale of Z not positive",
+        ),
+        (
+            &[(147, &NEIGHBOUR), (155, &BILLION)],
+            HeaderFault::ScaleNotDecimal(Axis::Z),
+            "scale of Z has no decimal of 9 places",
+        ),
+        (
+            &[(155, &BILLION), (163, &INFINITE)],
+            HeaderFault::OffsetOutOfRange(Axis::X),
+            "offset of X out of range",
+        ),
+        (
+            &[(163, &INFINITE), (171, &BILLION)],
+            HeaderFault::OffsetOutOfRange(Axis::Y),
+            "offset of Y out of range",
+        ),
+        (
+            &[(171, &BILLION), (100, &[1])],
+            HeaderFault::OffsetOutOfRange(Axis::Z),
+            "offset of Z out of range",
+        ),
+    ];
+    for (patches, fault, text) in rows {
+        let las = patched(alloc, &whole, patches)?;
+        let (status, said, files) = run_over(alloc, &las)?;
+        assert_eq!(rt; status, Status::Data(0, Fault::Header(fault)));
+        assert_eq!(rt; status.code(), 3);
+        assert!(rt; files.contents("o.txt").is_none());
+        let line = format!(in alloc; "lasline: stage 0: {text}\n")?;
+        assert_eq!(rt; said.bytes().ok_or("no line")?, line.as_bytes());
+    }
+    Ok(())
+}
+
+#[test]
+fn hostile_counts_and_places_are_refused(rt: HostRuntime) -> Result<(), Fail> {
+    let alloc = rt.alloc();
+    let whole = two_points();
+    let far = [0xFF; 8];
+    let rows: [(&[(usize, &[u8])], Fault, &str); 10] = [
+        (
+            &[(100, &far[..4])],
+            Fault::Vlr(VlrFault::TooManyVlrs),
+            "too many VLRs",
+        ),
+        (
+            &[(100, &[1])],
+            Fault::Vlr(VlrFault::VlrPastPoints(0)),
+            "VLR 0 ends after the points begin",
+        ),
+        (
+            &[(100, &[1]), (96, &far[..4])],
+            Fault::Vlr(VlrFault::VlrPastEnd(0)),
+            "VLR 0 ends after the file",
+        ),
+        (
+            &[(100, &[1]), (243, &far[..4])],
+            Fault::Vlr(VlrFault::VlrPastPoints(0)),
+            "VLR 0 ends after the points begin",
+        ),
+        (
+            &[(243, &far[..4])],
+            Fault::Vlr(VlrFault::TooManyVlrs),
+            "too many VLRs",
+        ),
+        (
+            &[(243, &[1]), (235, &far)],
+            Fault::Vlr(VlrFault::EvlrPastEnd(0)),
+            "EVLR 0 ends after the file",
+        ),
+        (
+            &[(243, &[1]), (235, &[0x63, 1]), (375, &far)],
+            Fault::Vlr(VlrFault::TooManyVlrs),
+            "too many VLRs",
+        ),
+        (
+            &[(247, &far)],
+            Fault::Point(PointFault::Cut(2)),
+            "file ends before record 2",
+        ),
+        (
+            &[(105, &far[..2])],
+            Fault::Point(PointFault::Cut(0)),
+            "file ends before record 0",
+        ),
+        (
+            &[(96, &far[..4])],
+            Fault::Point(PointFault::Cut(0)),
+            "file ends before record 0",
+        ),
+    ];
+    for (patches, fault, text) in rows {
+        let las = patched(alloc, &whole, patches)?;
+        let (status, said, files) = run_over(alloc, &las)?;
+        assert_eq!(rt; status, Status::Data(0, fault));
+        assert!(rt; files.contents("o.txt").is_none());
+        let line = format!(in alloc; "lasline: stage 0: {text}\n")?;
+        assert_eq!(rt; said.bytes().ok_or("no line")?, line.as_bytes());
+    }
+    Ok(())
+}
+
+#[test]
+fn records_of_each_format_may_be_longer(rt: HostRuntime) -> Result<(), Fail> {
+    let alloc = rt.alloc();
+    let whole = two_points();
+    for (format, size) in [
+        (0u8, 20u8),
+        (1, 28),
+        (2, 26),
+        (3, 34),
+        (6, 30),
+        (7, 36),
+        (8, 38),
+    ] {
+        let longer = size.wrapping_add(3);
+        let mut las = patched(alloc, &whole, &[(104, &[format, longer])])?;
+        las.truncate(375);
+        for place in [375usize, 395] {
+            let raw = whole.get(place..place + 12).ok_or("no record")?;
+            las.extend_from_slice(raw)?;
+            for byte in 12..longer {
+                las.push(byte)?;
+            }
+        }
+        let (status, said, files) = run_over(alloc, &las)?;
+        assert_eq!(rt; status, Status::Ok, "format {format}");
+        assert_eq!(rt; said.bytes().ok_or("no line")?, b"".as_slice());
+        assert_eq!(rt; files.contents("o.txt").ok_or("not kept")?, TEXT);
+    }
+    Ok(())
+}
+
+#[test]
+fn each_axis_has_its_own_grid(rt: HostRuntime) -> Result<(), Fail> {
+    let alloc = rt.alloc();
+    let patches: [(usize, &[u8]); 4] = [
+        (131, &0x3FF0_0000_0000_0000u64.to_le_bytes()),
+        (155, &0x41CD_CD64_FF80_0000u64.to_le_bytes()),
+        (163, &0xBFF8_0000_0000_0000u64.to_le_bytes()),
+        (375, &i32::MAX.to_le_bytes()),
+    ];
+    let las = patched(alloc, &two_points(), &patches)?;
+    let (status, _, files) = run_over(alloc, &las)?;
+    assert_eq!(rt; status, Status::Ok);
+    assert_eq!(rt;
+        files.contents("o.txt").ok_or("not kept")?,
+        b"\"X\",\"Y\",\"Z\"\n3147483646.000,0.500,3.000\n999999998.000,-1.500,0.050\n".as_slice()
+    );
+    Ok(())
+}
+
+/// A source of these bytes, that gives seven at a time.
+fn source(alloc: Global, bytes: &[u8]) -> Result<MemIn, AllocError> {
+    let content = Vec::from_slice(alloc, bytes)?;
+    Ok(MemIn::new(content, 7, Vec::new(alloc)))
+}
+
+#[test]
+fn an_offset_may_be_a_third(rt: HostRuntime) -> Result<(), Fail> {
+    let alloc = rt.alloc();
+    let patches: [(usize, &[u8]); 3] = [
+        (131, &0x3FF0_0000_0000_0000u64.to_le_bytes()),
+        (155, &0x3FD5_5555_5555_5555u64.to_le_bytes()),
+        (375, &1i32.to_le_bytes()),
+    ];
+    let las = patched(alloc, &two_points(), &patches)?;
+    let Ok(mut reader) = LasReader::begin(alloc, source(alloc, &las)?) else {
+        return Err(Fail::from("refused"));
+    };
+    let mut points = Spread::new();
+    let made = reader.next(1, &mut points);
+    drop(reader.release());
+    assert_eq!(rt; made, Make::Points);
+    let mut text = ArrayString::<48>::new();
+    for point in &points {
+        print_fixed(point.x as i128, 9, &mut text);
+    }
+    assert_eq!(rt; text.as_str(), "1.333333333");
+    Ok(())
+}
+
+/// A file of two points with one VLR and one EVLR.
+fn with_lists(alloc: Global) -> Result<Vec<u8>, Fail> {
+    let whole = two_points();
+    let counts: [(usize, &[u8]); 4] = [(96, &[0xB0]), (100, &[1]), (235, &[0xD8, 1]), (243, &[1])];
+    let mut las = patched(alloc, &whole, &counts)?;
+    las.truncate(375);
+    let head = patched(
+        alloc,
+        &[0; 54],
+        &[(2, b"lasline"), (18, &[7]), (20, &[3]), (22, b"plain")],
+    )?;
+    las.extend_from_slice(&head)?;
+    las.extend_from_slice(b"abc")?;
+    las.extend_from_slice(whole.get(375..).ok_or("no records")?)?;
+    let head = patched(
+        alloc,
+        &[0; 60],
+        &[(2, b"lasline"), (18, &[8]), (20, &[2]), (28, b"extended")],
+    )?;
+    las.extend_from_slice(&head)?;
+    las.extend_from_slice(b"de")?;
+    Ok(las)
+}
+
+/// The only record of a list, as its id, the beginning of its description and its payload.
+fn only(list: &VlrList) -> Option<(u16, &[u8], &[u8])> {
+    match list.as_slice() {
+        [record] => Some((record.id, record.text.get(..8)?, record.payload.as_slice())),
+        _ => None,
+    }
+}
+
+#[test]
+fn the_lists_of_a_file_are_given(rt: HostRuntime) -> Result<(), Fail> {
+    let alloc = rt.alloc();
+    let las = with_lists(alloc)?;
+    let (status, _, files) = run_over(alloc, &las)?;
+    assert_eq!(rt; status, Status::Ok);
+    assert_eq!(rt; files.contents("o.txt").ok_or("not kept")?, TEXT);
+    let Ok(reader) = LasReader::begin(alloc, source(alloc, &las)?) else {
+        return Err(Fail::from("refused"));
+    };
+    assert_eq!(rt; reader.header().points(), 2);
+    assert_eq!(rt;
+        only(reader.vlrs()),
+        Some((7, b"plain\0\0\0".as_slice(), b"abc".as_slice()))
+    );
+    assert_eq!(rt;
+        only(reader.evlrs()),
+        Some((8, b"extended".as_slice(), b"de".as_slice()))
+    );
+    drop(reader.release());
+    Ok(())
+}
+
+#[test]
+fn points_begin_where_the_header_says(rt: HostRuntime) -> Result<(), Fail> {
+    let alloc = rt.alloc();
+    let near = two_points();
+    let mut las = patched(alloc, &near, &[(96, &[0x7C])])?;
+    las.truncate(375);
+    las.extend_from_slice(b"a gap")?;
+    las.extend_from_slice(near.get(375..).ok_or("no records")?)?;
+    let (status, _, files) = run_over(alloc, &las)?;
+    assert_eq!(rt; status, Status::Ok);
+    assert_eq!(rt; files.contents("o.txt").ok_or("not kept")?, TEXT);
     Ok(())
 }
 

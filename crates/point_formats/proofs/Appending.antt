@@ -8,7 +8,7 @@ use Rattle.point_formats.specs.declared.grid.Grid.{Grid}
 use Rattle.point_formats.specs.Formats.{Item}
 use Rattle.point_formats.specs.Encoded.{item_bytes, items_bytes}
 
-abbrev joined : Result (List ℕ) EncodeFault → Result (List ℕ) EncodeFault → Result (List ℕ) EncodeFault
+abbrev pub joined : Result (List ℕ) EncodeFault → Result (List ℕ) EncodeFault → Result (List ℕ) EncodeFault
 joined a b = a >>= (λ first. b >>= (λ others. Ok (first ++ others)))
 
 joined-none : (b : Result (List ℕ) EncodeFault) → b ≡ joined (Ok []) b

@@ -1,10 +1,16 @@
 -- The grid of the coordinates.
-use Rattle.std.specs.Prelude.{ℕ, ◌^◌, ◌<◌, ℤ, pos, ◌+ℤ◌, ◌*ℤ◌, map, get_or, unsigned_abs, All}
+use Rattle.std.specs.Prelude.{ℕ, ℤ, pos, ◌+ℤ◌, ◌*ℤ◌, ◌≤ℤ◌, map, get_or, All}
+use Rattle.las_header.specs.declared.block.Header.{Header}
+use Rattle.las_header.specs.Offsets.{IsOffset}
 use Rattle.point_formats.specs.declared.grid.Grid.{Grid}
 
 -- the step of an axis, in nanounits
 abbrev pub scale_on : Grid → ℕ → ℤ
 scale_on grid axis = get_or (map (λ s. s.nano) grid.scale) axis (pos 1)
+
+-- the steps of the axes are nanounits at least
+abbrev pub HasSteps : Grid → Type 0
+HasSteps grid = (axis : ℕ) → pos 1 ≤ℤ scale_on grid axis
 
 -- the coordinate of raw number 0, in nanounits
 abbrev pub offset_on : Grid → ℕ → ℤ
@@ -14,6 +20,10 @@ offset_on grid axis = get_or grid.offset axis (pos 0)
 abbrev pub coordinate : Grid → ℕ → ℤ → ℤ
 coordinate grid axis raw = raw *ℤ scale_on grid axis +ℤ offset_on grid axis
 
--- each offset is below 10^9 units in size
+-- the grid of a file with this header
+abbrev pub grid_of : Header → Grid
+grid_of header = record { scale = header.scale; offset = header.offset }
+
+-- each offset is at most 10^9 units in size
 abbrev pub IsNear : Grid → Type 0
-IsNear grid = All (λ offset. unsigned_abs offset < 10 ^ 18) grid.offset
+IsNear grid = All IsOffset grid.offset

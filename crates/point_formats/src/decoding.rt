@@ -1,6 +1,6 @@
 //! Reads points from records.
 
-ghost use Rattle.std.specs.Prelude.{◌≡◌, ◌+◌, ◌≤◌, length};
+ghost use Rattle.std.specs.Prelude.{◌≡◌, ◌+◌, ◌≤◌, length, take, Ok};
 ghost use Rattle.las_header.specs.Formats.{format_size};
 ghost use Rattle.las_header.specs.Bytes.{number_at};
 ghost use Rattle.las_header.specs.declared.form.Format.TheVariants.{F0, F6};
@@ -8,9 +8,10 @@ ghost use Rattle.point_formats.specs.Grids.{IsNear};
 ghost use Rattle.cloud_points.specs.Points.{zero_point};
 ghost use Rattle.point_formats.specs.Formats.{coordinates, old_returns, old_class, new_returns, new_flags};
 ghost use Rattle.point_formats.specs.Records.{decoded, with_items, with_bits};
+ghost use Rattle.point_formats.specs.Encoded.{encoded};
 
 use crate::Grid;
-use crate::grid::coordinate;
+use crate::grid::{coordinate, known_steps};
 use crate::numbers::{i8_at, i16_at, i32_at, u16_at, u64_at};
 use cloud_points::Point;
 use las_header::Format;
@@ -125,11 +126,8 @@ fn with_colours(point: Point, bytes: &[u8], at: usize) -> Point
     coloured
 }
 
-/// The point of a record, of which at least the bytes of the format are there; bytes behind them aren't looked at.
-///
-/// It answers for all bytes. Each offset of the grid is below 10^18 nanounits in size. Coordinates and angles are in
-/// nanounits, and the dimensions that the format lacks are 0.
-pub fn decode(format: Format, bytes: &[u8], grid: &Grid) -> Point
+/// The point of a record, of which at least the bytes of the format are there.
+fn point_of(format: Format, bytes: &[u8], grid: &Grid) -> Point
     requires size { format_size format ≤ length bytes.now }
     requires near { IsNear grid.now }
     ensures { result ≡ decoded format grid.now bytes.now }
@@ -155,4 +153,18 @@ pub fn decode(format: Format, bytes: &[u8], grid: &Grid) -> Point
             point
         }
     }
+}
+
+/// The point of a record, of which at least the bytes of the format are there; bytes behind them aren't looked at.
+///
+/// It answers for all bytes. Each offset of the grid is at most 10^18 nanounits in size. Coordinates and angles are in
+/// nanounits, and the dimensions that the format lacks are 0. What `encode` makes of the point is the record again.
+pub fn decode(format: Format, bytes: &[u8], grid: &Grid) -> Point
+    requires size { format_size format ≤ length bytes.now }
+    requires near { IsNear grid.now }
+    ensures value { result ≡ decoded format grid.now bytes.now }
+    ensures written_back { encoded format grid.now result ≡ Ok (take (format_size format) bytes.now) }
+{
+    known_steps(grid);
+    point_of(format, bytes, grid)
 }

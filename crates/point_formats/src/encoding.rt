@@ -7,10 +7,13 @@ ghost use Rattle.las_header.specs.Formats.{format_size};
 ghost use Rattle.las_header.specs.declared.form.Format.TheVariants.{F0, F6};
 ghost use Rattle.point_formats.specs.Grids.{IsNear};
 ghost use Rattle.point_formats.specs.Formats.{old_returns, old_class, new_returns, new_flags};
+ghost use Rattle.point_formats.specs.Records.{decoded};
+ghost use Rattle.point_formats.specs.Returning.{FitsTypes, IsOfFormat};
 ghost use Rattle.point_formats.specs.Encoded.{encoded, coordinate_bytes, angle_bytes, field_number, bits_number};
 
 use crate::Grid;
-use crate::grid::raw_on;
+use crate::grid::{known_steps, raw_on};
+use crate::numbers::{known_u8, known_u16, known_u64};
 use arrayvec::ArrayVec;
 use cloud_points::{Dim, Point};
 use exact_numbers::half_away;
@@ -265,14 +268,23 @@ fn record_of(format: Format, p: &Point, grid: &Grid) -> Result<ArrayVec<u8, 38>,
     }
 }
 
-/// Puts the record of a point at the front of `out`, in which the bytes of the format have room, and answers their
-/// number. The bytes behind them stay as they were.
-///
-/// Each offset of the grid is below 10^18 nanounits in size. A coordinate becomes the nearest raw number, a half away from
-/// zero, and is refused as `NotHeld` exactly where that leaves 32 bits. An angle is rounded in the same way to degrees
-/// or steps of 0.006 degree. A value that leaves its field is refused as `ValueOutOfRange`. Of several refusals the first in
-/// the order of the record is told, and `out` is then as it was. Dimensions that the format lacks aren't written.
-pub fn encode(format: Format, p: &Point, grid: &Grid, out: &mut [u8]) -> Result<usize, EncodeFault>
+/// The numbers of a point fit their types. It does nothing: its contract is what callers want.
+fn known_numbers(p: &Point)
+    ensures { FitsTypes p.now }
+{
+    known_u64(p.gps_time);
+    known_u16(p.intensity);
+    known_u16(p.point_source_id);
+    known_u16(p.red);
+    known_u16(p.green);
+    known_u16(p.blue);
+    known_u16(p.infrared);
+    known_u8(p.classification);
+    known_u8(p.user_data);
+}
+
+/// Puts the record of a point at the front of `out`, in which the bytes of the format have room.
+fn put_record(format: Format, p: &Point, grid: &Grid, out: &mut [u8]) -> Result<usize, EncodeFault>
     requires room { format_size format ≤ length out.old }
     requires near { IsNear grid.now }
     ensures ok { IfOk result (λ n. encoded format grid.now p.now ≡ Ok (take n out.new)) }
@@ -285,4 +297,29 @@ pub fn encode(format: Format, p: &Point, grid: &Grid, out: &mut [u8]) -> Result<
     let size = block.len();
     out[..size].copy_from_slice(&block);
     Ok(size)
+}
+
+/// Puts the record of a point at the front of `out`, in which the bytes of the format have room, and answers their
+/// number. The bytes behind them stay as they were.
+///
+/// Each offset of the grid is at most 10^18 nanounits in size. A coordinate becomes the nearest raw number, a half away from
+/// zero, and is refused as `NotHeld` exactly where that leaves 32 bits. An angle is rounded in the same way to degrees
+/// or steps of 0.006 degree. A value that leaves its field is refused as `ValueOutOfRange`. Of several refusals the first in
+/// the order of the record is told, and `out` is then as it was. Dimensions that the format lacks aren't written.
+///
+/// A point is what `decode` reads from its record where its coordinates are those of raw numbers, its angle is a whole
+/// number of the steps in which the format counts angles, and the dimensions that the format lacks are 0.
+pub fn encode(format: Format, p: &Point, grid: &Grid, out: &mut [u8]) -> Result<usize, EncodeFault>
+    requires room { format_size format ≤ length out.old }
+    requires near { IsNear grid.now }
+    ensures ok { IfOk result (λ n. encoded format grid.now p.now ≡ Ok (take n out.new)) }
+    ensures size { IfOk result (λ n. n ≡ format_size format) }
+    ensures read_back { IfOk result (λ n. IsOfFormat format grid.now p.now → decoded format grid.now (take n out.new) ≡ p.now) }
+    ensures after { IfOk result (λ n. drop n out.new ≡ drop n out.old) }
+    ensures refused { IfErr result (λ e. encoded format grid.now p.now ≡ Err e) }
+    ensures unchanged { OnErr result (out.new ≡ out.old) }
+{
+    known_steps(grid);
+    known_numbers(p);
+    put_record(format, p, grid, out)
 }

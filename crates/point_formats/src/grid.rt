@@ -1,13 +1,15 @@
 //! The grid that the raw coordinates of a file count on.
 
-ghost use Rattle.std.specs.Prelude.{◌≡◌, ◌^◌, ◌<◌, unsigned_abs, FitsSigned};
+ghost use Rattle.std.specs.Prelude.{◌≡◌, ◌^◌, ◌<◌, ◌≤◌, pos, ◌≤ℤ◌, unsigned_abs, FitsSigned};
 ghost use Rattle.std.specs.Int.{w32};
 ghost use Rattle.std.specs.Result.{OkIff};
 ghost use Rattle.decimal_coords.specs.Grid.{nearest_step};
 ghost use Rattle.std.specs.List.{All};
-ghost use Rattle.point_formats.specs.Grids.{coordinate, scale_on, offset_on, IsNear};
+ghost use Rattle.las_header.specs.Offsets.{IsOffset};
+ghost use Rattle.point_formats.specs.Grids.{coordinate, scale_on, offset_on, grid_of, HasSteps, IsNear};
 
 use decimal_coords::{NotHeld, Scale, raw, real};
+use las_header::Header;
 
 /// The greatest size of a coordinate in nanounits that some grid may hold.
 const MOST_NANO: u64 = 4_000_000_000_000_000_000;
@@ -22,6 +24,35 @@ pub struct Grid {
     pub offset: [i64; 3],
 }
 
+impl Grid {
+    /// The grid of a file with this header.
+    pub fn of(header: &Header) -> Grid
+        ensures { result ≡ grid_of header.now }
+    {
+        Grid {
+            scale: header.scale,
+            offset: header.offset,
+        }
+    }
+}
+
+/// The step of an axis is a nanounit at least. It does nothing: its contract is what callers want.
+fn known_step(grid: &Grid, axis: usize)
+    requires { axis < 3 }
+    ensures { pos 1 ≤ℤ scale_on grid.now axis }
+{
+    let _step = grid.scale[axis].nano();
+}
+
+/// The steps of the axes are nanounits at least. It does nothing: its contract is what callers want.
+pub(crate) fn known_steps(grid: &Grid)
+    ensures { HasSteps grid.now }
+{
+    known_step(grid, 0);
+    known_step(grid, 1);
+    known_step(grid, 2);
+}
+
 /// The coordinate of a raw number on an axis, in nanounits.
 pub(crate) fn coordinate(grid: &Grid, axis: usize, raw: i32) -> i64
     requires axis { axis < 3 }
@@ -33,7 +64,7 @@ pub(crate) fn coordinate(grid: &Grid, axis: usize, raw: i32) -> i64
 
 /// The raw number of a coordinate in nanounits, of any size; it is refused exactly where it leaves 32 bits.
 fn raw_number(nano: i64, scale: Scale, off: i64) -> Result<i32, NotHeld>
-    requires { unsigned_abs off < 10 ^ 18 }
+    requires { IsOffset off }
     ensures { OkIff result (FitsSigned w32 (nearest_step nano scale.nano off)) (nearest_step nano scale.nano off) }
 {
     if nano.unsigned_abs() > MOST_NANO {

@@ -6,12 +6,14 @@ mod decoding;
 mod encoding;
 mod grid;
 mod laws;
+mod layouts;
 mod numbers;
 
 pub use decoding::decode;
 pub use encoding::{EncodeFault, encode};
 pub use grid::Grid;
 pub use laws::{numbers_return, records_are_whole};
+pub use layouts::dims;
 
 #[cfg(test)]
 mod tests;

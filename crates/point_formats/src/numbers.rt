@@ -1,6 +1,6 @@
 //! Numbers in the bytes of a record, the lowest byte first.
 
-ghost use Rattle.std.specs.Prelude.{◌≡◌, ◌+◌, ◌*◌, ◌/◌, ◌%◌, ◌^◌, ◌≤◌, length, slice_index};
+ghost use Rattle.std.specs.Prelude.{◌≡◌, ◌+◌, ◌*◌, ◌/◌, ◌%◌, ◌^◌, ◌<◌, ◌≤◌, length, slice_index};
 ghost use Rattle.std.specs.Int.{w8, w16, w32, cast_signed};
 ghost use Rattle.las_header.specs.Bytes.{number_at};
 
@@ -47,3 +47,18 @@ pub(crate) fn u64_at(bytes: &[u8], at: usize) -> u64
         bytes[at + 7],
     ])
 }
+
+/// A number fits its type.
+pub(crate) fn known_u8(number: u8)
+    ensures { number < 2 ^ 8 }
+{}
+
+/// A number fits its type.
+pub(crate) fn known_u16(number: u16)
+    ensures { number < 2 ^ 16 }
+{}
+
+/// A number fits its type.
+pub(crate) fn known_u64(number: u64)
+    ensures { number < 2 ^ 64 }
+{}

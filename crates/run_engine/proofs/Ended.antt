@@ -213,10 +213,10 @@ module _ {S K : Type 0} (s : source.Ghosts S) (k : sink.Ghosts K) (chunk : ℕ) 
     pub read : s.faults reader.source ≤ s.faults reader'.source
     pub wrote : k.faults writer.sink ≤ k.faults writer'.sink
     pub ok : reader.progress ≡ Records 0 → NoFault new → (file : List ℕ) → s.bytes reader.source ≡ Some file →
-        (whole_flow (las_with reader.count file) ≡ Ok (las_flow (las_with reader.count file))) × (map count_at new ≡ counts (las_flow (las_with reader.count file)) hs)
-        × (holds_text (k.bytes writer.sink) [] ≡ true → holds_text (k.bytes writer'.sink) (points (streamed (las_flow (las_with reader.count file)) hs)) ≡ true)
+        (whole_flow (las_with reader.header file) ≡ Ok (las_flow (las_with reader.header file))) × (map count_at new ≡ counts (las_flow (las_with reader.header file)) hs)
+        × (holds_text (k.bytes writer.sink) [] ≡ true → holds_text (k.bytes writer'.sink) (points (streamed (las_flow (las_with reader.header file)) hs)) ≡ true)
     pub faulty : reader.progress ≡ Records 0 → (i : ℕ) (f : PointFault) → NoDevice new (length new) → PointFaultAt new i f → (file : List ℕ) → s.bytes reader.source ≡ Some file →
-        whole_flow (las_with reader.count file) ≡ Err (Data i (fault.Point f))
+        whole_flow (las_with reader.header file) ≡ Err (Data i (fault.Point f))
     pub device : (i : ℕ) → DeviceAt new i → AtTurns (Rose (s.faults reader.source) (s.faults reader'.source)) (Rose (k.faults writer.sink) (k.faults writer'.sink)) (length hs + 1) (Stage i) (op_at i)
 
   no_cut : (las : Las) (c : Option ℕ) → las.cut ≡ c → fault_with c ≡ None → whole_flow las ≡ Ok (las_flow las)
@@ -256,7 +256,7 @@ module _ {S K : Type 0} (s : source.Ghosts S) (k : sink.Ghosts K) (chunk : ℕ) 
     -- over a file that is told, where no device failed
     module _ (start : reader.progress ≡ Records 0) (calm : NoDevice (m ∷ ms) (length (m ∷ ms))) (file : List ℕ) (told : s.bytes reader.source ≡ Some file) where
       abbrev pub las : Las
-      las = las_with reader.count file
+      las = las_with reader.header file
 
       starts : (told_of s.bytes n.work ≡ flow_marks (las_flow las)) × (tells_of s.bytes n.work ≡ true) × (told_fault_of s.bytes n.work ≡ cut_fault las)
       starts = let t = reader_starts {K = K} s.bytes reader file start told in (ap (told_of s.bytes) new.0.work ∙ t.told, ap (tells_of s.bytes) new.0.work ∙ t.tells, ap (told_fault_of s.bytes) new.0.work ∙ t.fault)
@@ -322,7 +322,7 @@ module _ {S K : Type 0} (s : source.Ghosts S) (k : sink.Ghosts K) (chunk : ℕ) 
       wrote = behind.wrote;
       ok = λ start sound file told.
           let calm : NoDevice (m ∷ ms) (length (m ∷ ms)) = λ j x h e. ap is_device (sound j x e) in
-          (whole start calm file told (sound 0 m refl), counted-all start calm file told, behind.held (las_flow (las_with reader.count file)) (took start calm file told));
+          (whole start calm file told (sound 0 m refl), counted-all start calm file told, behind.held (las_flow (las_with reader.header file)) (took start calm file told));
       faulty = λ start i f calm at file told. fault_is start calm file told i f at;
       device = device_at;
     }
@@ -334,10 +334,11 @@ module _ {S K : Type 0} (s : source.Ghosts S) (k : sink.Ghosts K) (chunk : ℕ) 
 
   -- what a run that was refused says
   pub because : (new : List (Node (Kind S K))) (e : Ended new) (refusal : Refusal) → reader.progress ≡ Records 0 → IsOutcome new refusal → (file : List ℕ) → s.bytes reader.source ≡ Some file →
-      Because (whole_flow (las_with reader.count file)) (AtTurns (Rose (s.faults reader.source) (s.faults e.reader'.source)) (Rose (k.faults writer.sink) (k.faults e.writer'.sink)) (length hs + 1)) refusal
+      Because (whole_flow (las_with reader.header file)) (AtTurns (Rose (s.faults reader.source) (s.faults e.reader'.source)) (Rose (k.faults writer.sink) (k.faults e.writer'.sink)) (length hs + 1)) refusal
   because new e Memory start out file told = absurd out
   because new e (NotBuilt r) start out file told = absurd out
   because new e (Data i (fault.Header f)) start out file told = absurd out
+  because new e (Data i (fault.Vlr f)) start out file told = absurd out
   because new e (Data i (fault.Point f)) start out file told = e.faulty start i f out.0 out.1 file told
   because new e (Device PipelineFile o) start out file told = absurd out
   because new e (Device Out o) start out file told = absurd out
@@ -348,6 +349,7 @@ module _ {S K : Type 0} (s : source.Ghosts S) (k : sink.Ghosts K) (chunk : ℕ) 
   blamed new e Memory out = absurd out
   blamed new e (NotBuilt r) out = absurd out
   blamed new e (Data i (fault.Header f)) out = absurd out
+  blamed new e (Data i (fault.Vlr f)) out = absurd out
   blamed new e (Data i (fault.Point f)) out = tt
   blamed new e (Device PipelineFile o) out = absurd out
   blamed new e (Device Out o) out = absurd out

@@ -53,17 +53,17 @@ module _ {S K : Type 0} (s : source.Ghosts S) (k : sink.Ghosts K) (chunk : ℕ) 
 
   module _ {C : Type 0} (items : C → List StageCount) (o : Result C Refusal) (new : List (Node (Kind S K))) (e : Ended s k chunk reader hs writer new) (r : LasReader S) (w : TextWriter K) (same_r : r ≡ e.reader') (same_w : w ≡ e.writer') where
     pub ok-is : reader.progress ≡ Records 0 → IfOk o (λ c. NoFault new × (items c ≡ map count_at new)) → IfOk o (λ c. (file : List ℕ) → s.bytes reader.source ≡ Some file
-        → (whole_flow (las_with reader.count file) ≡ Ok (las_flow (las_with reader.count file))) × (items c ≡ counts (las_flow (las_with reader.count file)) hs)
-        × (holds_text (k.bytes writer.sink) [] ≡ true → holds_text (k.bytes w.sink) (points (streamed (las_flow (las_with reader.count file)) hs)) ≡ true))
+        → (whole_flow (las_with reader.header file) ≡ Ok (las_flow (las_with reader.header file))) × (items c ≡ counts (las_flow (las_with reader.header file)) hs)
+        × (holds_text (k.bytes writer.sink) [] ≡ true → holds_text (k.bytes w.sink) (points (streamed (las_flow (las_with reader.header file)) hs)) ≡ true))
     ok-is start known = IfOk-weaker o _ _ (λ c h. λ file told.
         (let t = e.ok start h.0 file told in
-        (t.0, h.1 ∙ t.1, λ empty. subst (λ (x : TextWriter K). holds_text (k.bytes x.sink) (points (streamed (las_flow (las_with reader.count file)) hs)) ≡ true) (sym same_w) (t.2 empty)))) known
+        (t.0, h.1 ∙ t.1, λ empty. subst (λ (x : TextWriter K). holds_text (k.bytes x.sink) (points (streamed (las_flow (las_with reader.header file)) hs)) ≡ true) (sym same_w) (t.2 empty)))) known
 
-    pub err-is : reader.progress ≡ Records 0 → IfErr o (IsOutcome new) → IfErr o (λ refusal. (file : List ℕ) → s.bytes reader.source ≡ Some file → Because (whole_flow (las_with reader.count file))
+    pub err-is : reader.progress ≡ Records 0 → IfErr o (IsOutcome new) → IfErr o (λ refusal. (file : List ℕ) → s.bytes reader.source ≡ Some file → Because (whole_flow (las_with reader.header file))
         (AtTurns (Rose (s.faults reader.source) (s.faults r.source)) (Rose (k.faults writer.sink) (k.faults w.sink)) (length hs + 1)) refusal)
     err-is start known = IfErr-weaker o _ _ (λ refusal out. λ file told.
-        subst (λ (x : LasReader S). Because (whole_flow (las_with reader.count file)) (AtTurns (Rose (s.faults reader.source) (s.faults x.source)) (Rose (k.faults writer.sink) (k.faults w.sink)) (length hs + 1)) refusal) (sym same_r)
-        (subst (λ (x : TextWriter K). Because (whole_flow (las_with reader.count file)) (AtTurns (Rose (s.faults reader.source) (s.faults e.reader'.source)) (Rose (k.faults writer.sink) (k.faults x.sink)) (length hs + 1)) refusal) (sym same_w)
+        subst (λ (x : LasReader S). Because (whole_flow (las_with reader.header file)) (AtTurns (Rose (s.faults reader.source) (s.faults x.source)) (Rose (k.faults writer.sink) (k.faults w.sink)) (length hs + 1)) refusal) (sym same_r)
+        (subst (λ (x : TextWriter K). Because (whole_flow (las_with reader.header file)) (AtTurns (Rose (s.faults reader.source) (s.faults e.reader'.source)) (Rose (k.faults writer.sink) (k.faults x.sink)) (length hs + 1)) refusal) (sym same_w)
         (because s k chunk reader hs writer new e refusal start out file told))) known
 
     pub blamed-is : IfErr o (IsOutcome new) → IfErr o (Blamed (AtTurns (Rose (s.faults reader.source) (s.faults r.source)) (Rose (k.faults writer.sink) (k.faults w.sink)) (length hs + 1)))

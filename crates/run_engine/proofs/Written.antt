@@ -99,9 +99,9 @@ module _ {S K C : Type 0} (s : source.Ghosts S) (k : sink.Ghosts K) (items : C �
     (opened : map1 ≡ map0) (closed : map3 ≡ map2)
     (count1 : faults0 ≤ faults1) (count2 : faults1 ≤ faults2) (count3 : faults2 ≤ faults3) (counted_out : saturating faults1 (k.faults writer'.sink) ≤ faults2) (counted_in : saturating faults2 (s.faults source_back) ≤ faults3)
     (ran_ok : IfOk outcome (λ c. (file : List ℕ) → s.bytes reader.source ≡ Some file
-    → (whole_flow (las_with reader.count file) ≡ Ok (las_flow (las_with reader.count file))) × (items c ≡ counts (las_flow (las_with reader.count file)) slice)
-    × (holds_text (k.bytes writer.sink) [] ≡ true → holds_text (k.bytes writer'.sink) (points (streamed (las_flow (las_with reader.count file)) slice)) ≡ true)))
-    (ran_err : IfErr outcome (λ r. (file : List ℕ) → s.bytes reader.source ≡ Some file → Because (whole_flow (las_with reader.count file))
+    → (whole_flow (las_with reader.header file) ≡ Ok (las_flow (las_with reader.header file))) × (items c ≡ counts (las_flow (las_with reader.header file)) slice)
+    × (holds_text (k.bytes writer.sink) [] ≡ true → holds_text (k.bytes writer'.sink) (points (streamed (las_flow (las_with reader.header file)) slice)) ≡ true)))
+    (ran_err : IfErr outcome (λ r. (file : List ℕ) → s.bytes reader.source ≡ Some file → Because (whole_flow (las_with reader.header file))
     (AtTurns (Rose (s.faults reader.source) (s.faults reader'.source)) (Rose (k.faults writer.sink) (k.faults writer'.sink)) (length slice + 1)) r))
     (ran_blamed : IfErr outcome (Blamed (AtTurns (Rose (s.faults reader.source) (s.faults reader'.source)) (Rose (k.faults writer.sink) (k.faults writer'.sink)) (length slice + 1))))
     (kept_ok : IfOk result (λ c. (outcome ≡ Ok c) × (map2 ≡ kept map1 name (k.bytes writer'.sink))))
@@ -129,9 +129,9 @@ module _ {S K C : Type 0} (s : source.Ghosts S) (k : sink.Ghosts K) (items : C �
 
   module _ (file : List ℕ) (told : s.bytes reader.source ≡ Some file) where
     abbrev pub flow : Flow the_point.Point
-    flow = las_flow (las_with reader.count file)
+    flow = las_flow (las_with reader.header file)
 
-    ran-so : (c : C) → outcome ≡ Ok c → (whole_flow (las_with reader.count file) ≡ Ok flow) × (items c ≡ counts flow chain.heads) × IsAsTold (k.bytes writer'.sink) (Some (text_output (points (streamed flow chain.heads))))
+    ran-so : (c : C) → outcome ≡ Ok c → (whole_flow (las_with reader.header file) ≡ Ok flow) × (items c ≡ counts flow chain.heads) × IsAsTold (k.bytes writer'.sink) (Some (text_output (points (streamed flow chain.heads))))
     ran-so c e =
         let t = ok_at outcome _ c e ran_ok file told in
         (t.0, t.1 ∙ ap (counts flow) heads_of_slice, held_text (k.bytes writer'.sink) (points (streamed flow chain.heads)) (subst (λ hs. holds_text (k.bytes writer'.sink) (points (streamed flow hs)) ≡ true) heads_of_slice (t.2 empty)))
@@ -140,17 +140,17 @@ module _ {S K C : Type 0} (s : source.Ghosts S) (k : sink.Ghosts K) (items : C �
     put-so c e is = subst (λ m. WerePut map0 (written chain flow).outputs m) (sym closed)
         (put-is map0 map1 map2 chain.to (text_output (points (streamed flow chain.heads))) (k.bytes writer'.sink) opened (ran-so c e).2 (is ∙ ap (λ n. kept map1 n (k.bytes writer'.sink)) name_is))
 
-  pub ran-ok : IfOk result (λ c. (file : List ℕ) → s.bytes reader.source ≡ Some file → (whole_flow (las_with reader.count file) ≡ Ok (las_flow (las_with reader.count file)))
-      × (items c ≡ counts (las_flow (las_with reader.count file)) chain.heads) × WerePut map0 (written chain (las_flow (las_with reader.count file))).outputs map3)
+  pub ran-ok : IfOk result (λ c. (file : List ℕ) → s.bytes reader.source ≡ Some file → (whole_flow (las_with reader.header file) ≡ Ok (las_flow (las_with reader.header file)))
+      × (items c ≡ counts (las_flow (las_with reader.header file)) chain.heads) × WerePut map0 (written chain (las_flow (las_with reader.header file))).outputs map3)
   ran-ok = IfOk-weaker result _ _ (λ c h. λ file told. (let t = ran-so file told c h.0 in (t.0, t.1, put-so file told c h.0 h.1))) kept_ok
 
-  pub ran-err : IfErr result (λ r. (file : List ℕ) → s.bytes reader.source ≡ Some file → Because (whole_flow (las_with reader.count file))
-      (AtStages (λ o. (o ≡ op.Read) × rose) (AtWriter rose ⊤ (whole_flow (las_with reader.count file) ≡ Ok (las_flow (las_with reader.count file)))) (last_stage chain)) r)
+  pub ran-err : IfErr result (λ r. (file : List ℕ) → s.bytes reader.source ≡ Some file → Because (whole_flow (las_with reader.header file))
+      (AtStages (λ o. (o ≡ op.Read) × rose) (AtWriter rose ⊤ (whole_flow (las_with reader.header file) ≡ Ok (las_flow (las_with reader.header file)))) (last_stage chain)) r)
   ran-err = IfErr-weaker result _ _ (λ r h. λ file told.
-      err_of outcome (whole_flow (las_with reader.count file)) (last_stage chain) (Rose (s.faults reader.source) (s.faults reader'.source)) (Rose (k.faults writer.sink) (k.faults writer'.sink)) (Rose faults1 faults2) rose
-      (whole_flow (las_with reader.count file) ≡ Ok (las_flow (las_with reader.count file))) map1 map2 (kept map1 name (k.bytes writer'.sink)) read_rose write_rose kept_rose r
+      err_of outcome (whole_flow (las_with reader.header file)) (last_stage chain) (Rose (s.faults reader.source) (s.faults reader'.source)) (Rose (k.faults writer.sink) (k.faults writer'.sink)) (Rose faults1 faults2) rose
+      (whole_flow (las_with reader.header file) ≡ Ok (las_flow (las_with reader.header file))) map1 map2 (kept map1 name (k.bytes writer'.sink)) read_rose write_rose kept_rose r
       (λ ok. some_ok outcome ok (λ c e. (ran-so file told c e).0))
-      (λ q e. subst (λ n. Because (whole_flow (las_with reader.count file)) (AtTurns (Rose (s.faults reader.source) (s.faults reader'.source)) (Rose (k.faults writer.sink) (k.faults writer'.sink)) n) q) slice_last (err_at outcome _ q e ran_err file told))
+      (λ q e. subst (λ n. Because (whole_flow (las_with reader.header file)) (AtTurns (Rose (s.faults reader.source) (s.faults reader'.source)) (Rose (k.faults writer.sink) (k.faults writer'.sink)) n) q) slice_last (err_at outcome _ q e ran_err file told))
       (subst (λ n. IsKept outcome n (Rose faults1 faults2) map1 map2 (kept map1 name (k.bytes writer'.sink)) r) last_is h)) kept_err
 
   pub ran-blamed : IfErr result (Blamed (AtStages (λ o. (o ≡ op.Read) × rose) (AtWriter rose ⊤ ⊤) (last_stage chain)))
@@ -159,7 +159,7 @@ module _ {S K C : Type 0} (s : source.Ghosts S) (k : sink.Ghosts K) (items : C �
       (λ q e. subst (λ n. Blamed (AtTurns (Rose (s.faults reader.source) (s.faults reader'.source)) (Rose (k.faults writer.sink) (k.faults writer'.sink)) n) q) slice_last (err_at outcome _ q e ran_blamed))
       (subst (λ n. IsKept outcome n (Rose faults1 faults2) map1 map2 (kept map1 name (k.bytes writer'.sink)) r) last_is h)) kept_err
 
-  pub ran-left : IfErr result (λ r. (file : List ℕ) → s.bytes reader.source ≡ Some file → IsLeft r map0 map3 (whole_flow (las_with reader.count file) ≡ Ok (las_flow (las_with reader.count file))) (written chain (las_flow (las_with reader.count file))).outputs)
+  pub ran-left : IfErr result (λ r. (file : List ℕ) → s.bytes reader.source ≡ Some file → IsLeft r map0 map3 (whole_flow (las_with reader.header file) ≡ Ok (las_flow (las_with reader.header file))) (written chain (las_flow (las_with reader.header file))).outputs)
   ran-left = IfErr-weaker result _ _ (λ r h. λ file told.
-      left_of outcome (len + 1) (Rose faults1 faults2) (whole_flow (las_with reader.count file) ≡ Ok (las_flow (las_with reader.count file))) map0 map1 map2 map3 (kept map1 name (k.bytes writer'.sink)) (written chain (las_flow (las_with reader.count file))).outputs r opened closed
-      (λ ok. some_ok outcome ok (λ c e. ((ran-so file told c e).0, λ is. subst (λ m. WerePut map0 (written chain (las_flow (las_with reader.count file))).outputs m) closed (put-so file told c e is)))) h) kept_err
+      left_of outcome (len + 1) (Rose faults1 faults2) (whole_flow (las_with reader.header file) ≡ Ok (las_flow (las_with reader.header file))) map0 map1 map2 map3 (kept map1 name (k.bytes writer'.sink)) (written chain (las_flow (las_with reader.header file))).outputs r opened closed
+      (λ ok. some_ok outcome ok (λ c e. ((ran-so file told c e).0, λ is. subst (λ m. WerePut map0 (written chain (las_flow (las_with reader.header file))).outputs m) closed (put-so file told c e is)))) h) kept_err

@@ -10,7 +10,7 @@ use Rattle.cloud_points.specs.Queue.{up_to_limit}
 use Rattle.network_core.specs.declared.node.Node.{Node}
 use Rattle.run_report.specs.declared.report.StageCount.{StageCount}
 use Rattle.run_report.specs.declared.refusal.Place.TheVariants.{PipelineFile, Stage, Out}
-use Rattle.run_report.specs.declared.refusal.Fault.TheVariants.{Header, Point}
+use Rattle.run_report.specs.declared.refusal.Fault.TheVariants.{Header, Vlr, Point}
 use Rattle.run_report.specs.declared.refusal.Refusal.{Refusal}
 use Rattle.run_report.specs.declared.refusal.Refusal.TheVariants.{Data, Device, Memory, NotBuilt}
 
@@ -49,6 +49,7 @@ abbrev pub IsOutcome : {W : Type 0} → List (Node W) → Refusal → Type 0
 IsOutcome nodes Memory = ⊥
 IsOutcome nodes (NotBuilt r) = ⊥
 IsOutcome nodes (Data i (Header f)) = ⊥
+IsOutcome nodes (Data i (Vlr f)) = ⊥
 IsOutcome nodes (Data i (Point f)) = NoDevice nodes (length nodes) × PointFaultAt nodes i f
 IsOutcome nodes (Device PipelineFile o) = ⊥
 IsOutcome nodes (Device Out o) = ⊥

@@ -5,14 +5,14 @@ use Rattle.file_devices.specs.declared.devices.Op.TheVariants.{Open}
 use Rattle.cloud_points.specs.declared.point.Point.{Point}
 use Rattle.cloud_points.specs.Flows.{Flow, points}
 use Rattle.cloud_points.specs.declared.faults.PointFault.TheVariants.{Cut}
-use Rattle.las_reader.specs.Headers.{LasFault, In_header, Not_built}
+use Rattle.las_reader.specs.Frames.{LasFault, In_header, In_list}
 use Rattle.las_reader.specs.Files.{Las, las_of}
 use Rattle.pipeline_json.specs.Pipelines.{Chain}
 use Rattle.run_report.specs.declared.refusal.Place.{Place}
 use Rattle.run_report.specs.declared.refusal.Place.TheVariants.{Stage}
 use Rattle.run_report.specs.declared.refusal.Fault.TheVariants as fault
 use Rattle.run_report.specs.declared.refusal.Refusal.{Refusal}
-use Rattle.run_report.specs.declared.refusal.Refusal.TheVariants.{Data, Device, NotBuilt}
+use Rattle.run_report.specs.declared.refusal.Refusal.TheVariants.{Data, Device}
 use Rattle.run_report.specs.Reports.{report_of}
 use Rattle.stage_kinds.specs.Reads.{las_flow}
 use Rattle.text_writer.specs.TextOutput.{text_output}
@@ -43,7 +43,7 @@ opened (Some bytes) place = Ok bytes
 abbrev pub las_read : Result Las LasFault → Result Las Refusal
 las_read (Ok las) = Ok las
 las_read (Err (In_header f)) = Err (Data 0 (fault.Header f))
-las_read (Err Not_built) = Err (NotBuilt 3)
+las_read (Err (In_list f)) = Err (Data 0 (fault.Vlr f))
 
 -- what a chain's reader reads, of a file that may be there
 abbrev pub las_at : Option (List ℕ) → Result Las Refusal

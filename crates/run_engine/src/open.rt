@@ -21,7 +21,7 @@ fn opening_refusal(e: OpenErr) -> Refusal
 {
     match e {
         OpenErr::Header(fault) => Refusal::Data(0, Fault::Header(fault)),
-        OpenErr::NotBuilt => Refusal::NotBuilt(3),
+        OpenErr::Vlr(fault) => Refusal::Data(0, Fault::Vlr(fault)),
         OpenErr::ReadFailed => Refusal::Device(Place::Stage(0), Op::Read),
         OpenErr::Memory => Refusal::Memory,
     }
@@ -33,7 +33,7 @@ pub(crate) fn open_reader<F: Files>(
     files: &mut F,
     name: &str,
 ) -> Result<LasReader<F::In>, Refusal>
-    ensures ok { IfOk result (λ r. (m : Names) → F.map files.old ≡ Some m → IsReading (F.In.bytes r.source) r.count (las_at (m name.now))) }
+    ensures ok { IfOk result (λ r. (m : Names) → F.map files.old ≡ Some m → IsReading (F.In.bytes r.source) r.header (las_at (m name.now))) }
     ensures start { IfOk result (λ r. r.progress ≡ Records 0) }
     ensures err { IfErr result (λ refusal. (m : Names) → F.map files.old ≡ Some m
         → Because (las_at (m name.now)) (AtOpening (Rose (F.faults files.old) (F.faults files.new))) refusal) }

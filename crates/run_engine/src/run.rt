@@ -67,17 +67,17 @@ fn write_text<F: Files>(
     requires room { length pipeline.now.heads.items + 2 ≤ vec_capacity room }
     requires few { length pipeline.now.heads.items ≤ 62 }
     ensures ok { IfOk result (λ counts. (file : List ℕ) → F.In.bytes reader.source ≡ Some file
-        → (whole_flow (las_with reader.count file) ≡ Ok (las_flow (las_with reader.count file)))
-        × (counts.items ≡ chain.counts (las_flow (las_with reader.count file)) pipeline.now.heads.items)
-        × WerePut (F.map files.old) (written (chain_of pipeline.now) (las_flow (las_with reader.count file))).outputs (F.map files.new)) }
-    ensures err { IfErr result (λ refusal. (file : List ℕ) → F.In.bytes reader.source ≡ Some file → Because (whole_flow (las_with reader.count file))
+        → (whole_flow (las_with reader.header file) ≡ Ok (las_flow (las_with reader.header file)))
+        × (counts.items ≡ chain.counts (las_flow (las_with reader.header file)) pipeline.now.heads.items)
+        × WerePut (F.map files.old) (written (chain_of pipeline.now) (las_flow (las_with reader.header file))).outputs (F.map files.new)) }
+    ensures err { IfErr result (λ refusal. (file : List ℕ) → F.In.bytes reader.source ≡ Some file → Because (whole_flow (las_with reader.header file))
         (AtStages (λ o. (o ≡ Read) × Rose (F.faults files.old) (F.faults files.new))
-        (AtWriter (Rose (F.faults files.old) (F.faults files.new)) ⊤ (whole_flow (las_with reader.count file) ≡ Ok (las_flow (las_with reader.count file)))) (last_stage (chain_of pipeline.now))) refusal) }
+        (AtWriter (Rose (F.faults files.old) (F.faults files.new)) ⊤ (whole_flow (las_with reader.header file) ≡ Ok (las_flow (las_with reader.header file)))) (last_stage (chain_of pipeline.now))) refusal) }
     ensures blamed { IfErr result (Blamed
         (AtStages (λ o. (o ≡ Read) × Rose (F.faults files.old) (F.faults files.new)) (AtWriter (Rose (F.faults files.old) (F.faults files.new)) ⊤ ⊤) (last_stage (chain_of pipeline.now)))) }
     ensures left { IfErr result (λ refusal. (file : List ℕ) → F.In.bytes reader.source ≡ Some file
-        → IsLeft refusal (F.map files.old) (F.map files.new) (whole_flow (las_with reader.count file) ≡ Ok (las_flow (las_with reader.count file)))
-        (written (chain_of pipeline.now) (las_flow (las_with reader.count file))).outputs) }
+        → IsLeft refusal (F.map files.old) (F.map files.new) (whole_flow (las_with reader.header file) ≡ Ok (las_flow (las_with reader.header file)))
+        (written (chain_of pipeline.now) (las_flow (las_with reader.header file))).outputs) }
     ensures few { IfOk result (λ counts. length counts.items ≤ 64) }
     ensures lent { F.lent files.new ≡ F.lent files.old - 1 }
     ensures later { F.faults files.old ≤ F.faults files.new }

@@ -91,10 +91,10 @@ pub(crate) fn run_stages<S: Source, K: Sink>(
     requires room { length heads.now + 2 ≤ vec_capacity room }
     requires few { length heads.now ≤ 62 }
     ensures ok { IfOk result.outcome (λ counts. (file : List ℕ) → S.bytes reader.source ≡ Some file
-        → (whole_flow (las_with reader.count file) ≡ Ok (las_flow (las_with reader.count file)))
-        × (counts.items ≡ chain.counts (las_flow (las_with reader.count file)) heads.now)
-        × (holds_text (K.bytes writer.sink) [] ≡ true → holds_text (K.bytes result.writer.sink) (points (chain.streamed (las_flow (las_with reader.count file)) heads.now)) ≡ true)) }
-    ensures err { IfErr result.outcome (λ refusal. (file : List ℕ) → S.bytes reader.source ≡ Some file → Because (whole_flow (las_with reader.count file))
+        → (whole_flow (las_with reader.header file) ≡ Ok (las_flow (las_with reader.header file)))
+        × (counts.items ≡ chain.counts (las_flow (las_with reader.header file)) heads.now)
+        × (holds_text (K.bytes writer.sink) [] ≡ true → holds_text (K.bytes result.writer.sink) (points (chain.streamed (las_flow (las_with reader.header file)) heads.now)) ≡ true)) }
+    ensures err { IfErr result.outcome (λ refusal. (file : List ℕ) → S.bytes reader.source ≡ Some file → Because (whole_flow (las_with reader.header file))
         (AtTurns (Rose (S.faults reader.source) (S.faults result.reader.source)) (Rose (K.faults writer.sink) (K.faults result.writer.sink)) (length heads.now + 1)) refusal) }
     ensures blamed { IfErr result.outcome (Blamed
         (AtTurns (Rose (S.faults reader.source) (S.faults result.reader.source)) (Rose (K.faults writer.sink) (K.faults result.writer.sink)) (length heads.now + 1))) }

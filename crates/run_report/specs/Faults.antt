@@ -2,20 +2,47 @@
 use Rattle.std.specs.Prelude.{ℕ, List, ◌++◌, codes, decimal}
 use Rattle.file_devices.specs.declared.devices.Op.{Op}
 use Rattle.file_devices.specs.declared.devices.Op.TheVariants.{Open, Read, Create, Write, Patch, Keep}
-use Rattle.las_reader.specs.declared.las_header.HeaderFault.{HeaderFault}
-use Rattle.las_reader.specs.declared.las_header.HeaderFault.TheVariants.{NotLas}
+use Rattle.las_header.specs.declared.faults.Axis.{Axis}
+use Rattle.las_header.specs.declared.faults.Axis.TheVariants.{X, Y, Z}
+use Rattle.las_header.specs.declared.faults.HeaderFault.{HeaderFault}
+use Rattle.las_header.specs.declared.faults.HeaderFault.TheVariants.{NotLas, VersionNotRead, HeaderSize, Compressed, FormatNotRead, RecordTooShort, PointsInHeader, ScaleNotPositive, ScaleNotDecimal, OffsetOutOfRange}
+use Rattle.las_vlr.specs.declared.entry.VlrFault.{VlrFault}
+use Rattle.las_vlr.specs.declared.entry.VlrFault.TheVariants.{TooManyVlrs, VlrPastPoints, VlrPastEnd, EvlrPastEnd}
 use Rattle.cloud_points.specs.declared.faults.PointFault.{PointFault}
 use Rattle.cloud_points.specs.declared.faults.PointFault.TheVariants.{Cut, NotHeld, ValueOutOfRange, DivideByZero, ArithOverflow}
 use Rattle.cloud_points.specs.Dims.{name_of}
 use Rattle.run_report.specs.declared.refusal.Place.{Place}
 use Rattle.run_report.specs.declared.refusal.Place.TheVariants.{PipelineFile, Stage, Out}
 use Rattle.run_report.specs.declared.refusal.Fault.{Fault}
-use Rattle.run_report.specs.declared.refusal.Fault.TheVariants.{Header, Point}
+use Rattle.run_report.specs.declared.refusal.Fault.TheVariants.{Header, Vlr, Point}
 use Rattle.run_report.specs.declared.refusal.Refusal.{Refusal}
 use Rattle.run_report.specs.declared.refusal.Refusal.TheVariants.{Data, Device, Memory, NotBuilt}
 
+abbrev pub axis_text : Axis → List ℕ
+axis_text X = codes "X"
+axis_text Y = codes "Y"
+axis_text Z = codes "Z"
+
 abbrev pub header_fault_text : HeaderFault → List ℕ
 header_fault_text NotLas = codes "not a LAS file"
+header_fault_text VersionNotRead = codes "version not read"
+header_fault_text HeaderSize = codes "header too short"
+header_fault_text Compressed = codes "compressed points"
+header_fault_text FormatNotRead = codes "point format not read"
+header_fault_text RecordTooShort = codes "record too short for its format"
+header_fault_text PointsInHeader = codes "points begin inside the header"
+header_fault_text (ScaleNotPositive axis) = codes "scale of " ++ axis_text axis ++ codes " not positive"
+header_fault_text (ScaleNotDecimal axis) = codes "scale of " ++ axis_text axis ++ codes " has no decimal of 9 places"
+header_fault_text (OffsetOutOfRange axis) = codes "offset of " ++ axis_text axis ++ codes " out of range"
+
+abbrev pub record_text : List ℕ → ℕ → List ℕ → List ℕ
+record_text kind k after = kind ++ decimal k ++ after
+
+abbrev pub vlr_fault_text : VlrFault → List ℕ
+vlr_fault_text TooManyVlrs = codes "too many VLRs"
+vlr_fault_text (VlrPastPoints k) = record_text (codes "VLR ") k (codes " ends after the points begin")
+vlr_fault_text (VlrPastEnd k) = record_text (codes "VLR ") k (codes " ends after the file")
+vlr_fault_text (EvlrPastEnd k) = record_text (codes "EVLR ") k (codes " ends after the file")
 
 abbrev pub point_text : ℕ → List ℕ
 point_text k = codes "point " ++ decimal k ++ codes ": "
@@ -29,6 +56,7 @@ point_fault_text (ArithOverflow k) = point_text k ++ codes "overflow"
 
 abbrev pub fault_text : Fault → List ℕ
 fault_text (Header f) = header_fault_text f
+fault_text (Vlr f) = vlr_fault_text f
 fault_text (Point f) = point_fault_text f
 
 abbrev pub place_text : Place → List ℕ

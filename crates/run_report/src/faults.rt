@@ -4,13 +4,14 @@ ghost use Rattle.std.specs.Prelude.{◌≡◌, ◌+◌, ◌≤◌, ◌++◌, len
 ghost use Rattle.arrayvec.specs.ArrayString.{array_string_len};
 ghost use Rattle.file_devices.specs.Counts.{HasCause};
 ghost use Rattle.file_devices.specs.Content.{Appends, AppendsPart};
-ghost use Rattle.run_report.specs.Faults.{header_fault_text, point_text, point_fault_text, fault_text, place_text, op_text, reason_text, fault_line};
+ghost use Rattle.run_report.specs.Faults.{axis_text, header_fault_text, record_text, vlr_fault_text, point_text, point_fault_text, fault_text, place_text, op_text, reason_text, fault_line};
 
 use crate::refusal::{Fault, Place, Refusal};
 use crate::text::{Text, push_number};
 use cloud_points::PointFault;
 use file_devices::{Failed, Op, Sink};
-use las_reader::HeaderFault;
+use las_header::{Axis, HeaderFault};
+use las_vlr::VlrFault;
 
 fn push_place(place: Place, text: &mut Text)
     requires { array_string_len text.old ≤ 100 }
@@ -41,12 +42,76 @@ fn op_name(op: Op) -> &'static str
     }
 }
 
-fn header_fault_text(fault: HeaderFault) -> &'static str
-    ensures text { result.now ≡ header_fault_text fault }
-    ensures len { length result.now ≤ 44 }
+fn axis_name(axis: Axis) -> &'static str
+    ensures name { result.now ≡ axis_text axis }
+    ensures len { length result.now ≤ 1 }
+{
+    match axis {
+        Axis::X => "X",
+        Axis::Y => "Y",
+        Axis::Z => "Z",
+    }
+}
+
+fn push_axis(before: &str, axis: Axis, after: &str, text: &mut Text)
+    requires room { array_string_len text.old ≤ 40 }
+    requires before { length before.now ≤ 12 }
+    requires after { length after.now ≤ 32 }
+    ensures bytes { text.new.bytes ≡ text.old.bytes ++ (before.now ++ axis_text axis ++ after.now) }
+    ensures len { array_string_len text.new ≤ array_string_len text.old + 45 }
+{
+    text.push_str(before);
+    text.push_str(axis_name(axis));
+    text.push_str(after);
+}
+
+fn push_header_fault(fault: HeaderFault, text: &mut Text)
+    requires { array_string_len text.old ≤ 40 }
+    ensures bytes { text.new.bytes ≡ text.old.bytes ++ header_fault_text fault }
+    ensures len { array_string_len text.new ≤ array_string_len text.old + 70 }
 {
     match fault {
-        HeaderFault::NotLas => "not a LAS file",
+        HeaderFault::NotLas => text.push_str("not a LAS file"),
+        HeaderFault::VersionNotRead => text.push_str("version not read"),
+        HeaderFault::HeaderSize => text.push_str("header too short"),
+        HeaderFault::Compressed => text.push_str("compressed points"),
+        HeaderFault::FormatNotRead => text.push_str("point format not read"),
+        HeaderFault::RecordTooShort => text.push_str("record too short for its format"),
+        HeaderFault::PointsInHeader => text.push_str("points begin inside the header"),
+        HeaderFault::ScaleNotPositive(axis) => push_axis("scale of ", axis, " not positive", text),
+        HeaderFault::ScaleNotDecimal(axis) => {
+            push_axis("scale of ", axis, " has no decimal of 9 places", text)
+        }
+        HeaderFault::OffsetOutOfRange(axis) => {
+            push_axis("offset of ", axis, " out of range", text)
+        }
+    }
+}
+
+fn push_record(kind: &str, number: u32, after: &str, text: &mut Text)
+    requires room { array_string_len text.old ≤ 40 }
+    requires kind { length kind.now ≤ 5 }
+    requires after { length after.now ≤ 30 }
+    ensures bytes { text.new.bytes ≡ text.old.bytes ++ record_text kind.now number after.now }
+    ensures len { array_string_len text.new ≤ array_string_len text.old + 55 }
+{
+    text.push_str(kind);
+    push_number(number as u64, text);
+    text.push_str(after);
+}
+
+fn push_vlr_fault(fault: VlrFault, text: &mut Text)
+    requires { array_string_len text.old ≤ 40 }
+    ensures bytes { text.new.bytes ≡ text.old.bytes ++ vlr_fault_text fault }
+    ensures len { array_string_len text.new ≤ array_string_len text.old + 70 }
+{
+    match fault {
+        VlrFault::TooManyVlrs => text.push_str("too many VLRs"),
+        VlrFault::VlrPastPoints(number) => {
+            push_record("VLR ", number, " ends after the points begin", text)
+        }
+        VlrFault::VlrPastEnd(number) => push_record("VLR ", number, " ends after the file", text),
+        VlrFault::EvlrPastEnd(number) => push_record("EVLR ", number, " ends after the file", text),
     }
 }
 
@@ -97,7 +162,8 @@ fn push_fault(fault: Fault, text: &mut Text)
     ensures len { array_string_len text.new ≤ array_string_len text.old + 70 }
 {
     match fault {
-        Fault::Header(fault) => text.push_str(header_fault_text(fault)),
+        Fault::Header(fault) => push_header_fault(fault, text),
+        Fault::Vlr(fault) => push_vlr_fault(fault, text),
         Fault::Point(fault) => push_point_fault(fault, text),
     }
 }

@@ -2,7 +2,8 @@
 
 use cloud_points::PointFault;
 use file_devices::Op;
-use las_reader::HeaderFault;
+use las_header::HeaderFault;
+use las_vlr::VlrFault;
 
 /// Where a device stands.
 #[derive(Clone, Copy, Debug, PartialEq, Eq)]
@@ -23,6 +24,9 @@ pub enum Fault {
     /// In the header block of its file.
     Header(HeaderFault),
 
+    /// In the variable length records of its file.
+    Vlr(VlrFault),
+
     /// At a point.
     Point(PointFault),
 }
@@ -39,6 +43,6 @@ pub enum Refusal {
     /// There was no memory.
     Memory,
 
-    /// What was asked isn't built yet: 1 the words, 2 the pipeline, 3 the form of a LAS file.
+    /// What was asked isn't built yet: 1 the words, 2 the pipeline.
     NotBuilt(u8),
 }

@@ -1,11 +1,11 @@
 -- What the stages give for a flow.
-use Rattle.std.proofs.Common.{◌≡◌, ℕ, Bool, true, false, List, [], ◌∷◌, ◌++◌, map, take, Option, Some, None, refl, sym, ap, ◌∙◌, append_assoc}
+use Rattle.std.proofs.Common.{◌≡◌, ℕ, Bool, true, false, List, [], ◌∷◌, ◌++◌, map, take, None, refl, sym, ap, ◌∙◌, append_assoc}
 use Rattle.cloud_points.specs.declared.point.Point.{Point}
 use Rattle.cloud_points.specs.declared.faults.StageFault.{StageFault}
 use Rattle.cloud_points.specs.Meaning.{Meaning, KeepsCutting}
 use Rattle.cloud_points.specs.Flows.{Flow, map_views}
 use Rattle.cloud_points.specs.Marks.{Mark, At, View_end, End, view_marks, flow_marks}
-use Rattle.network_theory.specs.Machine.{Machine, next, output, after_all}
+use Rattle.network_theory.specs.Machine.{next, output, after_all}
 use Rattle.network_theory.proofs.MachineLaws.{after_all-append, output-append, chunked, after-chunk, output-chunk}
 use Rattle.stage_kinds.specs.declared.kind.StageState.{StageState}
 use Rattle.stage_kinds.specs.declared.kind.StageState.TheVariants.{Heading, Writing}

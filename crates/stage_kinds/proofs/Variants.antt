@@ -1,5 +1,5 @@
 -- Which stage a work is, by what its calls do.
-use Rattle.std.proofs.Common.{◌≡◌, Bool, true, refl}
+use Rattle.std.proofs.Common.{◌≡◌, true, refl}
 use Rattle.las_reader.specs.declared.reader.LasReader.{LasReader}
 use Rattle.text_writer.specs.declared.writer.TextWriter.{TextWriter}
 use Rattle.stage_kinds.specs.declared.head.Head as the_head

@@ -6,6 +6,8 @@ use Rattle.cloud_points.specs.declared.faults.StageFault.TheVariants as stage
 use Rattle.cloud_points.specs.declared.faults.PointFault.TheVariants.{Cut}
 use Rattle.cloud_points.specs.Flows.{Flow}
 use Rattle.cloud_points.specs.Marks.{Mark, At, View_end, End}
+use Rattle.las_header.specs.declared.block.Header.{Header}
+use Rattle.las_header.specs.Counts.{points_in}
 use Rattle.las_reader.specs.Files.{Las, las_with}
 use Rattle.las_reader.specs.declared.reader.Progress.{Progress}
 use Rattle.las_reader.specs.declared.reader.Progress.TheVariants.{Records, ViewEnded, Ended}
@@ -50,18 +52,18 @@ is_within las (Records given) = nat_le given (length las.points)
 is_within las ViewEnded = true
 is_within las (Ended cut) = false
 
--- the same by the bytes that the source tells, and how many records the header counts
-abbrev pub tells_at : Option (List ℕ) → ℕ → Progress → Bool
-tells_at None count progress = false
-tells_at (Some file) count progress = is_within (las_with count file) progress
+-- the same by the bytes that the source tells, and the file's header
+abbrev pub tells_at : Option (List ℕ) → Header → Progress → Bool
+tells_at None header progress = false
+tells_at (Some file) header progress = is_within (las_with header file) progress
 
-abbrev pub told_at : Option (List ℕ) → ℕ → Progress → List (Mark Point)
-told_at None count progress = []
-told_at (Some file) count progress = rest_marks (las_with count file) progress
+abbrev pub told_at : Option (List ℕ) → Header → Progress → List (Mark Point)
+told_at None header progress = []
+told_at (Some file) header progress = rest_marks (las_with header file) progress
 
-abbrev pub told_fault_at : Option (List ℕ) → ℕ → Progress → Option StageFault
-told_fault_at None count progress = None
-told_fault_at (Some file) count progress = rest_fault (las_with count file) progress
+abbrev pub told_fault_at : Option (List ℕ) → Header → Progress → Option StageFault
+told_fault_at None header progress = None
+told_fault_at (Some file) header progress = rest_fault (las_with header file) progress
 
 -- how many points and views are left at most
 abbrev pub points_left : ℕ → Progress → ℕ
@@ -77,22 +79,22 @@ views_left (Ended cut) = 0
 -- of a stage, by the bytes that a source tells: only a reader has something to give
 module _ {S K : Type 0} where
   abbrev pub tells_of : (S → Option (List ℕ)) → Kind S K → Bool
-  tells_of bytes (Reader r) = tells_at (bytes r.source) r.count r.progress
+  tells_of bytes (Reader r) = tells_at (bytes r.source) r.header r.progress
   tells_of bytes (Head h) = false
   tells_of bytes (Text w) = false
 
   abbrev pub told_of : (S → Option (List ℕ)) → Kind S K → List (Mark Point)
-  told_of bytes (Reader r) = told_at (bytes r.source) r.count r.progress
+  told_of bytes (Reader r) = told_at (bytes r.source) r.header r.progress
   told_of bytes (Head h) = []
   told_of bytes (Text w) = []
 
   abbrev pub told_fault_of : (S → Option (List ℕ)) → Kind S K → Option StageFault
-  told_fault_of bytes (Reader r) = told_fault_at (bytes r.source) r.count r.progress
+  told_fault_of bytes (Reader r) = told_fault_at (bytes r.source) r.header r.progress
   told_fault_of bytes (Head h) = None
   told_fault_of bytes (Text w) = None
 
   abbrev pub points_left_of : Kind S K → ℕ
-  points_left_of (Reader r) = points_left r.count r.progress
+  points_left_of (Reader r) = points_left (points_in r.header) r.progress
   points_left_of (Head h) = 0
   points_left_of (Text w) = 0
 

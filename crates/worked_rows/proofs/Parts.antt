@@ -9,10 +9,15 @@ use Rattle.json.specs.Lex.{punctuate, lex}
 use Rattle.json.specs.Text.{content}
 use Rattle.json.specs.Word.{word, after_number}
 use Rattle.serde_json.specs.Read.{number_of}
-use Rattle.las_reader.specs.declared.las_header.HeaderFault.TheVariants.{NotLas}
-use Rattle.las_reader.specs.Headers.{LasFault, In_header, Not_built, header_of}
+use Rattle.ieee_words.specs.DecimalOfWord.{decimal_of_word, scale_of_word}
+use Rattle.las_header.specs.declared.faults.Axis.TheVariants.{X}
+use Rattle.las_header.specs.declared.faults.HeaderFault.TheVariants.{NotLas, HeaderSize, Compressed, ScaleNotDecimal}
+use Rattle.las_header.specs.Headers.{record_format, format_in, scales_of, offsets_of, header_with, header_of}
+use Rattle.las_vlr.specs.declared.entry.VlrFault.TheVariants.{TooManyVlrs, VlrPastPoints, EvlrPastEnd}
+use Rattle.las_vlr.specs.Vlrs.{entries_from}
+use Rattle.las_reader.specs.Frames.{LasFault, In_header, In_list}
 use Rattle.cloud_points.specs.Points.{zero_point}
-use Rattle.las_reader.specs.Records.{points_from}
+use Rattle.las_reader.specs.Records.{point_of, points_from}
 use Rattle.las_reader.specs.Files.{Las, las_of}
 use Rattle.file_devices.specs.declared.devices.Op.TheVariants.{Open}
 use Rattle.run_report.specs.declared.refusal.Place.TheVariants.{Stage}
@@ -21,7 +26,7 @@ use Rattle.pipeline_json.specs.Pipelines.{Chain, pipeline_of}
 use Rattle.run_engine.specs.Refusals.{and_then}
 use Rattle.run_engine.specs.Runs.{las_read, converted, run_of}
 use Rattle.lasline_top.specs.Answer.{piped, answer}
-use Rattle.worked_rows.specs.Rows.{run_p, files, files_with, pipeline_alone, pipeline_text, head_of_1, head_of_0, file_a, file_of_format_1, file_with_x, file_without_points, first_point, none_pass}
+use Rattle.worked_rows.specs.Rows.{run_p, files, files_with, pipeline_alone, pipeline_text, head_of_1, head_of_0, file_a, file_of_format_6, file_of_a_vlr, file_of_many_vlrs, file_of_a_far_evlr, file_compressed, file_of_neighbour, file_far, file_with_x, file_without_points, first_point, none_pass}
 
 -- from the LAS file to the text file through these heads
 abbrev through : List ℕ → Chain
@@ -67,40 +72,64 @@ pub count_too_large : pipeline_of (codes "[\"in.las\",{\"type\":\"filters.head\"
 unfolding is_utf8 chars encode value punctuate lex content word after_number number_of scan_numeral
 count_too_large = refl
 
-pub two_read : las_of file_a ≡ Ok (record { points = record zero_point { x = pos 1000000000; y = pos 2000000000; z = pos 3000000000 } ∷ record zero_point { x = negsuc 9999999; y = pos 0; z = pos 50000000 } ∷ []; cut = None })
-unfolding header_of points_from
+pub two_read : las_of file_a ≡ Ok (record { points = record zero_point { x = pos 1000000000; y = pos 2000000000; z = pos 3000000000; return_number = 1; number_of_returns = 1; classification = 2 } ∷ record zero_point { x = negsuc 9999999; y = pos 0; z = pos 50000000; return_number = 1; number_of_returns = 1; classification = 2 } ∷ []; cut = None })
+unfolding header_of format_in record_format scales_of offsets_of header_with scale_of_word decimal_of_word entries_from point_of points_from
 two_read = refl
 
 pub none_read : las_of file_without_points ≡ Ok (record { points = []; cut = None })
-unfolding header_of points_from
+unfolding header_of format_in record_format scales_of offsets_of header_with scale_of_word decimal_of_word entries_from point_of points_from
 none_read = refl
 
-pub cut_at_1 : las_of (take 414 file_a) ≡ Ok (record { points = record zero_point { x = pos 1000000000; y = pos 2000000000; z = pos 3000000000 } ∷ []; cut = Some 1 })
-unfolding header_of points_from
+pub cut_at_1 : las_of (take 414 file_a) ≡ Ok (record { points = record zero_point { x = pos 1000000000; y = pos 2000000000; z = pos 3000000000; return_number = 1; number_of_returns = 1; classification = 2 } ∷ []; cut = Some 1 })
+unfolding header_of format_in record_format scales_of offsets_of header_with scale_of_word decimal_of_word entries_from point_of points_from
 cut_at_1 = refl
 
 pub cut_at_0 : las_of (take 394 file_a) ≡ Ok (record { points = []; cut = Some 0 })
-unfolding header_of points_from
+unfolding header_of format_in record_format scales_of offsets_of header_with scale_of_word decimal_of_word entries_from point_of points_from
 cut_at_0 = refl
 
-pub other_format : las_of file_of_format_1 ≡ Err Not_built
-unfolding header_of
-other_format = refl
+pub longer_read : las_of file_of_format_6 ≡ Ok (record { points = record zero_point { x = pos 1000000000; y = pos 2000000000; z = pos 3000000000 } ∷ record zero_point { x = negsuc 9999999; y = pos 0; z = pos 50000000 } ∷ []; cut = None })
+unfolding header_of format_in record_format scales_of offsets_of header_with scale_of_word decimal_of_word entries_from point_of points_from
+longer_read = refl
 
-pub short_header : las_of (take 374 file_a) ≡ Err Not_built
-unfolding header_of
+pub vlr_past_points : las_of file_of_a_vlr ≡ Err (In_list (VlrPastPoints 0))
+unfolding header_of format_in record_format scales_of offsets_of header_with scale_of_word decimal_of_word entries_from
+vlr_past_points = refl
+
+pub too_many_vlrs : las_of file_of_many_vlrs ≡ Err (In_list TooManyVlrs)
+unfolding header_of format_in record_format scales_of offsets_of header_with scale_of_word decimal_of_word entries_from
+too_many_vlrs = refl
+
+pub evlr_past_end : las_of file_of_a_far_evlr ≡ Err (In_list (EvlrPastEnd 0))
+unfolding header_of format_in record_format scales_of offsets_of header_with scale_of_word decimal_of_word entries_from
+evlr_past_end = refl
+
+pub compressed : las_of file_compressed ≡ Err (In_header Compressed)
+unfolding header_of format_in record_format
+compressed = refl
+
+pub other_scale : las_of file_of_neighbour ≡ Err (In_header (ScaleNotDecimal X))
+unfolding header_of format_in record_format scales_of scale_of_word
+other_scale = refl
+
+pub far_read : las_of file_far ≡ Ok (record { points = record zero_point { x = pos 3147483646000000000; y = pos 0; z = pos 0 } ∷ []; cut = None })
+unfolding header_of format_in record_format scales_of offsets_of header_with scale_of_word decimal_of_word entries_from point_of points_from
+far_read = refl
+
+pub short_header : las_of (take 374 file_a) ≡ Err (In_header HeaderSize)
+unfolding header_of format_in
 short_header = refl
 
 pub other_signature : las_of file_with_x ≡ Err (In_header NotLas)
-unfolding header_of
+unfolding header_of format_in
 other_signature = refl
 
 pub short_signature : las_of (take 3 file_a) ≡ Err (In_header NotLas)
-unfolding header_of
+unfolding header_of format_in
 short_signature = refl
 
 pub no_bytes : las_of [] ≡ Err (In_header NotLas)
-unfolding header_of
+unfolding header_of format_in
 no_bytes = refl
 
 -- the run of the example's pipeline over a LAS file

@@ -5,18 +5,22 @@
 ghost use Rattle.std.specs.Prelude.{◌≡◌, ◌∷◌, [], ℕ, List, take, codes, None, Ok, Err};
 ghost use Rattle.file_devices.specs.Named.{Names};
 ghost use Rattle.file_devices.specs.declared.devices.Op.{Op};
-ghost use Rattle.las_reader.specs.declared.las_header.HeaderFault.{HeaderFault};
+ghost use Rattle.las_header.specs.declared.faults.Axis.{Axis};
+ghost use Rattle.las_header.specs.declared.faults.HeaderFault.{HeaderFault};
+ghost use Rattle.las_vlr.specs.declared.entry.VlrFault.{VlrFault};
 ghost use Rattle.cloud_points.specs.declared.faults.PointFault.{PointFault};
 ghost use Rattle.lasline_top.specs.Answer.{answer};
 ghost use Rattle.run_report.specs.declared.refusal.Refusal.{Refusal};
 ghost use Rattle.run_report.specs.declared.refusal.Fault.{Fault};
 ghost use Rattle.run_report.specs.declared.refusal.Place.{Place};
-ghost use Rattle.worked_rows.specs.Rows.{run_p, run_p_in_pieces, head_of_1, head_of_0, file_a, file_of_format_1, file_with_x, file_without_points, files, files_with, pipeline_alone, two_points, no_points, first_point, none_pass};
+ghost use Rattle.worked_rows.specs.Rows.{run_p, run_p_in_pieces, head_of_1, head_of_0, file_a, file_of_format_6, file_of_a_vlr, file_of_many_vlrs, file_of_a_far_evlr, file_compressed, file_of_neighbour, file_far, file_with_x, file_without_points, files, files_with, pipeline_alone, two_points, far_point, no_points, first_point, none_pass};
 
-/// A file of two points becomes 49 bytes of text and a report of three lines; one of no points becomes the names of
-/// the columns.
+/// A file of two points becomes 49 bytes of text and a report of three lines, and so it does in longer records of another
+/// format. A point far from 0 keeps each digit, and a file of no points becomes the names of the columns.
 pub fn whole_files_become_text()
     ensures two_points { answer run_p (files file_a) ≡ Ok two_points }
+    ensures longer_records { answer run_p (files file_of_format_6) ≡ Ok two_points }
+    ensures far_point { answer run_p (files file_far) ≡ Ok far_point }
     ensures no_points { answer run_p (files file_without_points) ≡ Ok no_points }
 {}
 
@@ -35,8 +39,12 @@ pub fn pieces_change_nothing()
 pub fn files_are_refused()
     ensures last_byte_missing { answer run_p (files (take 414 file_a)) ≡ Err (Refusal.Data 0 (Fault.Point (PointFault.Cut 1))) }
     ensures no_record_whole { answer run_p (files (take 394 file_a)) ≡ Err (Refusal.Data 0 (Fault.Point (PointFault.Cut 0))) }
-    ensures another_format { answer run_p (files file_of_format_1) ≡ Err (Refusal.NotBuilt 3) }
-    ensures header_cut_short { answer run_p (files (take 374 file_a)) ≡ Err (Refusal.NotBuilt 3) }
+    ensures compressed_points { answer run_p (files file_compressed) ≡ Err (Refusal.Data 0 (Fault.Header HeaderFault.Compressed)) }
+    ensures neighbour_of_a_scale { answer run_p (files file_of_neighbour) ≡ Err (Refusal.Data 0 (Fault.Header (HeaderFault.ScaleNotDecimal Axis.X))) }
+    ensures vlr_past_points { answer run_p (files file_of_a_vlr) ≡ Err (Refusal.Data 0 (Fault.Vlr (VlrFault.VlrPastPoints 0))) }
+    ensures too_many_vlrs { answer run_p (files file_of_many_vlrs) ≡ Err (Refusal.Data 0 (Fault.Vlr VlrFault.TooManyVlrs)) }
+    ensures evlr_past_end { answer run_p (files file_of_a_far_evlr) ≡ Err (Refusal.Data 0 (Fault.Vlr (VlrFault.EvlrPastEnd 0))) }
+    ensures header_cut_short { answer run_p (files (take 374 file_a)) ≡ Err (Refusal.Data 0 (Fault.Header HeaderFault.HeaderSize)) }
     ensures another_signature { answer run_p (files file_with_x) ≡ Err (Refusal.Data 0 (Fault.Header HeaderFault.NotLas)) }
     ensures signature_cut_short { answer run_p (files (take 3 file_a)) ≡ Err (Refusal.Data 0 (Fault.Header HeaderFault.NotLas)) }
     ensures no_bytes { answer run_p (files []) ≡ Err (Refusal.Data 0 (Fault.Header HeaderFault.NotLas)) }

@@ -7,7 +7,7 @@ use Rattle.decimal_coords.specs.Grid.{nearest_step}
 use Rattle.decimal_coords.proofs.grid.raw.Goals as goal
 
 -- what the code divides is the distance and the scale themselves
-passed : (nano off scale own r : ℤ) → FitsSigned w64 nano → FitsSigned w64 off → FitsSigned w64 scale → FitsSigned w64 r → unsigned_abs nano ≤ 4 * 10 ^ 18 → unsigned_abs off < 10 ^ 18 → scale ≡ own →
+passed : (nano off scale own r : ℤ) → FitsSigned w64 nano → FitsSigned w64 off → FitsSigned w64 scale → FitsSigned w64 r → unsigned_abs nano ≤ 4 * 10 ^ 18 → unsigned_abs off ≤ 10 ^ 18 → scale ≡ own →
     r ≡ half_away (to_z w64 (of_z w64 (to_z w64 (of_z w64 nano) -ℤ to_z w64 (of_z w64 off)))) (unsigned_abs (to_z w64 (of_z w64 scale))) →
     to_z w64 (of_z w64 r) ≡ nearest_step nano own off
 passed nano off scale own r fn fo fs fr bn bo e h =

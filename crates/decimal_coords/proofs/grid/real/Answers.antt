@@ -5,7 +5,7 @@ use Rattle.std.proofs.lemmas.Int.{ints, to_z-of_z, unsigned_abs-mul, fits_signed
 use Rattle.std.proofs.lemmas.Nat.{mul-le}
 use Rattle.decimal_coords.proofs.grid.real.Goals as goal
 
-sum_small : (m o : ℤ) (b : ℕ) → unsigned_abs m ≤ 2 ^ 31 * 10 ^ 9 → unsigned_abs o < 10 ^ 18 → unsigned_abs (m +ℤ o) < 2 ^ 63
+sum_small : (m o : ℤ) (b : ℕ) → unsigned_abs m ≤ 2 ^ 31 * 10 ^ 9 → unsigned_abs o ≤ 10 ^ 18 → unsigned_abs (m +ℤ o) < 2 ^ 63
 sum_small m o b h k = omega (arith, ints)
 
 pub returns : goal.returns

@@ -1,10 +1,10 @@
-use Rattle.std.proofs.Common.{arith, ◌≡◌, ℕ, ◌<◌, ℤ, pos, neg_ℤ, ◌-ℤ◌, below_more, w64, FitsSigned, rules, sym, subst, to_z, of_z}
+use Rattle.std.proofs.Common.{arith, ◌≡◌, ℕ, ◌^◌, ◌<◌, ◌≤◌, ℤ, pos, neg_ℤ, ◌-ℤ◌, below_more, w64, FitsSigned, rules, sym, subst, to_z, of_z}
 use Rattle.std.proofs.lemmas.Int.{ints}
 use Rattle.ieee_words.specs.Near.{IsShort}
 use Rattle.ieee_words.specs.Dec.{IsExact, IsRoundedOff}
-use Rattle.ieee_words.proofs.OfWord.{is_large, is_small, scaled_is, exact, rounded_off}
+use Rattle.ieee_words.proofs.OfWord.{is_large, is_small, scaled_is, scaled_size, exact, rounded_off}
 use Rattle.ieee_words.specs.declared.decimals.WordFault.TheVariants.{NotFinite}
-use Rattle.std.specs.Prelude.{Err}
+use Rattle.std.specs.Prelude.{Err, unsigned_abs}
 use Rattle.ieee_words.specs.Word.{exponent_bits}
 use Rattle.ieee_words.proofs.WordDecimals.{is_decimal_of_word}
 use Rattle.ieee_words.proofs.decimals.decimal.Goals as goal
@@ -67,3 +67,10 @@ returns-else-size-w-clause-value c = is_decimal_of_word c.args.w _ (omega arith)
 
 pub returns-then-size-ge-INFINITE-clause-value : goal.returns-then-size-ge-INFINITE-clause-value
 returns-then-size-ge-INFINITE-clause-value c = is_decimal_of_word c.args.w (Err NotFinite) (omega arith) (let e : exponent_bits c.args.w ≡ 2047 = omega arith in e)
+
+pub returns-in-Some-clause-size : goal.returns-in-Some-clause-size
+returns-in-Some-clause-size c =
+    let f : FitsSigned w64 c.in-Some.n = search rules in
+    let s = scaled_is c.in-Some.n c.loop-k.k c.power_of_ten.result f c.loop-k-test.true c.in-Some.ensures.fits c.power_of_ten.ensures.value (omega arith) in
+    subst (λ (z : ℤ). unsigned_abs z ≤ 10 ^ 18) (sym s.1)
+    (scaled_size c.in-Some.n c.loop-k.k c.power_of_ten.result c.loop-k-test.true c.in-Some.ensures.fits c.power_of_ten.ensures.value)

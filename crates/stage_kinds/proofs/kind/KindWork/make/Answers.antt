@@ -1,15 +1,20 @@
-use Rattle.std.proofs.Common.{◌≡◌, ap}
-use Rattle.stage_kinds.proofs.Telling.{gives_told}
+use Rattle.stage_kinds.proofs.Telling.{gives_told, still_tells}
 use Rattle.stage_kinds.proofs.kind.KindWork.make.Goals as goal
 
 pub returns-clause-part : goal.returns-clause-part
 returns-clause-part g c = λ tells calm.
     let r = c.in-Reader.reader in
     let next = c.next.new.self in
-    rw c.in-Reader.is ((gives_told (g.S.Source.bytes r.source) (g.S.Source.bytes next.source) r.count next.count c.args.chunk r.progress next.progress c.next.result c.next.new.into.items c.next.ensures.bytes c.next.ensures.count c.next.ensures.told (rw c.in-Reader.is at tells) calm).part)
+    rw c.in-Reader.is ((gives_told (g.S.Source.bytes r.source) (g.S.Source.bytes next.source) r.header next.header c.args.chunk r.progress next.progress c.next.result c.next.new.into.items c.next.ensures.bytes c.next.ensures.header c.next.ensures.told (rw c.in-Reader.is at tells) calm).part)
 
 pub returns-clause-fault : goal.returns-clause-fault
 returns-clause-fault g c = λ tells calm.
     let r = c.in-Reader.reader in
     let next = c.next.new.self in
-    rw c.in-Reader.is ((gives_told (g.S.Source.bytes r.source) (g.S.Source.bytes next.source) r.count next.count c.args.chunk r.progress next.progress c.next.result c.next.new.into.items c.next.ensures.bytes c.next.ensures.count c.next.ensures.told (rw c.in-Reader.is at tells) calm).fault)
+    rw c.in-Reader.is ((gives_told (g.S.Source.bytes r.source) (g.S.Source.bytes next.source) r.header next.header c.args.chunk r.progress next.progress c.next.result c.next.new.into.items c.next.ensures.bytes c.next.ensures.header c.next.ensures.told (rw c.in-Reader.is at tells) calm).fault)
+
+pub returns-clause-tells : goal.returns-clause-tells
+returns-clause-tells g c = λ tells calm goes_on.
+    let r = c.in-Reader.reader in
+    let next = c.next.new.self in
+    still_tells (g.S.Source.bytes r.source) (g.S.Source.bytes next.source) r.header next.header c.args.chunk r.progress next.progress c.next.result c.next.new.into.items c.next.ensures.bytes c.next.ensures.header c.next.ensures.told (rw c.in-Reader.is at tells) calm goes_on

@@ -1,0 +1,97 @@
+//! What is read before the points.
+
+ghost use Rattle.std.specs.Prelude.{◌≡◌, ◌≢◌, ◌≤◌, ℕ, List, max, Some, Ok, IfOk, IfErr};
+ghost use Rattle.file_devices.specs.Counts.{Rose};
+ghost use Rattle.las_header.specs.Sound.{IsSound};
+ghost use Rattle.las_reader.specs.Frames.{header_in, frame_of};
+ghost use Rattle.las_reader.specs.Opening.{IsOpening, opening_of};
+
+use file_devices::{Source, fill};
+use las_header::{Header, HeaderFault, read_header};
+use las_vlr::{VlrErr, VlrFault, VlrList, read_evlrs, read_vlrs};
+use std::alloc::Global;
+
+/// Why a reader can't be made.
+#[derive(Clone, Copy, Debug, PartialEq, Eq)]
+pub enum OpenErr {
+    /// The header block has a fault.
+    Header(HeaderFault),
+
+    /// The VLRs have a fault, or else the EVLRs.
+    Vlr(VlrFault),
+
+    /// A read failed.
+    ReadFailed,
+
+    /// There was no memory for the VLRs, the EVLRs or the records of a chunk.
+    Memory,
+}
+
+impl From<VlrErr> for OpenErr {
+    ghost from_gives = { λ v e. e ≡ opening_of v };
+
+    fn from(e: VlrErr) -> Self {
+        match e {
+            VlrErr::Fault(fault) => OpenErr::Vlr(fault),
+            VlrErr::ReadFailed => OpenErr::ReadFailed,
+            VlrErr::Memory => OpenErr::Memory,
+        }
+    }
+}
+
+/// What stands around the points of a file.
+pub(crate) struct Frame {
+    pub(crate) header: Header,
+    pub(crate) vlrs: VlrList,
+    pub(crate) evlrs: VlrList,
+}
+
+/// The bytes of the header block.
+const HEADER_SIZE: usize = 375;
+
+/// Reads the header block of a file.
+fn read_block<S: Source>(source: &mut S) -> Result<Header, OpenErr>
+    ensures ok { IfOk result (λ header. (file : List ℕ) → S.bytes source.old ≡ Some file → header_in file ≡ Ok header) }
+    ensures sound { IfOk result IsSound }
+    ensures err { IfErr result (λ e. (file : List ℕ) → S.bytes source.old ≡ Some file → IsOpening (header_in file) e) }
+    ensures failed { IfErr result (λ e. e ≡ OpenErr.ReadFailed → Rose (S.faults source.old) (S.faults source.new)) }
+    ensures not_memory { IfErr result (λ e. e ≢ OpenErr.Memory) }
+    ensures later { S.faults source.old ≤ S.faults source.new }
+    ensures reached { S.reached source.new ≤ max (S.reached source.old) 375 }
+    ensures bytes { S.bytes source.new ≡ S.bytes source.old }
+{
+    let mut block = [0u8; HEADER_SIZE];
+    let Ok(held) = fill(source, 0, &mut block) else {
+        return Err(OpenErr::ReadFailed);
+    };
+    match read_header(&block[..held]) {
+        Ok(header) => Ok(header),
+        Err(fault) => Err(OpenErr::Header(fault)),
+    }
+}
+
+/// Reads the header, the VLRs and the EVLRs of a file.
+pub(crate) fn read_frame<S: Source>(alloc: Global, source: &mut S) -> Result<Frame, OpenErr>
+    ensures ok { IfOk result (λ frame. (file : List ℕ) → S.bytes source.old ≡ Some file → frame_of file ≡ Ok frame) }
+    ensures sound { IfOk result (λ frame. IsSound frame.header) }
+    ensures err { IfErr result (λ e. (file : List ℕ) → S.bytes source.old ≡ Some file → IsOpening (frame_of file) e) }
+    ensures failed { IfErr result (λ e. e ≡ OpenErr.ReadFailed → Rose (S.faults source.old) (S.faults source.new)) }
+    ensures later { S.faults source.old ≤ S.faults source.new }
+    ensures in_front { IfOk result (λ frame. frame.header.evlrs ≡ 0 → S.reached source.new ≤ max (S.reached source.old) frame.header.points_at) }
+    ensures bytes { S.bytes source.new ≡ S.bytes source.old }
+{
+    let header = read_block(source)?;
+    let vlrs = read_vlrs(
+        alloc,
+        source,
+        header.header_size as u64,
+        header.points_at as u64,
+        header.vlrs,
+    )?;
+    let evlrs = read_evlrs(alloc, source, header.evlrs_at, header.evlrs)?;
+    Ok(Frame {
+        header,
+        vlrs,
+        evlrs,
+    })
+}

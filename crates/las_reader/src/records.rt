@@ -1,0 +1,125 @@
+//! Reads point data records.
+
+ghost use Rattle.std.specs.Prelude.{◌≡◌, ◌+◌, ◌*◌, ◌^◌, ◌<◌, ◌≤◌, ◌++◌, ℕ, List, [], length, max, min, Some, IfOk, IfSome, IfNone, OnOk, vec_len};
+ghost use Rattle.arrayvec.specs.ArrayVec.{array_vec_len};
+ghost use Rattle.file_devices.specs.Counts.{HasCause};
+ghost use Rattle.las_header.specs.Sound.{IsSound};
+ghost use Rattle.las_reader.specs.Pieces.{HasRecords, HasPoints};
+ghost use Rattle.las_reader.specs.Records.{point_of, points_from};
+ghost use Rattle.point_formats.specs.Grids.{grid_of};
+
+use cloud_points::{MOST_POINTS, Point, Spread};
+use file_devices::{Failed, Source, fill};
+use las_header::Header;
+use point_formats::{Grid, decode};
+use std::alloc::{AllocError, Global};
+
+/// The most bytes of records that are read at once.
+const MOST_BYTES: usize = 65_536;
+
+/// Room for the records of the largest chunk, or for as many of them as `MOST_BYTES` hold.
+pub(crate) fn record_buffer(alloc: Global, size: u16) -> Result<Vec<u8>, AllocError>
+    requires { 0 < size }
+    ensures room { IfOk result (λ buffer. size ≤ vec_len buffer) }
+    ensures few { IfOk result (λ buffer. vec_len buffer ≤ MOST_BYTES) }
+{
+    let count = (MOST_BYTES / size as usize).min(MOST_POINTS);
+    vec![in alloc; 0u8; count * size as usize]
+}
+
+/// The place of a record in its file, where a file can be that long.
+fn place_of(header: &Header, number: u64) -> Option<u64>
+    ensures some { IfSome result (λ at. at ≡ header.now.points_at + header.now.record_length * number) }
+    ensures none { IfNone result (2 ^ 64 ≤ header.now.points_at + header.now.record_length * number) }
+{
+    number
+        .checked_mul(header.record_length as u64)?
+        .checked_add(header.points_at as u64)
+}
+
+/// Reads at most `most` records from number `given` on into a buffer, and answers how many are wholly there.
+fn read_records<S: Source>(
+    source: &mut S,
+    header: &Header,
+    given: u64,
+    most: usize,
+    buffer: &mut [u8],
+) -> Result<usize, Failed>
+    requires some { 0 < header.now.record_length }
+    requires few { most ≤ 64 }
+    requires room { header.now.record_length * most ≤ length buffer.old }
+    ensures whole { IfOk result (λ n. (file : List ℕ) → S.bytes source.old ≡ Some file → HasRecords header.now file given most n buffer.new) }
+    ensures most { IfOk result (λ n. n ≤ most) }
+    ensures reached { S.reached source.new ≤ max (S.reached source.old) (header.now.points_at + header.now.record_length * (given + most)) }
+    ensures bytes { S.bytes source.new ≡ S.bytes source.old }
+    ensures cause { HasCause (S.faults source.old) (S.faults source.new) result }
+    ensures len { length buffer.new ≡ length buffer.old }
+{
+    let Some(at) = place_of(header, given) else {
+        return Ok(0);
+    };
+    let size = header.record_length as usize;
+    let room = (size * most).min((u64::MAX - at) as usize);
+    let count = fill(source, at, &mut buffer[..room])?;
+    Ok(count / size)
+}
+
+/// The point of a record.
+#[tactic(auto, unfolding(crate::specs::Records::point_of))]
+fn point_of(header: &Header, grid: &Grid, bytes: &[u8]) -> Point
+    requires sound { IsSound header.now }
+    requires grid { grid.now ≡ grid_of header.now }
+    requires whole { header.now.record_length ≤ length bytes.now }
+    ensures { result ≡ point_of header.now bytes.now }
+{
+    decode(header.format, bytes, grid)
+}
+
+/// Puts the points of `count` records, one after another, behind those of a spread.
+fn decode_behind(header: &Header, records: &[u8], count: usize, into: &mut Spread)
+    requires sound { IsSound header.now }
+    requires room { array_vec_len into.old + count ≤ 64 }
+    requires whole { header.now.record_length * count ≤ length records.now }
+    ensures items { into.new.items ≡ into.old.items ++ points_from header.now 0 count records.now }
+    ensures len { array_vec_len into.new ≡ array_vec_len into.old + count }
+{
+    let grid = Grid::of(header);
+    let size = header.record_length as usize;
+    for k in 0..count {
+        into.push(point_of(header, &grid, &records[size * k..size * k + size]));
+    }
+}
+
+/// Puts the points of at most `most` records from number `given` on in place of what a spread holds. They are fewer
+/// only where the file ends before the next record is whole.
+pub(crate) fn read_points<S: Source>(
+    source: &mut S,
+    header: &Header,
+    given: u64,
+    most: usize,
+    buffer: &mut [u8],
+    into: &mut Spread,
+) -> Result<(), Failed>
+    requires sound { IsSound header.now }
+    requires few { most ≤ 64 }
+    requires end { given + most < 2 ^ 64 }
+    requires room { header.now.record_length ≤ length buffer.old }
+    ensures points { OnOk result ((file : List ℕ) → S.bytes source.old ≡ Some file → HasPoints header.now file given most into.new.items) }
+    ensures most { OnOk result (array_vec_len into.new ≤ most) }
+    ensures reached { S.reached source.new ≤ max (S.reached source.old) (header.now.points_at + header.now.record_length * (given + most)) }
+    ensures bytes { S.bytes source.new ≡ S.bytes source.old }
+    ensures cause { HasCause (S.faults source.old) (S.faults source.new) result }
+{
+    into.clear();
+    let held = buffer.len() / header.record_length as usize;
+    while into.len() < most {
+        let wanted = (most - into.len()).min(held);
+        let number = given + into.len() as u64;
+        let whole = read_records(source, header, number, wanted, buffer)?;
+        decode_behind(header, buffer, whole, into);
+        if whole < wanted {
+            return Ok(());
+        }
+    }
+    Ok(())
+}
