@@ -1,19 +1,21 @@
 -- Where no device fails, none is named.
-use Rattle.std.proofs.Common.{◌≡◌, ◌⊎◌, Result, Ok, Err, ap, sym, ◌∙◌, inl, inr}
+use Rattle.std.proofs.Common.{◌≡◌, ◌⊎◌, Result, Ok, Err, IsOk, ap, sym, ◌∙◌, inl, inr}
 use Rattle.file_devices.specs.declared.devices.Op.{Op}
 use Rattle.file_devices.specs.declared.devices.Op.TheVariants.{Open, Read, Create, Write, Patch, Keep}
+use Rattle.file_devices.specs.Named.{Names}
 use Rattle.pipeline_json.specs.Pipelines.{Chain}
 use Rattle.run_report.specs.declared.refusal.Place.{Place}
 use Rattle.run_report.specs.declared.refusal.Place.TheVariants.{PipelineFile, Stage, Out}
 use Rattle.run_report.specs.declared.refusal.Refusal.{Refusal}
-use Rattle.run_report.specs.declared.refusal.Refusal.TheVariants.{Data, Device, Memory, NotBuilt}
+use Rattle.run_report.specs.declared.refusal.Refusal.TheVariants.{Usage, Data, Device, Memory, NotBuilt}
 use Rattle.run_engine.specs.Runs.{Run}
 use Rattle.run_engine.specs.Cause.{Because, AtText, AtReader, AtWriter}
 use Rattle.lasline_top.specs.declared.status.Status.{Status}
 use Rattle.lasline_top.specs.declared.status.Status.TheVariants as status
 use Rattle.lasline_top.specs.Refusals.{status_for}
-use Rattle.lasline_top.specs.Answer.{status_of}
-use Rattle.lasline_top.specs.Cause.{AtOut, AtRun}
+use Rattle.lasline_top.specs.Words.{Task, Run_file, Print}
+use Rattle.lasline_top.specs.Answer.{plan_in, las_in, ran, status_of}
+use Rattle.lasline_top.specs.Cause.{AtOut, AtRun, AtTask}
 
 no_text : (files : Type 0) (o : Op) → (files → ⊥) → AtText files PipelineFile o → ⊥
 no_text files Open none h = none h
@@ -54,11 +56,25 @@ no_device files out (Ok chain) read right (Stage i) o no_files no_output (inr h)
 no_device files out (Err s) read right (Stage i) o no_files no_output h = h
 no_device files out plan read right Out o no_files no_output h = no_out out right o no_output h
 
+no_page : (out : Type 0) (o : Op) → (out → ⊥) → AtOut out o → ⊥
+no_page out Open none h = h
+no_page out Read none h = h
+no_page out Create none h = h
+no_page out Write none h = none h
+no_page out Patch none h = h
+no_page out Keep none h = h
+
+no_task : (files out : Type 0) (m : Names) (task : Result Task Refusal) (p : Place) (o : Op) → (files → ⊥) → (out → ⊥) → AtTask files out m task p o → ⊥
+no_task files out m (Ok (Run_file file chunk queue)) p o no_files no_output h = no_device files out (plan_in m file) (IsOk (las_in m file)) (IsOk (ran m file)) p o no_files no_output h
+no_task files out m (Ok (Print text)) p o no_files no_output h = no_page out o no_output h.1
+no_task files out m (Err refusal) p o no_files no_output h = h
+
 -- where no device fails, the answer is the one that is expected, or want of memory
-pub answer_or_memory : (r : Result Run Refusal) (files out : Type 0) (plan : Result Chain Refusal) (read right : Type 0) (refusal : Refusal) (s : Status) → s ≡ status_for refusal → (files → ⊥) → (out → ⊥)
-    → Because r (AtRun files out plan read right) refusal → (s ≡ status_of r) ⊎ (s ≡ status.Memory)
-answer_or_memory r files out plan read right Memory s is no_files no_output h = inr is
-answer_or_memory r files out plan read right (Data i f) s is no_files no_output h = inl (is ∙ sym (ap status_of h))
-answer_or_memory r files out plan read right (NotBuilt k) s is no_files no_output h = inl (is ∙ sym (ap status_of h))
-answer_or_memory r files out plan read right (Device p o) s is no_files no_output (inl h) = inl (is ∙ sym (ap status_of h))
-answer_or_memory r files out plan read right (Device p o) s is no_files no_output (inr h) = absurd (no_device files out plan read right p o no_files no_output h)
+pub answer_or_memory : (r : Result Run Refusal) (files out : Type 0) (m : Names) (task : Result Task Refusal) (refusal : Refusal) (s : Status) → s ≡ status_for refusal → (files → ⊥) → (out → ⊥)
+    → Because r (AtTask files out m task) refusal → (s ≡ status_of r) ⊎ (s ≡ status.Memory)
+answer_or_memory r files out m task Memory s is no_files no_output h = inr is
+answer_or_memory r files out m task (Usage k) s is no_files no_output h = inl (is ∙ sym (ap status_of h))
+answer_or_memory r files out m task (Data i f) s is no_files no_output h = inl (is ∙ sym (ap status_of h))
+answer_or_memory r files out m task (NotBuilt k) s is no_files no_output h = inl (is ∙ sym (ap status_of h))
+answer_or_memory r files out m task (Device p o) s is no_files no_output (inl h) = inl (is ∙ sym (ap status_of h))
+answer_or_memory r files out m task (Device p o) s is no_files no_output (inr h) = absurd (no_task files out m task p o no_files no_output h)

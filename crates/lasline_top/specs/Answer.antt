@@ -1,5 +1,5 @@
 -- What a command answers, over the map of the files.
-use Rattle.std.specs.Prelude.{ℕ, nat_le, List, length, Option, Some, None, Result, Ok, Err, if◌then◌else◌}
+use Rattle.std.specs.Prelude.{ℕ, nat_le, List, [], length, Option, Some, None, Result, Ok, Err, if◌then◌else◌}
 use Rattle.file_devices.specs.Named.{Names}
 use Rattle.las_reader.specs.Files.{Las}
 use Rattle.pipeline_json.specs.Pipelines.{Chain, pipeline_of}
@@ -11,7 +11,7 @@ use Rattle.run_engine.specs.Runs.{Run, opened, las_at, run_of}
 use Rattle.lasline_top.specs.declared.status.Status.{Status}
 use Rattle.lasline_top.specs.declared.status.Status.TheVariants.{Ok as Done}
 use Rattle.lasline_top.specs.Refusals.{status_for}
-use Rattle.lasline_top.specs.Words.{command_of}
+use Rattle.lasline_top.specs.Words.{Task, Run_file, Print, task_of}
 
 -- the text of a pipeline's file
 abbrev pub limited : List ℕ → Result (List ℕ) Refusal
@@ -24,17 +24,29 @@ abbrev pub piped : Option Chain → Result Chain Refusal
 piped None = Err (NotBuilt 2)
 piped (Some chain) = Ok chain
 
--- the pipeline of a command
-abbrev pub plan_of : List (List ℕ) → Names → Result Chain Refusal
-plan_of words m = and_then (command_of words) (λ command. and_then (text_of m command.file) (λ text. piped (pipeline_of text)))
+-- the pipeline that a file names
+abbrev pub plan_in : Names → List ℕ → Result Chain Refusal
+plan_in m file = and_then (text_of m file) (λ text. piped (pipeline_of text))
 
--- the answer of a command: what it keeps and reports, or why it is refused. How the run is cut into pieces doesn't matter
+-- what the run of a pipeline's file comes to
+abbrev pub ran : Names → List ℕ → Result Run Refusal
+ran m file = and_then (plan_in m file) (run_of m)
+
+-- what its reader reads
+abbrev pub las_in : Names → List ℕ → Result Las Refusal
+las_in m file = and_then (plan_in m file) (λ chain. las_at (m chain.from))
+
+-- a page is printed, and nothing is kept
+abbrev pub printed : List ℕ → Run
+printed text = record { outputs = []; report = text }
+
+abbrev pub done : Names → Task → Result Run Refusal
+done m (Run_file file chunk queue) = ran m file
+done m (Print text) = Ok (printed text)
+
+-- the answer of a command: what it keeps and reports, or why it is refused. How a run is cut into pieces doesn't matter
 abbrev pub answer : List (List ℕ) → Names → Result Run Refusal
-answer words m = and_then (plan_of words m) (run_of m)
-
--- what the reader of a command reads
-abbrev pub las_planned : List (List ℕ) → Names → Result Las Refusal
-las_planned words m = and_then (plan_of words m) (λ chain. las_at (m chain.from))
+answer words m = and_then (task_of words) (done m)
 
 -- the status of an answer
 abbrev pub status_of : Result Run Refusal → Status

@@ -1,14 +1,18 @@
 -- Why a command was refused, and what is told of it.
-use Rattle.std.specs.Prelude.{◌⊎◌, ℕ, List, Bool, true, false, ◌||◌, Option, Result, IsOkAnd}
+use Rattle.std.specs.Prelude.{◌≡◌, ◌⊎◌, ℕ, List, Bool, true, false, ◌||◌, Option, Result, Ok, Err, IsOk, IsOkAnd, ⊤}
 use Rattle.file_devices.specs.Counts.{Rose}
 use Rattle.file_devices.specs.Content.{Appends, AppendsPart}
 use Rattle.file_devices.specs.declared.devices.Op.{Op}
 use Rattle.file_devices.specs.declared.devices.Op.TheVariants as op
+use Rattle.file_devices.specs.Named.{Names}
 use Rattle.pipeline_json.specs.Pipelines.{Chain}
 use Rattle.run_report.specs.declared.refusal.Place.{Place}
 use Rattle.run_report.specs.declared.refusal.Place.TheVariants as at
 use Rattle.run_report.specs.declared.refusal.Refusal.{Refusal}
+use Rattle.run_report.specs.declared.refusal.Refusal.TheVariants as of
 use Rattle.run_engine.specs.Cause.{AtText, AtReader, AtWriter, AtPlaces, last_stage, is_out, is_keep}
+use Rattle.lasline_top.specs.Words.{Task, Run_file, Print}
+use Rattle.lasline_top.specs.Answer.{plan_in, las_in, ran}
 use Rattle.lasline_top.specs.declared.status.Status.{Status}
 use Rattle.lasline_top.specs.declared.status.Status.TheVariants as status
 
@@ -16,9 +20,18 @@ use Rattle.lasline_top.specs.declared.status.Status.TheVariants as status
 abbrev pub may_be_kept_at : Status → Bool
 may_be_kept_at status.Ok = false
 may_be_kept_at status.Memory = true
+may_be_kept_at (status.Usage k) = false
 may_be_kept_at (status.Data i f) = false
 may_be_kept_at (status.NotBuilt r) = false
 may_be_kept_at (status.Device p o) = is_out p || is_keep o
+
+-- a refusal that isn't for the words
+abbrev pub IsOfFiles : Refusal → Type 0
+IsOfFiles (of.Usage k) = ⊥
+IsOfFiles (of.Data i f) = ⊤
+IsOfFiles (of.Device p o) = ⊤
+IsOfFiles of.Memory = ⊤
+IsOfFiles (of.NotBuilt r) = ⊤
 
 abbrev pub AtOut : Type 0 → Op → Type 0
 AtOut rose op.Open = ⊥
@@ -33,6 +46,16 @@ abbrev pub AtRun : Type 0 → Type 0 → Result Chain Refusal → Type 0 → Typ
 AtRun files_rose out_rose plan read right at.PipelineFile o = AtText files_rose at.PipelineFile o
 AtRun files_rose out_rose plan read right (at.Stage i) o = IsOkAnd plan (λ chain. AtPlaces (AtReader files_rose) (AtWriter files_rose read right) (last_stage chain) i o)
 AtRun files_rose out_rose plan read right at.Out o = AtOut (out_rose × right) o
+
+-- that of a command that runs this file
+abbrev pub AtFile : Type 0 → Type 0 → Names → List ℕ → Place → Op → Type 0
+AtFile files_rose out_rose m file p o = AtRun files_rose out_rose (plan_in m file) (IsOk (las_in m file)) (IsOk (ran m file)) p o
+
+-- that of a command: one that prints a page has the output alone
+abbrev pub AtTask : Type 0 → Type 0 → Names → Result Task Refusal → Place → Op → Type 0
+AtTask files_rose out_rose m (Ok (Run_file file chunk queue)) p o = AtFile files_rose out_rose m file p o
+AtTask files_rose out_rose m (Ok (Print text)) p o = (p ≡ at.Out) × AtOut out_rose o
+AtTask files_rose out_rose m (Err refusal) p o = ⊥
 
 -- a line was printed, or where its append failed a part of it
 abbrev pub ToldWhy : Option (List ℕ) → Option (List ℕ) → ℕ → ℕ → List ℕ → Type 0

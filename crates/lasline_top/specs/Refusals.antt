@@ -1,10 +1,11 @@
 -- The status of a refused command.
 use Rattle.run_report.specs.declared.refusal.Refusal.{Refusal}
-use Rattle.run_report.specs.declared.refusal.Refusal.TheVariants.{Data, Device, Memory, NotBuilt}
+use Rattle.run_report.specs.declared.refusal.Refusal.TheVariants.{Usage, Data, Device, Memory, NotBuilt}
 use Rattle.lasline_top.specs.declared.status.Status.{Status}
 use Rattle.lasline_top.specs.declared.status.Status.TheVariants as status
 
 abbrev pub status_for : Refusal → Status
+status_for (Usage k) = status.Usage k
 status_for (Data i f) = status.Data i f
 status_for (Device p o) = status.Device p o
 status_for Memory = status.Memory

@@ -1,6 +1,7 @@
 //! The top call of lasline: the words of a command line, the files, and what is printed.
 #![tactic(auto)]
 
+mod pages;
 mod pipeline_file;
 mod solo;
 mod status;

@@ -4,7 +4,7 @@ ghost use Rattle.std.specs.Prelude.{◌≡◌, ◌≤◌, List, ℕ, Some, None,
 ghost use Rattle.file_devices.specs.Counts.{Rose};
 ghost use Rattle.file_devices.specs.Named.{Names};
 ghost use Rattle.lasline_top.specs.Answer.{text_of};
-ghost use Rattle.run_engine.specs.Cause.{Because, AtText, Risen, IsNotOut, IsSettled};
+ghost use Rattle.run_engine.specs.Cause.{Because, AtText, Risen, IsInside, IsSettled};
 
 use file_devices::{DeviceErr, Files, Op, WholeErr, read_whole};
 use run_report::{Place, Refusal};
@@ -22,7 +22,7 @@ pub(crate) fn read_text<F: Files>(
     ensures ok { IfOk result (λ text. (m : Names) → F.map files.old ≡ Some m → text_of m name.now ≡ Ok text.items) }
     ensures err { IfErr result (λ refusal. (m : Names) → F.map files.old ≡ Some m
         → Because (text_of m name.now) (AtText (Rose (F.faults files.old) (F.faults files.new))) refusal) }
-    ensures inside { IfErr result IsNotOut }
+    ensures inside { IfErr result IsInside }
     ensures risen { IfErr result (λ refusal. F.map files.old ≡ None → Risen (Rose (F.faults files.old) (F.faults files.new)) ⊥ refusal) }
     ensures settled { IsSettled (F.map files.old) (F.map files.new) (F.lent files.old) (F.lent files.new)
         (F.faults files.old) (F.faults files.new) }

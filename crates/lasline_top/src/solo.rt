@@ -1,6 +1,6 @@
 //! The top call.
 
-ghost use Rattle.std.specs.Prelude.{◌≡◌, ◌≤◌, ◌⊎◌, ℕ, length, map, Some, None, Ok, Err, IsOk, IsOkAnd, IfOk, IfErr, OnOk, string_bytes, true};
+ghost use Rattle.std.specs.Prelude.{◌≡◌, ◌≤◌, ◌⊎◌, ℕ, length, map, Some, None, Ok, Err, IsOk, IsOkAnd, IfOk, IfErr, OnOk, OnErr, string_bytes, true};
 ghost use Rattle.file_devices.specs.Counts.{Rose};
 ghost use Rattle.file_devices.specs.Content.{Appends, AppendsPart};
 ghost use Rattle.file_devices.specs.Named.{Names};
@@ -12,54 +12,84 @@ ghost use Rattle.run_report.specs.declared.refusal.Refusal.{Refusal};
 ghost use Rattle.run_report.specs.Reports.{report_of};
 ghost use Rattle.run_report.specs.Faults.{fault_line};
 ghost use Rattle.run_engine.specs.Runs.{las_at};
-ghost use Rattle.run_engine.specs.Cause.{Because, Risen, RisenAt, IsNotOut, IsDone, IsPartDone, AtText, WerePut, IsRun, IsSettled, may_be_kept};
-ghost use Rattle.lasline_top.specs.Words.{command_of};
-ghost use Rattle.lasline_top.specs.Answer.{plan_of, answer, las_planned, status_of};
+ghost use Rattle.run_engine.specs.Cause.{Because, Risen, RisenAt, IsInside, IsDone, IsPartDone, AtText, WerePut, IsRun, IsSettled, may_be_kept};
+ghost use Rattle.lasline_top.specs.Words.{task_of};
+ghost use Rattle.lasline_top.specs.Answer.{plan_in, ran, answer, status_of};
 ghost use Rattle.lasline_top.specs.Refusals.{status_for};
-ghost use Rattle.lasline_top.specs.Cause.{ToldWhy, AtRun, may_be_kept_at};
+ghost use Rattle.lasline_top.specs.Cause.{ToldWhy, AtFile, AtTask, IsOfFiles, may_be_kept_at};
 
 use crate::pipeline_file::read_text;
 use crate::status::Status;
-use crate::words::read_command;
+use crate::words::{Task, task_of};
 use file_devices::{Files, Op, Sink};
 use pipeline_json::{PipeErr, Pipeline, read_pipeline};
 use run_engine::{Shape, run_pipeline};
 use run_report::{Place, Refusal, fault_text, report_text};
 use std::alloc::Global;
 
-/// What is to be run, and how.
-#[derive(Drop)]
-struct Plan {
-    pipeline: Pipeline,
-    shape: Shape,
-}
-
-/// The pipeline in the file that the words name, and how they ask it to be run.
-fn read_plan<F: Files>(alloc: Global, words: &[String], files: &mut F) -> Result<Plan, Refusal>
-    ensures ok { IfOk result (λ plan. (m : Names) → F.map files.old ≡ Some m → plan_of (map string_bytes words.now) m ≡ Ok (chain_of plan.pipeline)) }
-    ensures few { IfOk result (λ plan. length plan.pipeline.heads.items ≤ 62) }
-    ensures shape { IfOk result (λ plan. IsOkAnd (command_of (map string_bytes words.now)) (λ command. (plan.shape.chunk ≡ command.chunk) × (plan.shape.queue ≡ command.queue))) }
+/// The pipeline in a file.
+fn read_plan<F: Files>(alloc: Global, files: &mut F, name: &str) -> Result<Pipeline, Refusal>
+    ensures ok { IfOk result (λ pipeline. (m : Names) → F.map files.old ≡ Some m → plan_in m name.now ≡ Ok (chain_of pipeline)) }
+    ensures few { IfOk result (λ pipeline. length pipeline.heads.items ≤ 62) }
     ensures err { IfErr result (λ refusal. (m : Names) → F.map files.old ≡ Some m
-        → Because (plan_of (map string_bytes words.now) m) (AtText (Rose (F.faults files.old) (F.faults files.new))) refusal) }
-    ensures inside { IfErr result IsNotOut }
-    ensures words_first { (r : ℕ) → command_of (map string_bytes words.now) ≡ Err (Refusal.NotBuilt r) → result ≡ Err (Refusal.NotBuilt r) }
+        → Because (plan_in m name.now) (AtText (Rose (F.faults files.old) (F.faults files.new))) refusal) }
+    ensures inside { IfErr result IsInside }
     ensures risen { IfErr result (λ refusal. F.map files.old ≡ None → Risen (Rose (F.faults files.old) (F.faults files.new)) ⊥ refusal) }
     ensures settled { IsSettled (F.map files.old) (F.map files.new) (F.lent files.old) (F.lent files.new)
         (F.faults files.old) (F.faults files.new) }
 {
-    let asked = read_command(words)?;
-    let text = read_text(alloc, files, asked.file)?;
+    let text = read_text(alloc, files, name)?;
     match read_pipeline(alloc, &text) {
-        Ok(pipeline) => Ok(Plan {
-            pipeline,
-            shape: asked.shape,
-        }),
+        Ok(pipeline) => Ok(pipeline),
         Err(PipeErr::Memory) => Err(Refusal::Memory),
         Err(PipeErr::NotBuilt) => Err(Refusal::NotBuilt(2)),
     }
 }
 
-/// Does a command and prints its report.
+/// Runs the pipeline in a file and prints the report.
+fn run_file<F: Files, K: Sink>(
+    alloc: Global,
+    name: &str,
+    shape: Shape,
+    files: &mut F,
+    out: &mut K,
+) -> Result<(), Refusal>
+    ensures ok { OnOk result ((m : Names) → F.map files.old ≡ Some m
+        → IsOkAnd (ran m name.now) (IsDone (F.map files.old) (F.map files.new) (K.bytes out.old) (K.bytes out.new))) }
+    ensures err { IfErr result (λ refusal. (m : Names) → F.map files.old ≡ Some m → Because (ran m name.now)
+        (AtFile (Rose (F.faults files.old) (F.faults files.new)) (Rose (K.faults out.old) (K.faults out.new)) m name.now) refusal) }
+    ensures of_files { IfErr result IsOfFiles }
+    ensures risen { IfErr result (λ refusal. F.map files.old ≡ None → Risen (Rose (F.faults files.old) (F.faults files.new)) (Rose (K.faults out.old) (K.faults out.new)) refusal) }
+    ensures out_risen { IfErr result (λ refusal. (o : Op) → refusal ≡ Refusal.Device Place.Out o → (o ≡ Op.Write) × Rose (K.faults out.old) (K.faults out.new)) }
+    ensures left { IfErr result (λ refusal. (m : Names) → F.map files.old ≡ Some m → (F.map files.new ≡ F.map files.old)
+        ⊎ ((may_be_kept refusal ≡ true) × IsOkAnd (ran m name.now) (λ run. WerePut (F.map files.old) run.outputs (F.map files.new)))) }
+    ensures quiet { IfErr result (λ refusal. (K.bytes out.new ≡ K.bytes out.old) ⊎ ((refusal ≡ Refusal.Device Place.Out Op.Write) × ((m : Names) → F.map files.old ≡ Some m
+        → IsOkAnd (ran m name.now) (IsPartDone (F.map files.old) (F.map files.new) (K.bytes out.old) (K.bytes out.new))))) }
+    ensures lent { F.lent files.new ≡ F.lent files.old }
+    ensures later { F.faults files.old ≤ F.faults files.new }
+{
+    let pipeline = read_plan(alloc, files, name)?;
+    let counts = run_pipeline(alloc, files, &pipeline, shape)?;
+    match report_text(counts.as_slice(), out) {
+        Ok(()) => Ok(()),
+        Err(_) => Err(Refusal::Device(Place::Out, Op::Write)),
+    }
+}
+
+/// Prints a page.
+fn print_page<K: Sink>(page: &str, out: &mut K) -> Result<(), Refusal>
+    ensures ok { OnOk result (Appends (K.bytes out.old) page.now (K.bytes out.new)) }
+    ensures err { IfErr result (λ refusal. refusal ≡ Refusal.Device Place.Out Op.Write) }
+    ensures part { OnErr result (AppendsPart (K.bytes out.old) page.now (K.bytes out.new)) }
+    ensures rose { OnErr result (Rose (K.faults out.old) (K.faults out.new)) }
+{
+    match out.append(page.as_bytes()) {
+        Ok(()) => Ok(()),
+        Err(_) => Err(Refusal::Device(Place::Out, Op::Write)),
+    }
+}
+
+/// Does a command and prints its report, or its page.
 fn run_command<F: Files, K: Sink>(
     alloc: Global,
     words: &[String],
@@ -69,9 +99,9 @@ fn run_command<F: Files, K: Sink>(
     ensures ok { OnOk result ((m : Names) → F.map files.old ≡ Some m
         → IsOkAnd (answer (map string_bytes words.now) m) (IsDone (F.map files.old) (F.map files.new) (K.bytes out.old) (K.bytes out.new))) }
     ensures err { IfErr result (λ refusal. (m : Names) → F.map files.old ≡ Some m → Because (answer (map string_bytes words.now) m)
-        (AtRun (Rose (F.faults files.old) (F.faults files.new)) (Rose (K.faults out.old) (K.faults out.new)) (plan_of (map string_bytes words.now) m)
-        (IsOk (las_planned (map string_bytes words.now) m)) (IsOk (answer (map string_bytes words.now) m))) refusal) }
-    ensures words_first { (r : ℕ) → command_of (map string_bytes words.now) ≡ Err (Refusal.NotBuilt r) → result ≡ Err (Refusal.NotBuilt r) }
+        (AtTask (Rose (F.faults files.old) (F.faults files.new)) (Rose (K.faults out.old) (K.faults out.new)) m (task_of (map string_bytes words.now))) refusal) }
+    ensures words_first { (refusal : Refusal) → task_of (map string_bytes words.now) ≡ Err refusal → result ≡ Err refusal }
+    ensures of_words { (k : ℕ) → result ≡ Err (Refusal.Usage k) → task_of (map string_bytes words.now) ≡ Err (Refusal.Usage k) }
     ensures risen { IfErr result (λ refusal. F.map files.old ≡ None → Risen (Rose (F.faults files.old) (F.faults files.new)) (Rose (K.faults out.old) (K.faults out.new)) refusal) }
     ensures out_risen { IfErr result (λ refusal. (o : Op) → refusal ≡ Refusal.Device Place.Out o → (o ≡ Op.Write) × Rose (K.faults out.old) (K.faults out.new)) }
     ensures left { IfErr result (λ refusal. (m : Names) → F.map files.old ≡ Some m → (F.map files.new ≡ F.map files.old)
@@ -81,11 +111,9 @@ fn run_command<F: Files, K: Sink>(
     ensures lent { F.lent files.new ≡ F.lent files.old }
     ensures later { F.faults files.old ≤ F.faults files.new }
 {
-    let plan = read_plan(alloc, words, files)?;
-    let counts = run_pipeline(alloc, files, &plan.pipeline, plan.shape)?;
-    match report_text(counts.as_slice(), out) {
-        Ok(()) => Ok(()),
-        Err(_) => Err(Refusal::Device(Place::Out, Op::Write)),
+    match task_of(words)? {
+        Task::Run { file, shape } => run_file(alloc, file, shape, files, out),
+        Task::Print(page) => print_page(page, out),
     }
 }
 
@@ -131,11 +159,11 @@ pub fn lasline_solo<F: Files, K: Sink, E: Sink>(
         → answer (map string_bytes words.now) m ≡ Err (Refusal.Data i f) }
     ensures not_built { (r : ℕ) → result ≡ Status.NotBuilt r → (m : Names) → F.map files.old ≡ Some m
         → answer (map string_bytes words.now) m ≡ Err (Refusal.NotBuilt r) }
-    ensures words_first { (r : ℕ) → command_of (map string_bytes words.now) ≡ Err (Refusal.NotBuilt r) → result ≡ Status.NotBuilt r }
+    ensures usage { (k : ℕ) → result ≡ Status.Usage k → task_of (map string_bytes words.now) ≡ Err (Refusal.Usage k) }
+    ensures words_first { (refusal : Refusal) → task_of (map string_bytes words.now) ≡ Err refusal → result ≡ status_for refusal }
     ensures device { (p : Place) (o : Op) → result ≡ Status.Device p o → (m : Names) → F.map files.old ≡ Some m
         → (answer (map string_bytes words.now) m ≡ Err (Refusal.Device p o))
-        ⊎ AtRun (Rose (F.faults files.old) (F.faults files.new)) (Rose (K.faults out.old) (K.faults out.new)) (plan_of (map string_bytes words.now) m)
-        (IsOk (las_planned (map string_bytes words.now) m)) (IsOk (answer (map string_bytes words.now) m)) p o }
+        ⊎ AtTask (Rose (F.faults files.old) (F.faults files.new)) (Rose (K.faults out.old) (K.faults out.new)) m (task_of (map string_bytes words.now)) p o }
     ensures risen { (p : Place) (o : Op) → result ≡ Status.Device p o → F.map files.old ≡ None
         → RisenAt (Rose (F.faults files.old) (F.faults files.new)) (Rose (K.faults out.old) (K.faults out.new)) p }
     ensures out_risen { (o : Op) → result ≡ Status.Device Place.Out o → (o ≡ Op.Write) × Rose (K.faults out.old) (K.faults out.new) }

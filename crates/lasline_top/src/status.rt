@@ -11,6 +11,9 @@ pub enum Status {
     /// It kept its outputs and printed its report.
     Ok,
 
+    /// The words are no command. The number is the place of the first one that is wrong or missing, from 0 on.
+    Usage(usize),
+
     /// The data of the stage with this number have a fault.
     Data(u32, Fault),
 
@@ -20,7 +23,7 @@ pub enum Status {
     /// There was no memory.
     Memory,
 
-    /// What was asked isn't built yet: 1 the words, 2 the pipeline, 3 the form of a LAS file.
+    /// What was asked isn't built yet: 1 the command, 2 the pipeline.
     NotBuilt(u8),
 }
 
@@ -33,6 +36,7 @@ impl Status {
         ensures { result ≡ status_for refusal }
     {
         match refusal {
+            Refusal::Usage(place) => Status::Usage(place),
             Refusal::Data(stage, fault) => Status::Data(stage, fault),
             Refusal::Device(place, op) => Status::Device(place, op),
             Refusal::Memory => Status::Memory,
@@ -46,6 +50,7 @@ impl Status {
     {
         match self {
             Status::Ok => 0,
+            Status::Usage(_) => 1,
             Status::Data(_, _) => 3,
             Status::Device(_, _) => 4,
             Status::Memory => 5,

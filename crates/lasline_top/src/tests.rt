@@ -1,4 +1,4 @@
-use crate::words::read_command;
+use crate::pages::{help, version};
 use crate::{Fault, Place, Refusal, Status, lasline_solo};
 use arrayvec::ArrayString;
 use cloud_points::{Make, PointFault, Spread};
@@ -129,7 +129,7 @@ fn refusals_keep_nothing_and_say_why(rt: HostRuntime) -> Result<(), Fail> {
     other_signature[0] = b'X';
     let cut = Fault::Point(PointFault::Cut(1));
     let not_las = Fault::Header(HeaderFault::NotLas);
-    let rows: [(&[&str], &[u8], &[u8], Status, &[u8]); 11] = [
+    let rows: [(&[&str], &[u8], &[u8], Status, &[u8]); 12] = [
         (
             &["run", "p.json"],
             PIPELINE,
@@ -197,11 +197,18 @@ fn refusals_keep_nothing_and_say_why(rt: HostRuntime) -> Result<(), Fail> {
             &[],
             PIPELINE,
             &whole,
-            Status::NotBuilt(1),
-            b"lasline: not built\n",
+            Status::Usage(0),
+            b"lasline: usage: bad or missing word 0\n",
         ),
         (
-            &["fly"],
+            &["run", "p.json", "--chunk", "4", "--chunk", "4"],
+            PIPELINE,
+            &whole,
+            Status::Usage(4),
+            b"lasline: usage: bad or missing word 4\n",
+        ),
+        (
+            &["run", "p.json", "--whole"],
             PIPELINE,
             &whole,
             Status::NotBuilt(1),
@@ -797,62 +804,70 @@ fn a_failing_output_leaves_the_kept_file(rt: HostRuntime) -> Result<(), Fail> {
 }
 
 #[test]
-fn options_are_read(rt: HostRuntime) -> Result<(), Fail> {
+fn pages_are_printed(rt: HostRuntime) -> Result<(), Fail> {
     let alloc = rt.alloc();
-    let rows: [(&[&str], usize, usize); 5] = [
-        (&["run", "p.json"], 64, 8),
-        (&["run", "p.json", "--chunk", "1"], 1, 8),
-        (&["run", "p.json", "--queue", "64"], 64, 64),
-        (&["run", "p.json", "--chunk", "10", "--queue", "3"], 10, 3),
-        (&["run", "p.json", "--queue", "3", "--chunk", "10"], 10, 3),
+    for (word, page) in [("--help", help()), ("--version", version())] {
+        let words = words(alloc, &[word])?;
+        let mut files = SureFiles::new(alloc, Vec::new(alloc), 100);
+        let mut out = SureOut::new(alloc, 2_000)?;
+        let mut err = SureOut::new(alloc, 200)?;
+        let status = lasline_solo(alloc, &words, &mut files, &mut out, &mut err);
+        assert_eq!(rt; status, Status::Ok);
+        assert_eq!(rt; out.bytes().ok_or("no page")?, page.as_bytes());
+        assert_eq!(rt; err.bytes().ok_or("no line")?, b"".as_slice());
+        let mut failing = MemOut::new(alloc, 2_000, vec![in alloc; 1u64]?)?;
+        let status = lasline_solo(alloc, &words, &mut files, &mut failing, &mut err);
+        assert_eq!(rt; status, Status::Device(Place::Out, Op::Write));
+    }
+    assert_eq!(rt; version(), "lasline 1\n");
+    Ok(())
+}
+
+#[test]
+fn words_have_exit_codes(rt: HostRuntime) -> Result<(), Fail> {
+    let alloc = rt.alloc();
+    let rows: [(&[&str], Status, u8); 9] = [
+        (&["fly"], Status::Usage(0), 1),
+        (&["run"], Status::Usage(1), 1),
+        (&["run", "--chunk", "4"], Status::Usage(1), 1),
+        (&["run", "p.json", "--chunk", "0"], Status::Usage(3), 1),
+        (&["gen", "10000001", "a.las"], Status::Usage(1), 1),
+        (&["--help", "run"], Status::Usage(1), 1),
+        (&["plan", "p.json"], Status::NotBuilt(1), 6),
+        (&["gen", "10000000", "a.las"], Status::NotBuilt(1), 6),
+        (
+            &["trial", "0", "--workers", "32", "--patience", "0"],
+            Status::NotBuilt(1),
+            6,
+        ),
     ];
-    for (given, chunk, queue) in rows {
+    for (given, status, code) in rows {
         let words = words(alloc, given)?;
-        match read_command(&words) {
-            Ok(command) => {
-                assert_eq!(rt; command.file, "p.json");
-                let shape = format!(in alloc; "{:?}", command.shape)?;
-                let wanted = format!(in alloc; "Shape {{ chunk: {chunk}, queue: {queue} }}")?;
-                assert_eq!(rt; shape.as_str(), wanted.as_str());
-            }
-            Err(_) => return Err(Fail::from("refused")),
-        }
+        let mut files = SureFiles::new(alloc, Vec::new(alloc), 100);
+        let mut out = SureOut::new(alloc, 200)?;
+        let mut err = SureOut::new(alloc, 200)?;
+        let answer = lasline_solo(alloc, &words, &mut files, &mut out, &mut err);
+        assert_eq!(rt; answer, status);
+        assert_eq!(rt; answer.code(), code);
     }
     Ok(())
 }
 
 #[test]
-fn other_words_are_refused(rt: HostRuntime) -> Result<(), Fail> {
+fn workers_and_patience_change_nothing(rt: HostRuntime) -> Result<(), Fail> {
     let alloc = rt.alloc();
-    let rows: [&[&str]; 17] = [
-        &["run"],
-        &["Run", "p.json"],
-        &["run", ""],
-        &["run", "--chunk"],
-        &["run", "--chunk", "1", "p.json"],
-        &["run", "p.json", "q.json"],
-        &["run", "p.json", "--chunk"],
-        &["run", "p.json", "--chunk", "0"],
-        &["run", "p.json", "--chunk", "65"],
-        &["run", "p.json", "--chunk", "08"],
-        &["run", "p.json", "--chunk", "+8"],
-        &["run", "p.json", "--chunk", ""],
-        &["run", "p.json", "--chunk", "8", "--chunk", "8"],
-        &[
-            "run", "p.json", "--queue", "8", "--chunk", "8", "--queue", "8",
-        ],
-        &["run", "p.json", "--queue", "18446744073709551617"],
-        &["run", "p.json", "--Queue", "8"],
-        &["run", "p.json", "--queue=8"],
-    ];
-    for given in rows {
-        let words = words(alloc, given)?;
-        match read_command(&words) {
-            Ok(_) => return Err(Fail::from("read")),
-            Err(refusal) => {
-                assert_eq!(rt; refusal, Refusal::NotBuilt(1));
-            }
-        }
-    }
+    let las = two_points();
+    let given = named(alloc, &[("p.json", PIPELINE), ("in.las", &las)])?;
+    let mut files = SureFiles::new(alloc, given, 100);
+    let mut out = SureOut::new(alloc, 200)?;
+    let mut err = SureOut::new(alloc, 200)?;
+    let words = words(
+        alloc,
+        &["run", "p.json", "--workers", "4", "--patience", "7"],
+    )?;
+    let status = lasline_solo(alloc, &words, &mut files, &mut out, &mut err);
+    assert_eq!(rt; status, Status::Ok);
+    assert_eq!(rt; files.contents("o.txt").ok_or("not kept")?, TEXT);
+    assert_eq!(rt; out.bytes().ok_or("no report")?, REPORT);
     Ok(())
 }

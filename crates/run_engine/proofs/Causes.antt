@@ -6,13 +6,14 @@ use Rattle.file_devices.specs.declared.devices.Op.TheVariants as op
 use Rattle.run_report.specs.declared.refusal.Place.{Place}
 use Rattle.run_report.specs.declared.refusal.Place.TheVariants as at
 use Rattle.run_report.specs.declared.refusal.Refusal.{Refusal}
-use Rattle.run_report.specs.declared.refusal.Refusal.TheVariants.{Data, Device, Memory, NotBuilt}
+use Rattle.run_report.specs.declared.refusal.Refusal.TheVariants.{Usage, Data, Device, Memory, NotBuilt}
 use Rattle.run_engine.specs.Cause.{Because, Blamed, OnlyBlamed, AtStages, AtWriter, AtTurns}
 
 pub because_more : {X : Type 0} (x : Result X Refusal) (f h : Place → Op → Type 0) → ((p : Place) (o : Op) → f p o → h p o) → (refusal : Refusal) → Because x f refusal → Because x h refusal
 because_more x f h more Memory b = tt
 because_more x f h more (Data i d) b = b
 because_more x f h more (NotBuilt r) b = b
+because_more x f h more (Usage k) b = b
 because_more x f h more (Device p o) (inl e) = inl e
 because_more x f h more (Device p o) (inr e) = inr (more p o e)
 
@@ -20,18 +21,21 @@ pub blamed_more : (f h : Place → Op → Type 0) → ((p : Place) (o : Op) → 
 blamed_more f h more Memory b = tt
 blamed_more f h more (Data i d) b = tt
 blamed_more f h more (NotBuilt r) b = tt
+blamed_more f h more (Usage k) b = absurd b
 blamed_more f h more (Device p o) b = more p o b
 
 pub only_because : {X : Type 0} (x : Result X Refusal) (f h : Place → Op → Type 0) → ((p : Place) (o : Op) → f p o → h p o) → (refusal : Refusal) → OnlyBlamed f refusal → Because x h refusal
 only_because x f h more Memory b = tt
 only_because x f h more (Data i d) b = absurd b
 only_because x f h more (NotBuilt r) b = absurd b
+only_because x f h more (Usage k) b = absurd b
 only_because x f h more (Device p o) b = inr (more p o b)
 
 pub only_blamed : (f h : Place → Op → Type 0) → ((p : Place) (o : Op) → f p o → h p o) → (refusal : Refusal) → OnlyBlamed f refusal → Blamed h refusal
 only_blamed f h more Memory b = tt
 only_blamed f h more (Data i d) b = absurd b
 only_blamed f h more (NotBuilt r) b = absurd b
+only_blamed f h more (Usage k) b = absurd b
 only_blamed f h more (Device p o) b = more p o b
 
 pub stages_more : (reads reads' writes writes' : Op → Type 0) → ((o : Op) → reads o → reads' o) → ((o : Op) → writes o → writes' o) → (last : ℕ) (p : Place) (o : Op) → AtStages reads writes last p o → AtStages reads' writes' last p o

@@ -38,7 +38,7 @@ use Rattle.network_core.proofs.Running.{same_some}
 use Rattle.run_report.specs.declared.refusal.Place.TheVariants.{PipelineFile, Stage, Out}
 use Rattle.run_report.specs.declared.refusal.Fault.TheVariants as fault
 use Rattle.run_report.specs.declared.refusal.Refusal.{Refusal}
-use Rattle.run_report.specs.declared.refusal.Refusal.TheVariants.{Data, Device, Memory, NotBuilt}
+use Rattle.run_report.specs.declared.refusal.Refusal.TheVariants.{Usage, Data, Device, Memory, NotBuilt}
 use Rattle.run_engine.specs.Chains.{headed, streamed, counts, count_of}
 use Rattle.run_engine.specs.Runs.{whole_flow, to_end}
 use Rattle.run_engine.specs.Cause.{Because, Blamed, AtTurns}
@@ -337,6 +337,7 @@ module _ {S K : Type 0} (s : source.Ghosts S) (k : sink.Ghosts K) (chunk : ℕ) 
       Because (whole_flow (las_with reader.header file)) (AtTurns (Rose (s.faults reader.source) (s.faults e.reader'.source)) (Rose (k.faults writer.sink) (k.faults e.writer'.sink)) (length hs + 1)) refusal
   because new e Memory start out file told = absurd out
   because new e (NotBuilt r) start out file told = absurd out
+  because new e (Usage k) start out file told = absurd out
   because new e (Data i (fault.Header f)) start out file told = absurd out
   because new e (Data i (fault.Vlr f)) start out file told = absurd out
   because new e (Data i (fault.Point f)) start out file told = e.faulty start i f out.0 out.1 file told
@@ -348,6 +349,7 @@ module _ {S K : Type 0} (s : source.Ghosts S) (k : sink.Ghosts K) (chunk : ℕ) 
       Blamed (AtTurns (Rose (s.faults reader.source) (s.faults e.reader'.source)) (Rose (k.faults writer.sink) (k.faults e.writer'.sink)) (length hs + 1)) refusal
   blamed new e Memory out = absurd out
   blamed new e (NotBuilt r) out = absurd out
+  blamed new e (Usage k) out = absurd out
   blamed new e (Data i (fault.Header f)) out = absurd out
   blamed new e (Data i (fault.Vlr f)) out = absurd out
   blamed new e (Data i (fault.Point f)) out = tt

@@ -14,7 +14,7 @@ use Rattle.stage_kinds.specs.Reads.{las_flow}
 use Rattle.run_report.specs.Reports.{report_of}
 use Rattle.run_report.specs.declared.report.StageCount.{StageCount}
 use Rattle.run_report.specs.declared.refusal.Refusal.{Refusal}
-use Rattle.run_report.specs.declared.refusal.Refusal.TheVariants.{Data, Device, Memory, NotBuilt}
+use Rattle.run_report.specs.declared.refusal.Refusal.TheVariants.{Usage, Data, Device, Memory, NotBuilt}
 use Rattle.run_engine.specs.Chains.{counts}
 use Rattle.run_engine.specs.Refusals.{and_then}
 use Rattle.run_engine.specs.Runs.{Output, las_at, whole_flow, converted, written, run_of}
@@ -60,6 +60,7 @@ module _ (m : Names) (chain : Chain) (bytes : Option (List ℕ)) (header : Heade
   because-so f h last Memory b = tt
   because-so f h last (Data i d) b = fault-is (Data i d) b
   because-so f h last (NotBuilt n) b = fault-is (NotBuilt n) b
+  because-so f h last (Usage k) b = fault-is (Usage k) b
   because-so f h last (Device p o) (inl e) = inl (fault-is (Device p o) e)
   because-so f h last (Device p o) (inr e) = inr e
 

@@ -19,6 +19,7 @@ abbrev pub Because : {X : Type 0} → Result X Refusal → (Place → Op → Typ
 Because expected failed of.Memory = ⊤
 Because expected failed (of.Data i f) = expected ≡ Err (of.Data i f)
 Because expected failed (of.NotBuilt r) = expected ≡ Err (of.NotBuilt r)
+Because expected failed (of.Usage k) = expected ≡ Err (of.Usage k)
 Because expected failed (of.Device p o) = (expected ≡ Err (of.Device p o)) ⊎ failed p o
 
 -- a device is named only where it failed
@@ -26,6 +27,7 @@ abbrev pub Blamed : (Place → Op → Type 0) → Refusal → Type 0
 Blamed failed of.Memory = ⊤
 Blamed failed (of.Data i f) = ⊤
 Blamed failed (of.NotBuilt r) = ⊤
+Blamed failed (of.Usage k) = ⊥
 Blamed failed (of.Device p o) = failed p o
 
 -- want of memory, or a device that failed
@@ -33,6 +35,7 @@ abbrev pub OnlyBlamed : (Place → Op → Type 0) → Refusal → Type 0
 OnlyBlamed failed of.Memory = ⊤
 OnlyBlamed failed (of.Data i f) = ⊥
 OnlyBlamed failed (of.NotBuilt r) = ⊥
+OnlyBlamed failed (of.Usage k) = ⊥
 OnlyBlamed failed (of.Device p o) = failed p o
 
 -- over files that tell nothing a device is named only where its count rose: that of the files, or that of the output
@@ -45,19 +48,22 @@ abbrev pub Risen : Type 0 → Type 0 → Refusal → Type 0
 Risen files out of.Memory = ⊤
 Risen files out (of.Data i f) = ⊤
 Risen files out (of.NotBuilt r) = ⊤
+Risen files out (of.Usage k) = ⊤
 Risen files out (of.Device p o) = RisenAt files out p
 
--- no device of the program's output is named
+-- the program's output isn't named
 abbrev pub IsNotOutAt : Place → Type 0
 IsNotOutAt at.PipelineFile = ⊤
 IsNotOutAt (at.Stage i) = ⊤
 IsNotOutAt at.Out = ⊥
 
-abbrev pub IsNotOut : Refusal → Type 0
-IsNotOut of.Memory = ⊤
-IsNotOut (of.Data i f) = ⊤
-IsNotOut (of.NotBuilt r) = ⊤
-IsNotOut (of.Device p o) = IsNotOutAt p
+-- it is neither for the words nor for the program's output
+abbrev pub IsInside : Refusal → Type 0
+IsInside of.Memory = ⊤
+IsInside (of.Data i f) = ⊤
+IsInside (of.NotBuilt r) = ⊤
+IsInside (of.Usage k) = ⊥
+IsInside (of.Device p o) = IsNotOutAt p
 
 -- the files are as before, all that was lent is back, and the count didn't fall
 pub record IsSettled (map_before map : Option Names) (lent_before lent faults_before faults : ℕ) : Type 0 where
@@ -161,6 +167,7 @@ abbrev pub may_be_kept : Refusal → Bool
 may_be_kept of.Memory = true
 may_be_kept (of.Data i f) = false
 may_be_kept (of.NotBuilt r) = false
+may_be_kept (of.Usage k) = false
 may_be_kept (of.Device p o) = is_out p || is_keep o
 
 -- the map after a refusal: as before, or with the outputs put where the answer is right

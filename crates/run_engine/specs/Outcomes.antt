@@ -12,7 +12,7 @@ use Rattle.run_report.specs.declared.report.StageCount.{StageCount}
 use Rattle.run_report.specs.declared.refusal.Place.TheVariants.{PipelineFile, Stage, Out}
 use Rattle.run_report.specs.declared.refusal.Fault.TheVariants.{Header, Vlr, Point}
 use Rattle.run_report.specs.declared.refusal.Refusal.{Refusal}
-use Rattle.run_report.specs.declared.refusal.Refusal.TheVariants.{Data, Device, Memory, NotBuilt}
+use Rattle.run_report.specs.declared.refusal.Refusal.TheVariants.{Usage, Data, Device, Memory, NotBuilt}
 
 -- no device failed at one of the first so many nodes, and one did at this node
 abbrev pub NoDevice : {W : Type 0} → List (Node W) → ℕ → Type 0
@@ -48,6 +48,7 @@ op_at stage = cond (stage == 0) Read Write
 abbrev pub IsOutcome : {W : Type 0} → List (Node W) → Refusal → Type 0
 IsOutcome nodes Memory = ⊥
 IsOutcome nodes (NotBuilt r) = ⊥
+IsOutcome nodes (Usage k) = ⊥
 IsOutcome nodes (Data i (Header f)) = ⊥
 IsOutcome nodes (Data i (Vlr f)) = ⊥
 IsOutcome nodes (Data i (Point f)) = NoDevice nodes (length nodes) × PointFaultAt nodes i f

@@ -6,7 +6,7 @@ ghost use Rattle.file_devices.specs.Named.{Names};
 ghost use Rattle.las_reader.specs.declared.reader.Progress.TheVariants.{Records};
 ghost use Rattle.text_writer.specs.TextOutput.{holds_text};
 ghost use Rattle.run_engine.specs.Runs.{las_at};
-ghost use Rattle.run_engine.specs.Cause.{Because, Blamed, OnlyBlamed, IsNotOut, AtOpening, AtStages, AtWriter};
+ghost use Rattle.run_engine.specs.Cause.{Because, Blamed, OnlyBlamed, IsInside, AtOpening, AtStages, AtWriter};
 ghost use Rattle.run_engine.specs.Opened.{IsReading, opening_refusal};
 
 use file_devices::{DeviceErr, Files, Op};
@@ -37,7 +37,7 @@ pub(crate) fn open_reader<F: Files>(
     ensures start { IfOk result (λ r. r.progress ≡ Records 0) }
     ensures err { IfErr result (λ refusal. (m : Names) → F.map files.old ≡ Some m
         → Because (las_at (m name.now)) (AtOpening (Rose (F.faults files.old) (F.faults files.new))) refusal) }
-    ensures inside { IfErr result IsNotOut }
+    ensures inside { IfErr result IsInside }
     ensures risen { IfErr result (λ refusal. F.map files.old ≡ None → Blamed (AtOpening (Rose (F.faults files.old) (F.faults files.new))) refusal) }
     ensures map { F.map files.new ≡ F.map files.old }
     ensures lent_ok { OnOk result (F.lent files.new ≡ F.lent files.old + 1) }

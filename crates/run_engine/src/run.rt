@@ -10,7 +10,7 @@ ghost use Rattle.pipeline_json.specs.Shown.{chain_of};
 ghost use Rattle.stage_kinds.specs.Reads.{las_flow};
 ghost use Rattle.run_engine.specs.Chains as chain;
 ghost use Rattle.run_engine.specs.Runs.{las_at, whole_flow, run_of, written};
-ghost use Rattle.run_engine.specs.Cause.{Because, Blamed, Risen, IsNotOut, AtReader, AtWriter, AtStages, WerePut, IsLeft, IsRun, IsKept, may_be_kept, last_stage};
+ghost use Rattle.run_engine.specs.Cause.{Because, Blamed, Risen, IsInside, AtReader, AtWriter, AtStages, WerePut, IsLeft, IsRun, IsKept, may_be_kept, last_stage};
 
 use crate::open::{open_reader, open_writer};
 use crate::outcome::Counts;
@@ -128,7 +128,7 @@ pub fn run_pipeline<F: Files>(
         (AtStages (AtReader (Rose (F.faults files.old) (F.faults files.new)))
         (AtWriter (Rose (F.faults files.old) (F.faults files.new)) (IsOk (las_at (m (chain_of pipeline.now).from))) (IsOk (run_of m (chain_of pipeline.now))))
         (last_stage (chain_of pipeline.now))) refusal) }
-    ensures inside { IfErr result IsNotOut }
+    ensures inside { IfErr result IsInside }
     ensures risen { IfErr result (λ refusal. F.map files.old ≡ None → Risen (Rose (F.faults files.old) (F.faults files.new)) ⊥ refusal) }
     ensures left { IfErr result (λ refusal. (m : Names) → F.map files.old ≡ Some m → (F.map files.new ≡ F.map files.old)
         ⊎ ((may_be_kept refusal ≡ true) × IsOkAnd (run_of m (chain_of pipeline.now)) (λ run. WerePut (F.map files.old) run.outputs (F.map files.new)))) }

@@ -16,7 +16,7 @@ use Rattle.run_report.specs.declared.refusal.Place.TheVariants.{PipelineFile, St
 use Rattle.run_report.specs.declared.refusal.Fault.{Fault}
 use Rattle.run_report.specs.declared.refusal.Fault.TheVariants.{Header, Vlr, Point}
 use Rattle.run_report.specs.declared.refusal.Refusal.{Refusal}
-use Rattle.run_report.specs.declared.refusal.Refusal.TheVariants.{Data, Device, Memory, NotBuilt}
+use Rattle.run_report.specs.declared.refusal.Refusal.TheVariants.{Usage, Data, Device, Memory, NotBuilt}
 
 abbrev pub axis_text : Axis → List ℕ
 axis_text X = codes "X"
@@ -73,6 +73,7 @@ op_text Patch = codes "patch"
 op_text Keep = codes "keep"
 
 abbrev pub reason_text : Refusal → List ℕ
+reason_text (Usage k) = codes "usage: bad or missing word " ++ decimal k
 reason_text (Data i fault) = codes "stage " ++ decimal i ++ codes ": " ++ fault_text fault
 reason_text (Device place op) = codes "device: " ++ place_text place ++ codes ": " ++ op_text op ++ codes " failed"
 reason_text Memory = codes "out of memory"

@@ -174,6 +174,10 @@ fn push_reason(refusal: Refusal, text: &mut Text)
     ensures len { array_string_len text.new ≤ array_string_len text.old + 98 }
 {
     match refusal {
+        Refusal::Usage(place) => {
+            text.push_str("usage: bad or missing word ");
+            push_number(place as u64, text);
+        }
         Refusal::Data(stage, fault) => {
             text.push_str("stage ");
             push_number(stage as u64, text);

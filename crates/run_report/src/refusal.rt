@@ -34,6 +34,9 @@ pub enum Fault {
 /// Why a command ends without its outputs.
 #[derive(Clone, Copy, Debug, PartialEq, Eq)]
 pub enum Refusal {
+    /// The words are no command. The number is the place of the first one that is wrong or missing, from 0 on.
+    Usage(usize),
+
     /// The data of the stage with this number have a fault.
     Data(u32, Fault),
 
@@ -43,6 +46,6 @@ pub enum Refusal {
     /// There was no memory.
     Memory,
 
-    /// What was asked isn't built yet: 1 the words, 2 the pipeline.
+    /// What was asked isn't built yet: 1 the command, 2 the pipeline.
     NotBuilt(u8),
 }

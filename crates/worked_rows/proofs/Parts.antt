@@ -19,13 +19,16 @@ use Rattle.las_reader.specs.Frames.{LasFault, In_header, In_list}
 use Rattle.cloud_points.specs.Points.{zero_point}
 use Rattle.las_reader.specs.Records.{point_of, points_from}
 use Rattle.las_reader.specs.Files.{Las, las_of}
+use Rattle.file_devices.specs.Named.{Names}
 use Rattle.file_devices.specs.declared.devices.Op.TheVariants.{Open}
 use Rattle.run_report.specs.declared.refusal.Place.TheVariants.{Stage}
 use Rattle.run_report.specs.declared.refusal.Refusal.TheVariants.{Device}
 use Rattle.pipeline_json.specs.Pipelines.{Chain, pipeline_of}
 use Rattle.run_engine.specs.Refusals.{and_then}
 use Rattle.run_engine.specs.Runs.{las_read, converted, run_of}
-use Rattle.lasline_top.specs.Answer.{piped, answer}
+use Rattle.command_words.specs.Machine.{command_of}
+use Rattle.lasline_top.specs.Words.{Run_file, task_of}
+use Rattle.lasline_top.specs.Answer.{piped, ran, done, answer}
 use Rattle.worked_rows.specs.Rows.{run_p, files, files_with, pipeline_alone, pipeline_text, head_of_1, head_of_0, file_a, file_of_format_6, file_of_a_vlr, file_of_many_vlrs, file_of_a_far_evlr, file_compressed, file_of_neighbour, file_far, file_with_x, file_without_points, first_point, none_pass}
 
 -- from the LAS file to the text file through these heads
@@ -132,9 +135,17 @@ pub no_bytes : las_of [] ≡ Err (In_header NotLas)
 unfolding header_of format_in
 no_bytes = refl
 
+-- the words of the example ask for the run of its pipeline's file
+asked : task_of run_p ≡ Ok (Run_file (codes "p.json") 64 8)
+unfolding command_of
+asked = refl
+
+pub run_is : (m : Names) → answer run_p m ≡ ran m (codes "p.json")
+run_is m = ap (λ task. and_then task (done m)) asked
+
 -- the run of the example's pipeline over a LAS file
 pub run_over : (las : List ℕ) (read : Result Las LasFault) → las_of las ≡ read → answer run_p (files las) ≡ and_then (las_read read) (converted (through []))
-run_over las read is = ap (λ chain. and_then (piped chain) (run_of (files las))) chain_is ∙ ap (λ r. and_then (las_read r) (converted (through []))) is
+run_over las read is = run_is (files las) ∙ ap (λ chain. and_then (piped chain) (run_of (files las))) chain_is ∙ ap (λ r. and_then (las_read r) (converted (through []))) is
 
 -- the run of another pipeline
 pub planned : (pipeline : List ℕ) (plan : Option Chain) → pipeline_of pipeline ≡ plan → and_then (piped (pipeline_of pipeline)) (run_of (files_with pipeline file_a)) ≡ and_then (piped plan) (run_of (files_with pipeline file_a))
@@ -147,12 +158,12 @@ through_head pipeline count read chain las = planned pipeline (Some (through (co
 
 pub one_passes : answer run_p (files_with head_of_1 file_a) ≡ Ok first_point
 unfolding digits
-one_passes = through_head head_of_1 1 _ one_is two_read
+one_passes = run_is (files_with head_of_1 file_a) ∙ through_head head_of_1 1 _ one_is two_read
 
 pub no_point_passes : answer run_p (files_with head_of_0 file_a) ≡ Ok none_pass
 unfolding digits
-no_point_passes = through_head head_of_0 0 _ zero_is two_read
+no_point_passes = run_is (files_with head_of_0 file_a) ∙ through_head head_of_0 0 _ zero_is two_read
 
 -- the pipeline's file is there, and its LAS file isn't
 pub absent_las : answer run_p pipeline_alone ≡ Err (Device (Stage 0) Open)
-absent_las = ap (λ chain. and_then (piped chain) (run_of pipeline_alone)) chain_is
+absent_las = run_is pipeline_alone ∙ ap (λ chain. and_then (piped chain) (run_of pipeline_alone)) chain_is

@@ -9,7 +9,7 @@ ghost use Rattle.las_header.specs.declared.faults.Axis.{Axis};
 ghost use Rattle.las_header.specs.declared.faults.HeaderFault.{HeaderFault};
 ghost use Rattle.las_vlr.specs.declared.entry.VlrFault.{VlrFault};
 ghost use Rattle.cloud_points.specs.declared.faults.PointFault.{PointFault};
-ghost use Rattle.lasline_top.specs.Answer.{answer};
+ghost use Rattle.lasline_top.specs.Answer.{answer, printed};
 ghost use Rattle.run_report.specs.declared.refusal.Refusal.{Refusal};
 ghost use Rattle.run_report.specs.declared.refusal.Fault.{Fault};
 ghost use Rattle.run_report.specs.declared.refusal.Place.{Place};
@@ -31,6 +31,7 @@ pub fn heads_let_the_first_points_pass()
 {}
 
 /// The pieces that a run is cut into change nothing, whatever files there are.
+#[tactic(auto, unfolding(command_words::specs::Machine::command_of))]
 pub fn pieces_change_nothing()
     ensures { (m : Names) → answer run_p_in_pieces m ≡ answer run_p m }
 {}
@@ -63,12 +64,22 @@ pub fn pipelines_are_refused()
     ensures a_count_too_large { answer run_p (files_with (codes "[\"in.las\",{\"type\":\"filters.head\",\"count\":4294967296},\"o.txt\"]") file_a) ≡ Err (Refusal.NotBuilt 2) }
 {}
 
-/// Other words than `run FILE` and its options aren't built, whatever files there are.
+/// Words that are no command are refused for the first one that is wrong or missing, whatever files there are, and some
+/// commands aren't built.
+#[tactic(auto, unfolding(command_words::specs::Machine::command_of))]
 pub fn words_are_refused()
-    ensures none { (m : Names) → answer [] m ≡ Err (Refusal.NotBuilt 1) }
-    ensures another_command { (m : Names) → answer (codes "fly" ∷ []) m ≡ Err (Refusal.NotBuilt 1) }
-    ensures no_file { (m : Names) → answer (codes "run" ∷ []) m ≡ Err (Refusal.NotBuilt 1) }
-    ensures one_more { (m : Names) → answer (codes "run" ∷ codes "p.json" ∷ codes "--chunk" ∷ []) m ≡ Err (Refusal.NotBuilt 1) }
-    ensures chunk_of_none { (m : Names) → answer (codes "run" ∷ codes "p.json" ∷ codes "--chunk" ∷ codes "0" ∷ []) m ≡ Err (Refusal.NotBuilt 1) }
-    ensures an_option_twice { (m : Names) → answer (codes "run" ∷ codes "p.json" ∷ codes "--chunk" ∷ codes "1" ∷ codes "--chunk" ∷ codes "1" ∷ []) m ≡ Err (Refusal.NotBuilt 1) }
+    ensures none { (m : Names) → answer [] m ≡ Err (Refusal.Usage 0) }
+    ensures another_command { (m : Names) → answer (codes "fly" ∷ []) m ≡ Err (Refusal.Usage 0) }
+    ensures no_file { (m : Names) → answer (codes "run" ∷ []) m ≡ Err (Refusal.Usage 1) }
+    ensures one_more { (m : Names) → answer (codes "run" ∷ codes "p.json" ∷ codes "--chunk" ∷ []) m ≡ Err (Refusal.Usage 3) }
+    ensures chunk_of_none { (m : Names) → answer (codes "run" ∷ codes "p.json" ∷ codes "--chunk" ∷ codes "0" ∷ []) m ≡ Err (Refusal.Usage 3) }
+    ensures an_option_twice { (m : Names) → answer (codes "run" ∷ codes "p.json" ∷ codes "--chunk" ∷ codes "4" ∷ codes "--chunk" ∷ codes "4" ∷ []) m ≡ Err (Refusal.Usage 4) }
+    ensures a_plan { (m : Names) → answer (codes "plan" ∷ codes "p.json" ∷ []) m ≡ Err (Refusal.NotBuilt 1) }
+    ensures a_whole_run { (m : Names) → answer (codes "run" ∷ codes "p.json" ∷ codes "--whole" ∷ []) m ≡ Err (Refusal.NotBuilt 1) }
+{}
+
+/// A page is printed, and nothing is kept.
+#[tactic(auto, unfolding(command_words::specs::Machine::command_of))]
+pub fn pages_are_printed()
+    ensures version { (m : Names) → answer (codes "--version" ∷ []) m ≡ Ok (printed (codes "lasline 1\n")) }
 {}

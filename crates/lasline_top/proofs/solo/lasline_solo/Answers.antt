@@ -12,4 +12,4 @@ returns-in-Ok-clause-report g c = λ _ m e. done_report (answer (map string_byte
 
 pub returns-in-Err-clause-complete : goal.returns-in-Err-clause-complete
 returns-in-Err-clause-complete g c = λ m e no_files no_output.
-    answer_or_memory (answer (map string_bytes c.args.words.now) m) _ _ _ _ _ c.in-Err.refusal c.refused.result c.refused.ensures.status no_files no_output (c.in-Err.ensures.err m e)
+    answer_or_memory (answer (map string_bytes c.args.words.now) m) _ _ m _ c.in-Err.refusal c.refused.result c.refused.ensures.status no_files no_output (c.in-Err.ensures.err m e)

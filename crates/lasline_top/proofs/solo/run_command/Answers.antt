@@ -1,35 +1,8 @@
-use Rattle.std.proofs.Common.{map, inr, refl, string_bytes, ◌∙◌}
-use Rattle.std.proofs.lemmas.Result.{err_from_is_err_and}
-use Rattle.lasline_top.specs.Answer.{answer}
-use Rattle.pipeline_json.specs.Shown.{chain_of}
-use Rattle.lasline_top.proofs.Running.{answered, answered_put, left_over, done_is, part_done_is}
+use Rattle.std.proofs.Common.{Ok, ap, ◌∙◌}
+use Rattle.lasline_top.specs.Tasks.{task_view}
 use Rattle.lasline_top.proofs.solo.run_command.Goals as goal
 
-pub returns-in_err-counts-clause-left : goal.returns-in_err-counts-clause-left
-returns-in_err-counts-clause-left g c =
-    let p = err_from_is_err_and c.from_residual-in_err-counts.result c.from_residual-in_err-counts.ensures.1 in
-    let same = c.in_ok-plan.ensures.settled.map_same in
-    rw (p.1, p.2) (λ m e. left_over (map string_bytes c.args.words.now) m (chain_of c.in_ok-plan.plan.pipeline) _ _ _ _ (c.in_ok-plan.ensures.ok m e) same (c.in_err-counts.ensures.left m (same ∙ e)))
-
-pub returns-in-Ok-clause-ok : goal.returns-in-Ok-clause-ok
-returns-in-Ok-clause-ok g c = λ m e.
-    let same = c.in_ok-plan.ensures.settled.map_same in
-    done_is (answer (map string_bytes c.args.words.now) m) _ _ c.in_ok-counts.counts.items _ _ _ c.as_slice.ensures.value
-    (answered (map string_bytes c.args.words.now) m (chain_of c.in_ok-plan.plan.pipeline) c.in_ok-counts.counts.items _ _ _ (c.in_ok-plan.ensures.ok m e) same (c.in_ok-counts.ensures.ok m (same ∙ e))) c.in-Ok.ensures.ok
-
-pub returns-clause-left : goal.returns-clause-left
-returns-clause-left g c = λ m e.
-    let same = c.in_ok-plan.ensures.settled.map_same in
-    inr (
-      refl,
-      answered_put (map string_bytes c.args.words.now) m (chain_of c.in_ok-plan.plan.pipeline) c.in_ok-counts.counts.items _ _ _ (c.in_ok-plan.ensures.ok m e) same (c.in_ok-counts.ensures.ok m (same ∙ e)),
-    )
-
-pub returns-clause-quiet : goal.returns-clause-quiet
-returns-clause-quiet g c = inr (
-  refl,
-  λ m e.
-      let same = c.in_ok-plan.ensures.settled.map_same in
-      part_done_is (answer (map string_bytes c.args.words.now) m) _ _ c.in_ok-counts.counts.items _ _ _ c.as_slice.ensures.value
-      (answered (map string_bytes c.args.words.now) m (chain_of c.in_ok-plan.plan.pipeline) c.in_ok-counts.counts.items _ _ _ (c.in_ok-plan.ensures.ok m e) same (c.in_ok-counts.ensures.ok m (same ∙ e))) c.in-Err.ensures.part,
-)
+pub returns-in-Run-clause-err : goal.returns-in-Run-clause-err
+returns-in-Run-clause-err g c =
+    let task = c.in_ok-file.ensures.ok ∙ ap (λ t. Ok (task_view t)) c.in-Run.is in
+    rw task c.run_file.ensures.err

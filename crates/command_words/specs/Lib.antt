@@ -1,0 +1,5 @@
+pub mod Numbers
+pub mod Options
+pub mod Commands
+pub mod Machine
+pub mod Laws

@@ -1,0 +1,8 @@
+-- The task that the code has read.
+use Rattle.lasline_top.specs.Words.{Task, Run_file, Print}
+use Rattle.lasline_top.specs.declared.words.Task.{Task as Read}
+use Rattle.lasline_top.specs.declared.words.Task.TheVariants as read
+
+abbrev pub task_view : Read → Task
+task_view (read.Run file shape) = Run_file file.now shape.chunk shape.queue
+task_view (read.Print page) = Print page.now

@@ -1,0 +1,18 @@
+//! The pages that are printed.
+
+ghost use Rattle.std.specs.Prelude.{◌≡◌};
+ghost use Rattle.lasline_top.specs.Pages.{help_page, version_page};
+
+/// What `--help` prints.
+pub(crate) fn help() -> &'static str
+    ensures { result.now ≡ help_page }
+{
+    "lasline runs lidar points through a pipeline of stages.\n\n  lasline run FILE [OPTIONS]   run the pipeline in FILE\n  lasline plan FILE            print its steps (not built yet)\n  lasline gen N NAME           make a LAS file of N points (not built yet)\n  lasline trial N [OPTIONS]    make one and run a fixed pipeline on it (not built yet)\n  lasline --help               print this page\n  lasline --version            print the version\n\nOptions, each at most once and in any order:\n\n  --chunk N      points that a stage hands on at once: 1 to 64, else 64\n  --queue N      items that wait between two stages: 1 to 64, else 8\n  --workers N    1 to 32, else 1 (without effect yet)\n  --patience N   0 to 1000000, else 1000 (without effect yet)\n  --whole        run each stage on whole lists (not built yet)\n\nFor example, a file p.json with the text\n\n  [\"in.las\",\"o.txt\"]\n\nmakes of `lasline run p.json` a text file of the points of in.las.\n\nREADME.md, docs/PIPELINES.md and docs/FORMATS.md of the source tell the rest.\n"
+}
+
+/// What `--version` prints.
+pub(crate) fn version() -> &'static str
+    ensures { result.now ≡ version_page }
+{
+    "lasline 1\n"
+}

@@ -1,0 +1,5 @@
+pub mod Lists
+pub mod Stages
+pub mod Trees
+pub mod Shown
+pub mod TreeShown

@@ -1,0 +1,16 @@
+//! The tree of stages that a pipeline's text is: JSON (RFC 8259), as `serde_json` reads it.
+#![tactic(auto)]
+
+mod elements;
+mod kinds;
+mod reading;
+mod stage;
+mod takes;
+mod tree;
+
+pub use reading::read_tree;
+pub use stage::{RawStage, StageList};
+pub use tree::RawTree;
+
+#[cfg(test)]
+mod tests;

@@ -1,0 +1,196 @@
+//! The faults of options: unknown names, then missing options, then wrong values.
+
+ghost use Rattle.std.specs.Prelude.{◌≡◌, ◌&&◌, not, option_map, is_none, string_bytes, find, None, IfOk, IfErr, OnOk};
+ghost use Rattle.std.specs.BTreeMap.{keys, IsOrdered};
+ghost use Rattle.std.specs.String.{string_cmp};
+ghost use Rattle.std.specs.List.{filter};
+ghost use Rattle.serde_json.specs.View.{members_view};
+ghost use Rattle.stage_options.specs.Rules.{is_within, has_size, fits};
+ghost use Rattle.stage_options.specs.Faults.{value_of, names_of, lesser, least, is_known, first_unknown, first_missing, is_wrong, first_wrong, fault_by, IsFaultOf};
+ghost use Rattle.stage_options.specs.Seen.{form_view, rules_view, given_view};
+
+use crate::rules::{Form, Rule};
+use crate::values::{Given, is_source, is_target, text_of, truth_of, value_of, whole_of};
+use file_devices::Name;
+use serde_json::{Map, Value};
+use stage_names::{PipeErr, PipeFault};
+use std::alloc::{AllocError, Global};
+use std::cmp::Ordering;
+
+/// Whether a whole number is there and of this range.
+fn is_within(low: u32, high: u32, number: Option<u32>) -> bool
+    ensures { result ≡ is_within low high number }
+{
+    match number {
+        Some(n) => low <= n && n <= high,
+        None => false,
+    }
+}
+
+/// Whether a text has at least so many bytes and at most so many.
+fn has_size(low: usize, high: usize, text: &str) -> bool
+    ensures { result ≡ has_size low high text.now }
+{
+    low <= text.len() && text.len() <= high
+}
+
+/// Whether an option of this form may hold a value.
+fn fits(form: Form, given: Given<'_>) -> bool
+    ensures { result ≡ fits (form_view form) (given_view given.entry) }
+{
+    match form {
+        Form::Whole(low, high) => is_within(low, high, whole_of(given)),
+        Form::Truth => truth_of(given).is_some(),
+        Form::Text => text_of(given).is_some(),
+        Form::Sized(low, high) => match text_of(given) {
+            Some(text) => has_size(low, high, text),
+            None => false,
+        },
+        Form::Source => match text_of(given) {
+            Some(name) => is_source(name),
+            None => false,
+        },
+        Form::Target => match text_of(given) {
+            Some(name) => is_target(name),
+            None => false,
+        },
+    }
+}
+
+/// Whether an option is there with a value that it may not hold.
+fn is_wrong(rule: &Rule, filename: Option<&str>, options: &Map<String, Value>) -> bool
+    ensures { result ≡ is_wrong (form_view rule.now.form) (value_of rule.now.name.now (option_map (λ s. s.now) filename.entry) (members_view options.now.entries)) }
+{
+    match value_of(filename, options, rule.name) {
+        Some(value) => !fits(rule.form, value),
+        None => false,
+    }
+}
+
+/// Whether an option that has to be there isn't.
+fn is_missing(rule: &Rule, filename: Option<&str>, options: &Map<String, Value>) -> bool
+    ensures { result ≡ (rule.now.is_required && is_none (value_of rule.now.name.now (option_map (λ s. s.now) filename.entry) (members_view options.now.entries))) }
+{
+    rule.is_required && value_of(filename, options, rule.name).is_none()
+}
+
+/// Whether one of the options has this name.
+fn is_known(table: &[Rule], name: &str) -> bool
+    ensures { result ≡ is_known (rules_view table.now) name.now }
+{
+    for rule in table {
+        if rule.name == name {
+            return true;
+        }
+    }
+    false
+}
+
+/// The first option that has to be there and isn't.
+fn first_missing(
+    table: &[Rule],
+    filename: Option<&str>,
+    options: &Map<String, Value>,
+) -> Option<&'static str>
+    ensures { option_map (λ s. s.now) result ≡ first_missing (rules_view table.now) (option_map (λ s. s.now) filename.entry) (members_view options.now.entries) }
+{
+    for rule in table {
+        if is_missing(rule, filename, options) {
+            return Some(rule.name);
+        }
+    }
+    None
+}
+
+/// The first option with a value that it may not hold.
+fn first_wrong(
+    table: &[Rule],
+    filename: Option<&str>,
+    options: &Map<String, Value>,
+) -> Option<&'static str>
+    ensures { option_map (λ s. s.now) result ≡ first_wrong (rules_view table.now) (option_map (λ s. s.now) filename.entry) (members_view options.now.entries) }
+{
+    for rule in table {
+        if is_wrong(rule, filename, options) {
+            return Some(rule.name);
+        }
+    }
+    None
+}
+
+/// The first key that is no option's name.
+fn unknown_key<'a>(table: &[Rule], options: &'a Map<String, Value>) -> Option<&'a String>
+    ensures value { option_map (λ k. k.now) result ≡ find (λ k. not (is_known (rules_view table.now) (string_bytes k))) (keys options.now) }
+    ensures ordered { IsOrdered string_cmp options.now }
+{
+    options.keys().find(|k| !is_known(table, k.as_str()))
+}
+
+/// The least key that is no option's name. The keys ascend.
+fn least_key<'a>(table: &[Rule], options: &'a Map<String, Value>) -> Option<&'a str>
+    ensures { option_map (λ k. k.now) result ≡ least (filter (λ name. not (is_known (rules_view table.now) name)) (names_of (members_view options.now.entries))) }
+{
+    match unknown_key(table, options) {
+        Some(key) => Some(key.as_str()),
+        None => None,
+    }
+}
+
+/// The lesser of two names, in the order of their bytes.
+fn lesser<'a>(name: &'a str, other: Option<&'a str>) -> &'a str
+    ensures { result.now ≡ lesser name.now (option_map (λ s. s.now) other.entry) }
+{
+    match other {
+        Some(other) => match name.cmp(other) {
+            Ordering::Greater => other,
+            _ => name,
+        },
+        None => name,
+    }
+}
+
+/// The least name that is no option's.
+fn first_unknown<'a>(
+    table: &[Rule],
+    filename: Option<&str>,
+    options: &'a Map<String, Value>,
+) -> Option<&'a str>
+    ensures { option_map (λ s. s.now) result ≡ first_unknown (rules_view table.now) (option_map (λ s. s.now) filename.entry) (members_view options.now.entries) }
+{
+    let key = least_key(table, options);
+    if filename.is_some() && !is_known(table, "filename") {
+        Some(lesser("filename", key))
+    } else {
+        key
+    }
+}
+
+/// A text as a name.
+pub(crate) fn name_of(alloc: Global, text: &str) -> Result<Name, AllocError>
+    ensures { IfOk result (λ name. name ≡ text.now) }
+{
+    Ok(Name::new(String::from_str(alloc, text)?))
+}
+
+/// The first fault of stage i's options.
+pub(crate) fn refuse(
+    alloc: Global,
+    table: &[Rule],
+    filename: Option<&str>,
+    options: &Map<String, Value>,
+    i: u32,
+) -> Result<(), PipeErr>
+    ensures ok { OnOk result (fault_by i (rules_view table.now) (option_map (λ s. s.now) filename.entry) (members_view options.now.entries) ≡ None) }
+    ensures fault { IfErr result (IsFaultOf (fault_by i (rules_view table.now) (option_map (λ s. s.now) filename.entry) (members_view options.now.entries))) }
+{
+    if let Some(name) = first_unknown(table, filename, options) {
+        return Err(PipeErr::Fault(PipeFault::OptionUnknown(i, name_of(alloc, name)?)));
+    }
+    if let Some(name) = first_missing(table, filename, options) {
+        return Err(PipeErr::Fault(PipeFault::OptionMissing(i, name_of(alloc, name)?)));
+    }
+    if let Some(name) = first_wrong(table, filename, options) {
+        return Err(PipeErr::Fault(PipeFault::OptionValue(i, name_of(alloc, name)?)));
+    }
+    Ok(())
+}
