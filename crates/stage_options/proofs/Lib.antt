@@ -1,3 +1,6 @@
 pub mod Again
 pub mod Keys
+pub mod Places
+pub mod Shaped
+pub mod Steps
 pub mod Texts

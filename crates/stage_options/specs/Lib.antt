@@ -2,5 +2,8 @@ pub mod Faults
 pub mod Outputs
 pub mod Rules
 pub mod Seen
+pub mod Shapes
+pub mod TreeShown
 pub mod Typed
+pub mod TypedTree
 pub mod Values

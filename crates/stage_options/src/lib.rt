@@ -5,6 +5,9 @@ mod built;
 mod options;
 mod outputs;
 mod rules;
+mod stage;
+mod tree;
+mod trees;
 mod typing;
 mod values;
 mod walks;
@@ -12,7 +15,9 @@ mod walks;
 pub use built::{is_built, is_kind_built};
 pub use options::Options;
 pub use outputs::first_same_output;
-pub use typing::type_stage;
+pub use stage::StageSpec;
+pub use tree::Tree;
+pub use trees::{is_tree_built, type_stage, type_tree};
 
 #[cfg(test)]
 mod tests;

@@ -1,5 +1,9 @@
-use crate::{Options, first_same_output, is_built, is_kind_built, type_stage};
+use crate::typing::type_options;
+use crate::{
+    Options, StageSpec, first_same_output, is_built, is_kind_built, is_tree_built, type_tree,
+};
 use file_devices::Name;
+use pipeline_trees::{StageList, read_tree};
 use serde_json::Value;
 use stage_names::{KindName, PipeErr, PipeFault};
 use std::alloc::{AllocError, Global};
@@ -53,6 +57,7 @@ fn shown_fault(alloc: Global, error: &PipeErr) -> Result<String, AllocError> {
         PipeErr::Fault(PipeFault::OptionValue(i, name)) => {
             format!(in alloc; "wrong {} {}", *i, name.as_str())
         }
+        PipeErr::Fault(PipeFault::SameOutput(i)) => format!(in alloc; "same {}", *i),
         PipeErr::Fault(_) => String::from_str(alloc, "another fault"),
         PipeErr::Memory => String::from_str(alloc, "no memory"),
     }
@@ -72,7 +77,7 @@ fn answer(
         return String::from_str(alloc, "no JSON");
     };
     match value.as_object() {
-        Some(options) => match type_stage(alloc, kind, filename, options, 1) {
+        Some(options) => match type_options(alloc, kind, filename, options, 1) {
             Ok(options) => shown(alloc, &options),
             Err(error) => shown_fault(alloc, &error),
         },
@@ -320,23 +325,31 @@ fn named(alloc: Global, text: &str) -> Result<Name, AllocError> {
 }
 
 /// A writer of this file.
-fn writer(alloc: Global, text: &str) -> Result<Options, AllocError> {
-    Ok(Options::WritersText {
-        filename: named(alloc, text)?,
-        order: named(alloc, "X")?,
-        precision: 0,
-        delimiter: named(alloc, ",")?,
-        quote_header: true,
-        write_header: true,
-        only: None,
+fn writer(alloc: Global, text: &str) -> Result<StageSpec, AllocError> {
+    Ok(StageSpec {
+        kind: KindName::WritersText,
+        ins: StageList::new(Vec::new(alloc)),
+        options: Options::WritersText {
+            filename: named(alloc, text)?,
+            order: named(alloc, "X")?,
+            precision: 0,
+            delimiter: named(alloc, ",")?,
+            quote_header: true,
+            write_header: true,
+            only: None,
+        },
     })
 }
 
 #[test]
 fn the_same_output_is_found(rt: HostRuntime) -> Result<(), Fail> {
     let alloc = rt.alloc();
-    let reader = Options::ReadersLas {
-        filename: named(alloc, "a")?,
+    let reader = StageSpec {
+        kind: KindName::ReadersLas,
+        ins: StageList::new(Vec::new(alloc)),
+        options: Options::ReadersLas {
+            filename: named(alloc, "a")?,
+        },
     };
     let stages = vec![in alloc;
         reader,
@@ -347,5 +360,97 @@ fn the_same_output_is_found(rt: HostRuntime) -> Result<(), Fail> {
     ]?;
     assert!(rt; first_same_output(stages.as_slice()) == Some(3));
     assert!(rt; first_same_output(&stages[..3]) == None);
+    Ok(())
+}
+
+/// The options of the last stage of a pipeline's text, or the first fault, as words.
+fn tree_answer(alloc: Global, text: &str) -> Result<String, AllocError> {
+    let Ok(raw) = read_tree(alloc, text.as_bytes()) else {
+        return String::from_str(alloc, "no tree");
+    };
+    if !is_tree_built(&raw) {
+        return String::from_str(alloc, "not built");
+    }
+    match type_tree(alloc, &raw) {
+        Ok(tree) => match tree.as_slice().last() {
+            Some(stage) => shown(alloc, &stage.options),
+            None => String::from_str(alloc, "no stage"),
+        },
+        Err(error) => shown_fault(alloc, &error),
+    }
+}
+
+#[test]
+fn faults_are_told_stage_by_stage(rt: HostRuntime) -> Result<(), Fail> {
+    let alloc = rt.alloc();
+    // Each row stands behind a reader.
+    let rows = [
+        (
+            r#"{"type":"filters.head","zz":1},{"type":"filters.head","aa":1}"#,
+            "unknown 1 zz",
+        ),
+        (
+            r#"{"type":"filters.head","count":-1},{"type":"filters.head","aa":1}"#,
+            "wrong 1 count",
+        ),
+        (
+            r#"{"type":"writers.text"},{"type":"filters.head","aa":1}"#,
+            "missing 1 filename",
+        ),
+        (
+            r#"{"type":"writers.text","filename":"o"},{"type":"writers.text","filename":"o"},{"type":"filters.head","count":-1}"#,
+            "wrong 3 count",
+        ),
+        (
+            r#"{"type":"writers.text","filename":"o"},{"type":"writers.text","filename":"p"},{"type":"writers.text","filename":"p"},{"type":"writers.text","filename":"o"}"#,
+            "same 3",
+        ),
+        (
+            r#"{"type":"writers.text","filename":"o"},{"type":"writers.text","filename":"o"},{"type":"writers.text","filename":"o"}"#,
+            "same 2",
+        ),
+        (r#"{"type":"filters.tail"}"#, "not built"),
+        (r#"{"type":"filters.head","where":"X > 1"}"#, "not built"),
+        (r#""b.las","o.txt""#, "not built"),
+        (
+            r#"{"type":"writers.text","filename":"a.las"}"#,
+            "a.las X,Y,Z 3 , true true -",
+        ),
+    ];
+    for (stages, words) in rows {
+        let text = format!(in alloc; "[\"a.las\",{stages}]")?;
+        let answer = tree_answer(alloc, text.as_str())?;
+        assert!(rt; answer.as_str() == words, "{text}: {answer}");
+    }
+    Ok(())
+}
+
+#[test]
+fn stages_keep_their_types_and_inputs(rt: HostRuntime) -> Result<(), Fail> {
+    let alloc = rt.alloc();
+    let text = r#"["a.las",{"type":"filters.head","count":3},"o.txt"]"#;
+    let Ok(raw) = read_tree(alloc, text.as_bytes()) else {
+        assert!(rt; false, "no tree");
+        return Ok(());
+    };
+    if !is_tree_built(&raw) {
+        assert!(rt; false, "not built");
+        return Ok(());
+    }
+    let Ok(tree) = type_tree(alloc, &raw) else {
+        assert!(rt; false, "a fault");
+        return Ok(());
+    };
+    let stages = tree.into_vec();
+    assert!(rt; stages.len() == 3);
+    assert!(rt; stages[0].kind == KindName::ReadersLas && stages[0].ins.as_slice().is_empty());
+    assert!(rt;
+        stages[1].kind == KindName::FiltersHead && stages[1].ins.as_slice() == [0].as_slice()
+    );
+    assert!(rt;
+        stages[2].kind == KindName::WritersText && stages[2].ins.as_slice() == [1].as_slice()
+    );
+    let head = shown(alloc, &stages[1].options)?;
+    assert!(rt; head.as_str() == "3 -");
     Ok(())
 }

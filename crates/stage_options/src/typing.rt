@@ -120,7 +120,7 @@ fn typed(
 
 /// The options of stage i, of this type, with this file name and these other members, or their first fault. The other
 /// members hold neither the file name nor the type, the tag and the inputs.
-pub fn type_stage(
+pub(crate) fn type_options(
     alloc: Global,
     kind: KindName,
     filename: Option<&str>,

@@ -1,0 +1,110 @@
+//! The typed stages of a tree, or their first fault.
+
+ghost use Rattle.std.specs.Prelude.{◌≡◌, ◌≤◌, length, option_map, Ok, None, IfOk, IfErr, OnOk, IsTrue};
+ghost use Rattle.pipeline_trees.specs.Shown.{stage_view, stages_view};
+ghost use Rattle.pipeline_trees.specs.Trees.{IsTree};
+ghost use Rattle.pipeline_trees.specs.TreeShown.{tree_view};
+ghost use Rattle.stage_options.specs.Faults.{IsFaultOf};
+ghost use Rattle.stage_options.specs.Shapes.{shapes};
+ghost use Rattle.stage_options.specs.TreeShown.{specs_view};
+ghost use Rattle.stage_options.specs.Typed.{is_kind_built};
+ghost use Rattle.stage_options.specs.TypedTree.{is_stage_built, are_built, stage_fault, spec_of, specs_of, options_fault, typed_tree, IsToldFault};
+
+use crate::built::is_built;
+use crate::outputs::first_same_output;
+use crate::stage::StageSpec;
+use crate::tree::Tree;
+use crate::typing::type_options;
+use pipeline_trees::{RawStage, RawTree, StageList};
+use stage_names::{PipeErr, PipeFault};
+use std::alloc::{AllocError, Global};
+
+/// Whether a stage is built: its type, with its options, and one input at most.
+fn is_stage_built(raw: &RawStage) -> bool
+    ensures { result ≡ is_stage_built (stage_view raw.now) }
+{
+    is_built(raw.kind, &raw.options) && raw.ins.as_slice().len() <= 1
+}
+
+/// Whether all of these stages are built.
+fn are_built(list: &[RawStage]) -> bool
+    ensures { result ≡ are_built (stages_view list.now) }
+{
+    for raw in list {
+        if !is_stage_built(raw) {
+            return false;
+        }
+    }
+    true
+}
+
+/// Whether a tree is built: each stage's type with the options that it has, and no stage takes more than one.
+pub fn is_tree_built(raw: &RawTree) -> bool
+    ensures { result ≡ are_built (tree_view raw.now) }
+{
+    are_built(raw.as_slice())
+}
+
+/// A list of the same numbers.
+fn copied(alloc: Global, list: &StageList) -> Result<StageList, AllocError>
+    ensures { IfOk result (λ copy. copy ≡ list.now) }
+{
+    let mut numbers = Vec::new(alloc);
+    numbers.extend_from_slice(list.as_slice())?;
+    Ok(StageList::new(numbers))
+}
+
+/// Stage i with its options typed, or its first fault: `OptionUnknown` with the least name, then `OptionMissing`, then
+/// `OptionValue`. `Memory` comes only where there was none.
+pub fn type_stage(alloc: Global, raw: &RawStage, i: u32) -> Result<StageSpec, PipeErr>
+    requires { IsTrue (is_kind_built raw.now.kind) }
+    ensures no_fault { OnOk result (stage_fault i (stage_view raw.now) ≡ None) }
+    ensures ok { IfOk result (λ s. s ≡ spec_of (stage_view raw.now)) }
+    ensures fault { IfErr result (IsFaultOf (stage_fault i (stage_view raw.now))) }
+{
+    let filename = match &raw.filename {
+        Some(name) => Some(name.as_str()),
+        None => None,
+    };
+    let options = type_options(alloc, raw.kind, filename, &raw.options, i)?;
+    let ins = copied(alloc, &raw.ins)?;
+    Ok(StageSpec {
+        kind: raw.kind,
+        ins,
+        options,
+    })
+}
+
+/// The typed stages, or the first fault of their options.
+fn type_stages(alloc: Global, list: &[RawStage]) -> Result<Vec<StageSpec>, PipeErr>
+    requires few { length list.now ≤ 64 }
+    requires built { IsTrue (are_built (stages_view list.now)) }
+    ensures no_fault { OnOk result (options_fault 0 (stages_view list.now) ≡ None) }
+    ensures ok { IfOk result (λ specs. specs.items ≡ specs_of (stages_view list.now)) }
+    ensures fault { IfErr result (IsFaultOf (options_fault 0 (stages_view list.now))) }
+{
+    let mut specs = Vec::new(alloc);
+    for (i, raw) in list.iter().enumerate() {
+        let spec = type_stage(alloc, raw, i as u32)?;
+        if specs.push(spec).is_err() {
+            return Err(PipeErr::Memory);
+        }
+    }
+    Ok(specs)
+}
+
+/// The tree with its options typed. The first fault is told: of the stages in their order, of each as `type_stage` tells
+/// it, and then `SameOutput` with the least number of a writer whose file an earlier one names. `Memory` comes only where
+/// there was none.
+pub fn type_tree(alloc: Global, raw: &RawTree) -> Result<Tree, PipeErr>
+    requires { IsTrue (are_built (tree_view raw.now)) }
+    ensures ok { IfOk result (λ tree. typed_tree (tree_view raw.now) ≡ Ok (specs_view tree)) }
+    ensures fault { IfErr result (IsToldFault (typed_tree (tree_view raw.now))) }
+    ensures is_tree { IfOk result (λ tree. IsTree (shapes (specs_view tree))) }
+{
+    let specs = type_stages(alloc, raw.as_slice())?;
+    if let Some(i) = first_same_output(&specs) {
+        return Err(PipeErr::Fault(PipeFault::SameOutput(i as u32)));
+    }
+    Ok(Tree::new(specs))
+}
