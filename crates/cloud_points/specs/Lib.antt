@@ -10,3 +10,4 @@ pub mod Chunks
 pub mod Bodies
 pub mod Makes
 pub mod Queue
+pub mod ExtraNames

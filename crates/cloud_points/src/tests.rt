@@ -1,4 +1,7 @@
-use crate::{Body, Chunk, Dim, Item, Layout, Point, Spread, flow_laws, put_points};
+use crate::{
+    AddFault, AnyDim, Body, Chunk, Dim, ExtraNames, Item, Layout, Point, Spread, dim_of, flow_laws,
+    name_of, put_points,
+};
 use std::test::Fail;
 
 const UNIT: i128 = 1_000_000_000;
@@ -140,4 +143,71 @@ fn a_set_has_the_dimensions_that_were_put_in(rt: HostRuntime) {
     ] {
         assert_eq!(rt; all.has(dim), held, "{dim:?}");
     }
+}
+
+#[test]
+fn names_are_read_in_any_case(rt: HostRuntime) {
+    let names = ExtraNames::none(rt.alloc());
+    for (name, dim) in [
+        (
+            "classification",
+            Some(AnyDim::Standard(Dim::Classification)),
+        ),
+        (
+            "CLASSIFICATION",
+            Some(AnyDim::Standard(Dim::Classification)),
+        ),
+        ("Z", Some(AnyDim::Standard(Dim::Z))),
+        ("infraRed", Some(AnyDim::Standard(Dim::Infrared))),
+        ("zz", None),
+        ("", None),
+    ] {
+        assert_eq!(rt; dim_of(name, &names), dim, "{name}");
+    }
+}
+
+#[test]
+fn an_extra_name_keeps_its_first_spelling(rt: HostRuntime) -> Result<(), Fail> {
+    let mut names = ExtraNames::none(rt.alloc());
+    for (name, place) in [
+        ("HeightAboveGround", 0),
+        ("Slope", 1),
+        ("heightaboveground", 0),
+        ("SLOPE", 1),
+    ] {
+        assert_eq!(rt; names.add(name), Ok(place), "{name}");
+        assert_eq!(rt; names.place(name), Some(place), "{name}");
+        assert_eq!(rt; dim_of(name, &names), Some(AnyDim::Extra(place)), "{name}");
+    }
+    for (name, spelled) in [
+        ("HEIGHTABOVEGROUND", "HeightAboveGround"),
+        ("slope", "Slope"),
+        ("gpstime", "GpsTime"),
+    ] {
+        let found = dim_of(name, &names).map(|dim| name_of(dim, &names));
+        assert_eq!(rt; found, Some(spelled));
+    }
+    Ok(())
+}
+
+#[test]
+fn there_are_eight_extra_names_at_most(rt: HostRuntime) -> Result<(), Fail> {
+    let mut names = ExtraNames::none(rt.alloc());
+    for (name, added) in [
+        ("a", Ok(0)),
+        ("b", Ok(1)),
+        ("c", Ok(2)),
+        ("d", Ok(3)),
+        ("e", Ok(4)),
+        ("f", Ok(5)),
+        ("g", Ok(6)),
+        ("h", Ok(7)),
+        ("i", Err(AddFault::Full)),
+        ("H", Ok(7)),
+        ("A", Ok(0)),
+    ] {
+        assert_eq!(rt; names.add(name), added, "{name}");
+    }
+    assert_eq!(rt; names.place("i"), None);
+    Ok(())
 }

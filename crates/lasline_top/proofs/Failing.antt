@@ -1,13 +1,13 @@
 -- Where no device fails, none is named.
-use Rattle.std.proofs.Common.{◌≡◌, ◌⊎◌, Result, Ok, Err, IsOk, ap, sym, ◌∙◌, inl, inr}
+use Rattle.std.proofs.Common.{◌≡◌, ◌⊎◌, List, Result, Ok, Err, IsOk, ap, sym, ◌∙◌, inl, inr}
 use Rattle.file_devices.specs.declared.devices.Op.{Op}
 use Rattle.file_devices.specs.declared.devices.Op.TheVariants.{Open, Read, Create, Write, Patch, Keep}
 use Rattle.file_devices.specs.Named.{Names}
-use Rattle.pipeline_json.specs.Pipelines.{Chain}
+use Rattle.stage_options.specs.declared.stage.StageSpec.{StageSpec}
 use Rattle.run_report.specs.declared.refusal.Place.{Place}
 use Rattle.run_report.specs.declared.refusal.Place.TheVariants.{PipelineFile, Stage, Out}
 use Rattle.run_report.specs.declared.refusal.Refusal.{Refusal}
-use Rattle.run_report.specs.declared.refusal.Refusal.TheVariants.{Usage, Data, Device, Memory, NotBuilt}
+use Rattle.run_report.specs.declared.refusal.Refusal.TheVariants.{Usage, Pipeline, Data, Device, Memory, NotBuilt}
 use Rattle.run_engine.specs.Runs.{Run}
 use Rattle.run_engine.specs.Cause.{Because, AtText, AtReader, AtWriter}
 use Rattle.lasline_top.specs.declared.status.Status.{Status}
@@ -49,10 +49,10 @@ no_out out right Write none h = none h.0
 no_out out right Patch none h = h
 no_out out right Keep none h = h
 
-no_device : (files out : Type 0) (plan : Result Chain Refusal) (read right : Type 0) (p : Place) (o : Op) → (files → ⊥) → (out → ⊥) → AtRun files out plan read right p o → ⊥
+no_device : (files out : Type 0) (plan : Result (List StageSpec) Refusal) (read right : Type 0) (p : Place) (o : Op) → (files → ⊥) → (out → ⊥) → AtRun files out plan read right p o → ⊥
 no_device files out plan read right PipelineFile o no_files no_output h = no_text files o no_files h
-no_device files out (Ok chain) read right (Stage i) o no_files no_output (inl h) = no_reader files o no_files h.1
-no_device files out (Ok chain) read right (Stage i) o no_files no_output (inr h) = no_writer files read right o no_files h.1
+no_device files out (Ok stages) read right (Stage i) o no_files no_output (inl h) = no_reader files o no_files h.1
+no_device files out (Ok stages) read right (Stage i) o no_files no_output (inr h) = no_writer files read right o no_files h.1
 no_device files out (Err s) read right (Stage i) o no_files no_output h = h
 no_device files out plan read right Out o no_files no_output h = no_out out right o no_output h
 
@@ -74,6 +74,7 @@ pub answer_or_memory : (r : Result Run Refusal) (files out : Type 0) (m : Names)
     → Because r (AtTask files out m task) refusal → (s ≡ status_of r) ⊎ (s ≡ status.Memory)
 answer_or_memory r files out m task Memory s is no_files no_output h = inr is
 answer_or_memory r files out m task (Usage k) s is no_files no_output h = inl (is ∙ sym (ap status_of h))
+answer_or_memory r files out m task (Pipeline f) s is no_files no_output h = inl (is ∙ sym (ap status_of h))
 answer_or_memory r files out m task (Data i f) s is no_files no_output h = inl (is ∙ sym (ap status_of h))
 answer_or_memory r files out m task (NotBuilt k) s is no_files no_output h = inl (is ∙ sym (ap status_of h))
 answer_or_memory r files out m task (Device p o) s is no_files no_output (inl h) = inl (is ∙ sym (ap status_of h))

@@ -1,32 +1,38 @@
 -- What a command answers, over the map of the files.
-use Rattle.std.specs.Prelude.{ℕ, nat_le, List, [], length, Option, Some, None, Result, Ok, Err, if◌then◌else◌}
+use Rattle.std.specs.Prelude.{ℕ, List, [], Result, Ok, Err, if◌then◌else◌}
 use Rattle.file_devices.specs.Named.{Names}
 use Rattle.las_reader.specs.Files.{Las}
-use Rattle.pipeline_json.specs.Pipelines.{Chain, pipeline_of}
+use Rattle.stage_names.specs.declared.faults.PipeFault.{PipeFault}
+use Rattle.pipeline_json.specs.Stages.{Stage}
+use Rattle.pipeline_json.specs.Trees.{tree_of}
+use Rattle.stage_options.specs.declared.stage.StageSpec.{StageSpec}
+use Rattle.stage_options.specs.TypedTree.{are_built, typed_tree}
 use Rattle.run_report.specs.declared.refusal.Place.TheVariants.{PipelineFile}
 use Rattle.run_report.specs.declared.refusal.Refusal.{Refusal}
-use Rattle.run_report.specs.declared.refusal.Refusal.TheVariants.{NotBuilt}
+use Rattle.run_report.specs.declared.refusal.Refusal.TheVariants.{Pipeline, NotBuilt}
 use Rattle.run_engine.specs.Refusals.{and_then}
-use Rattle.run_engine.specs.Runs.{Run, opened, las_at, run_of}
+use Rattle.run_engine.specs.Runs.{Run, opened, las_at, run_of, source_of}
 use Rattle.lasline_top.specs.declared.status.Status.{Status}
 use Rattle.lasline_top.specs.declared.status.Status.TheVariants.{Ok as Done}
 use Rattle.lasline_top.specs.Refusals.{status_for}
 use Rattle.lasline_top.specs.Words.{Task, Run_file, Print, task_of}
 
--- the text of a pipeline's file
-abbrev pub limited : List ℕ → Result (List ℕ) Refusal
-limited text = if nat_le (length text) 1048576 then Ok text else Err (NotBuilt 2)
+-- a fault of a pipeline refuses the command
+abbrev pub piped : {X : Type 0} → Result X PipeFault → Result X Refusal
+piped (Ok x) = Ok x
+piped (Err f) = Err (Pipeline f)
 
-abbrev pub text_of : Names → List ℕ → Result (List ℕ) Refusal
-text_of m file = and_then (opened (m file) PipelineFile) limited
+-- the stages that a pipeline's file names, with options that no one has looked at yet
+abbrev pub raw_in : Names → List ℕ → Result (List Stage) Refusal
+raw_in m file = and_then (opened (m file) PipelineFile) (λ text. piped (tree_of text))
 
-abbrev pub piped : Option Chain → Result Chain Refusal
-piped None = Err (NotBuilt 2)
-piped (Some chain) = Ok chain
+-- stages with their options, as far as they are built
+abbrev pub typed : List Stage → Result (List StageSpec) Refusal
+typed stages = if are_built stages then piped (typed_tree stages) else Err (NotBuilt 4)
 
 -- the pipeline that a file names
-abbrev pub plan_in : Names → List ℕ → Result Chain Refusal
-plan_in m file = and_then (text_of m file) (λ text. piped (pipeline_of text))
+abbrev pub plan_in : Names → List ℕ → Result (List StageSpec) Refusal
+plan_in m file = and_then (raw_in m file) typed
 
 -- what the run of a pipeline's file comes to
 abbrev pub ran : Names → List ℕ → Result Run Refusal
@@ -34,7 +40,7 @@ ran m file = and_then (plan_in m file) (run_of m)
 
 -- what its reader reads
 abbrev pub las_in : Names → List ℕ → Result Las Refusal
-las_in m file = and_then (plan_in m file) (λ chain. las_at (m chain.from))
+las_in m file = and_then (plan_in m file) (λ stages. las_at (m (source_of stages)))
 
 -- a page is printed, and nothing is kept
 abbrev pub printed : List ℕ → Run

@@ -1,33 +1,23 @@
 -- Why a command was refused, and what is told of it.
-use Rattle.std.specs.Prelude.{◌≡◌, ◌⊎◌, ℕ, List, Bool, true, false, ◌||◌, Option, Result, Ok, Err, IsOk, IsOkAnd, ⊤}
+use Rattle.std.specs.Prelude.{◌≡◌, ◌⊎◌, ℕ, List, Option, Result, Ok, Err, IsOk, IsOkAnd, ⊤}
 use Rattle.file_devices.specs.Counts.{Rose}
 use Rattle.file_devices.specs.Content.{Appends, AppendsPart}
 use Rattle.file_devices.specs.declared.devices.Op.{Op}
 use Rattle.file_devices.specs.declared.devices.Op.TheVariants as op
 use Rattle.file_devices.specs.Named.{Names}
-use Rattle.pipeline_json.specs.Pipelines.{Chain}
+use Rattle.stage_options.specs.declared.stage.StageSpec.{StageSpec}
 use Rattle.run_report.specs.declared.refusal.Place.{Place}
 use Rattle.run_report.specs.declared.refusal.Place.TheVariants as at
 use Rattle.run_report.specs.declared.refusal.Refusal.{Refusal}
 use Rattle.run_report.specs.declared.refusal.Refusal.TheVariants as of
-use Rattle.run_engine.specs.Cause.{AtText, AtReader, AtWriter, AtPlaces, last_stage, is_out, is_keep}
+use Rattle.run_engine.specs.Cause.{AtText, AtReader, AtWriter, AtPlaces}
 use Rattle.lasline_top.specs.Words.{Task, Run_file, Print}
 use Rattle.lasline_top.specs.Answer.{plan_in, las_in, ran}
-use Rattle.lasline_top.specs.declared.status.Status.{Status}
-use Rattle.lasline_top.specs.declared.status.Status.TheVariants as status
-
--- with these statuses the output may be kept
-abbrev pub may_be_kept_at : Status → Bool
-may_be_kept_at status.Ok = false
-may_be_kept_at status.Memory = true
-may_be_kept_at (status.Usage k) = false
-may_be_kept_at (status.Data i f) = false
-may_be_kept_at (status.NotBuilt r) = false
-may_be_kept_at (status.Device p o) = is_out p || is_keep o
 
 -- a refusal that isn't for the words
 abbrev pub IsOfFiles : Refusal → Type 0
 IsOfFiles (of.Usage k) = ⊥
+IsOfFiles (of.Pipeline f) = ⊤
 IsOfFiles (of.Data i f) = ⊤
 IsOfFiles (of.Device p o) = ⊤
 IsOfFiles of.Memory = ⊤
@@ -41,10 +31,10 @@ AtOut rose op.Write = rose
 AtOut rose op.Patch = ⊥
 AtOut rose op.Keep = ⊥
 
--- the device that an answer names may be at fault: its count rose, and the run had come that far. The writer is the plan's last stage
-abbrev pub AtRun : Type 0 → Type 0 → Result Chain Refusal → Type 0 → Type 0 → Place → Op → Type 0
+-- the device that an answer names may be at fault: its count rose, and the run had come that far
+abbrev pub AtRun : Type 0 → Type 0 → Result (List StageSpec) Refusal → Type 0 → Type 0 → Place → Op → Type 0
 AtRun files_rose out_rose plan read right at.PipelineFile o = AtText files_rose at.PipelineFile o
-AtRun files_rose out_rose plan read right (at.Stage i) o = IsOkAnd plan (λ chain. AtPlaces (AtReader files_rose) (AtWriter files_rose read right) (last_stage chain) i o)
+AtRun files_rose out_rose plan read right (at.Stage i) o = IsOkAnd plan (λ stages. AtPlaces (AtReader files_rose) (AtWriter files_rose read right) stages i o)
 AtRun files_rose out_rose plan read right at.Out o = AtOut (out_rose × right) o
 
 -- that of a command that runs this file

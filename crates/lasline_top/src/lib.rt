@@ -12,4 +12,8 @@ pub use solo::lasline_solo;
 pub use status::Status;
 
 #[cfg(test)]
+mod pipeline_tests;
+#[cfg(test)]
+mod test_files;
+#[cfg(test)]
 mod tests;

@@ -1,27 +1,31 @@
 //! The file of a pipeline.
 
-ghost use Rattle.std.specs.Prelude.{◌≡◌, ◌≤◌, List, ℕ, Some, None, Ok, IfOk, IfErr};
+ghost use Rattle.std.specs.Prelude.{◌≡◌, Some, None, Ok, IfOk, IfErr};
 ghost use Rattle.file_devices.specs.Counts.{Rose};
 ghost use Rattle.file_devices.specs.Named.{Names};
-ghost use Rattle.lasline_top.specs.Answer.{text_of};
+ghost use Rattle.lasline_top.specs.Answer.{raw_in};
+ghost use Rattle.run_engine.specs.Runs.{opened};
+ghost use Rattle.run_report.specs.declared.refusal.Place.{Place};
 ghost use Rattle.run_engine.specs.Cause.{Because, AtText, Risen, IsInside, IsSettled};
 
 use file_devices::{DeviceErr, Files, Op, WholeErr, read_whole};
 use run_report::{Place, Refusal};
+use stage_names::PipeFault;
 use std::alloc::Global;
 
 /// The most bytes of a pipeline's text.
 const LIMIT: usize = 1_048_576;
 
-/// The text in a pipeline's file, of at most 1,048,576 bytes. The file is given back.
+/// The text in a pipeline's file. One of more than 1,048,576 bytes is a fault of the pipeline, and isn't read to its end. The file is given
+/// back.
 pub(crate) fn read_text<F: Files>(
     alloc: Global,
     files: &mut F,
     name: &str,
 ) -> Result<Vec<u8>, Refusal>
-    ensures ok { IfOk result (λ text. (m : Names) → F.map files.old ≡ Some m → text_of m name.now ≡ Ok text.items) }
+    ensures ok { IfOk result (λ text. (m : Names) → F.map files.old ≡ Some m → opened (m name.now) Place.PipelineFile ≡ Ok text.items) }
     ensures err { IfErr result (λ refusal. (m : Names) → F.map files.old ≡ Some m
-        → Because (text_of m name.now) (AtText (Rose (F.faults files.old) (F.faults files.new))) refusal) }
+        → Because (raw_in m name.now) (AtText (Rose (F.faults files.old) (F.faults files.new))) refusal) }
     ensures inside { IfErr result IsInside }
     ensures risen { IfErr result (λ refusal. F.map files.old ≡ None → Risen (Rose (F.faults files.old) (F.faults files.new)) ⊥ refusal) }
     ensures settled { IsSettled (F.map files.old) (F.map files.new) (F.lent files.old) (F.lent files.new)
@@ -36,7 +40,7 @@ pub(crate) fn read_text<F: Files>(
     files.done_in(source);
     match read {
         Ok(Some(text)) => Ok(text),
-        Ok(None) => Err(Refusal::NotBuilt(2)),
+        Ok(None) => Err(Refusal::Pipeline(PipeFault::TextTooLong)),
         Err(WholeErr::Memory) => Err(Refusal::Memory),
         Err(WholeErr::Failed) => Err(Refusal::Device(Place::PipelineFile, Op::Read)),
     }

@@ -1,36 +1,48 @@
 //! The top call.
 
-ghost use Rattle.std.specs.Prelude.{◌≡◌, ◌≤◌, ◌⊎◌, ℕ, length, map, Some, None, Ok, Err, IsOk, IsOkAnd, IfOk, IfErr, OnOk, OnErr, string_bytes, true};
+ghost use Rattle.std.specs.Prelude.{◌≡◌, ◌≤◌, ◌⊎◌, ℕ, List, map, Some, None, Ok, Err, IsOkAnd, IfOk, IfErr, OnOk, OnErr, string_bytes};
 ghost use Rattle.file_devices.specs.Counts.{Rose};
 ghost use Rattle.file_devices.specs.Content.{Appends, AppendsPart};
 ghost use Rattle.file_devices.specs.Named.{Names};
 ghost use Rattle.file_devices.specs.declared.devices.Op.{Op};
-ghost use Rattle.pipeline_json.specs.Shown.{chain_of};
+ghost use Rattle.stage_names.specs.declared.faults.PipeFault.{PipeFault};
+ghost use Rattle.stage_options.specs.Chained.{IsChain};
+ghost use Rattle.stage_options.specs.TreeShown.{specs_view};
 ghost use Rattle.run_report.specs.declared.refusal.Fault.{Fault};
 ghost use Rattle.run_report.specs.declared.refusal.Place.{Place};
 ghost use Rattle.run_report.specs.declared.refusal.Refusal.{Refusal};
-ghost use Rattle.run_report.specs.Reports.{report_of};
 ghost use Rattle.run_report.specs.Faults.{fault_line};
-ghost use Rattle.run_engine.specs.Runs.{las_at};
-ghost use Rattle.run_engine.specs.Cause.{Because, Risen, RisenAt, IsInside, IsDone, IsPartDone, AtText, WerePut, IsRun, IsSettled, may_be_kept};
-ghost use Rattle.lasline_top.specs.Words.{task_of};
+ghost use Rattle.run_engine.specs.Cause.{Because, Risen, RisenAt, IsInside, IsDone, IsPartDone, AtText, WerePut, IsLeft, IsSettled};
+ghost use Rattle.lasline_top.specs.Words.{Print, task_of};
 ghost use Rattle.lasline_top.specs.Answer.{plan_in, ran, answer, status_of};
-ghost use Rattle.lasline_top.specs.Refusals.{status_for};
-ghost use Rattle.lasline_top.specs.Cause.{ToldWhy, AtFile, AtTask, IsOfFiles, may_be_kept_at};
+ghost use Rattle.lasline_top.specs.Refusals.{refusal_of, status_for};
+ghost use Rattle.lasline_top.specs.Cause.{ToldWhy, AtFile, AtTask, IsOfFiles};
 
 use crate::pipeline_file::read_text;
 use crate::status::Status;
 use crate::words::{Task, task_of};
 use file_devices::{Files, Op, Sink};
-use pipeline_json::{PipeErr, Pipeline, read_pipeline};
+use pipeline_json::read_pipeline;
 use run_engine::{Shape, run_pipeline};
 use run_report::{Place, Refusal, fault_text, report_text};
+use stage_names::PipeErr;
+use stage_options::{Tree, is_tree_built, type_tree};
 use std::alloc::Global;
 
-/// The pipeline in a file.
-fn read_plan<F: Files>(alloc: Global, files: &mut F, name: &str) -> Result<Pipeline, Refusal>
-    ensures ok { IfOk result (λ pipeline. (m : Names) → F.map files.old ≡ Some m → plan_in m name.now ≡ Ok (chain_of pipeline)) }
-    ensures few { IfOk result (λ pipeline. length pipeline.heads.items ≤ 62) }
+/// The refusal for a pipeline.
+fn refusal_of(e: PipeErr) -> Refusal
+    ensures { result ≡ refusal_of e }
+{
+    match e {
+        PipeErr::Fault(fault) => Refusal::Pipeline(fault),
+        PipeErr::Memory => Refusal::Memory,
+    }
+}
+
+/// The pipeline in a file: its stages with their options.
+fn read_plan<F: Files>(alloc: Global, files: &mut F, name: &str) -> Result<Tree, Refusal>
+    ensures ok { IfOk result (λ tree. (m : Names) → F.map files.old ≡ Some m → plan_in m name.now ≡ Ok (specs_view tree)) }
+    ensures chain { IfOk result (λ tree. IsChain (specs_view tree)) }
     ensures err { IfErr result (λ refusal. (m : Names) → F.map files.old ≡ Some m
         → Because (plan_in m name.now) (AtText (Rose (F.faults files.old) (F.faults files.new))) refusal) }
     ensures inside { IfErr result IsInside }
@@ -39,10 +51,16 @@ fn read_plan<F: Files>(alloc: Global, files: &mut F, name: &str) -> Result<Pipel
         (F.faults files.old) (F.faults files.new) }
 {
     let text = read_text(alloc, files, name)?;
-    match read_pipeline(alloc, &text) {
-        Ok(pipeline) => Ok(pipeline),
-        Err(PipeErr::Memory) => Err(Refusal::Memory),
-        Err(PipeErr::NotBuilt) => Err(Refusal::NotBuilt(2)),
+    let raw = match read_pipeline(alloc, &text) {
+        Ok(raw) => raw,
+        Err(e) => return Err(refusal_of(e)),
+    };
+    if !is_tree_built(&raw) {
+        return Err(Refusal::NotBuilt(4));
+    }
+    match type_tree(alloc, &raw) {
+        Ok(tree) => Ok(tree),
+        Err(e) => Err(refusal_of(e)),
     }
 }
 
@@ -61,16 +79,15 @@ fn run_file<F: Files, K: Sink>(
     ensures of_files { IfErr result IsOfFiles }
     ensures risen { IfErr result (λ refusal. F.map files.old ≡ None → Risen (Rose (F.faults files.old) (F.faults files.new)) (Rose (K.faults out.old) (K.faults out.new)) refusal) }
     ensures out_risen { IfErr result (λ refusal. (o : Op) → refusal ≡ Refusal.Device Place.Out o → (o ≡ Op.Write) × Rose (K.faults out.old) (K.faults out.new)) }
-    ensures left { IfErr result (λ refusal. (m : Names) → F.map files.old ≡ Some m → (F.map files.new ≡ F.map files.old)
-        ⊎ ((may_be_kept refusal ≡ true) × IsOkAnd (ran m name.now) (λ run. WerePut (F.map files.old) run.outputs (F.map files.new)))) }
+    ensures left { IfErr result (λ refusal. (m : Names) → F.map files.old ≡ Some m → IsLeft refusal (F.map files.old) (F.map files.new) (ran m name.now)) }
     ensures quiet { IfErr result (λ refusal. (K.bytes out.new ≡ K.bytes out.old) ⊎ ((refusal ≡ Refusal.Device Place.Out Op.Write) × ((m : Names) → F.map files.old ≡ Some m
         → IsOkAnd (ran m name.now) (IsPartDone (F.map files.old) (F.map files.new) (K.bytes out.old) (K.bytes out.new))))) }
     ensures lent { F.lent files.new ≡ F.lent files.old }
     ensures later { F.faults files.old ≤ F.faults files.new }
 {
-    let pipeline = read_plan(alloc, files, name)?;
-    let counts = run_pipeline(alloc, files, &pipeline, shape)?;
-    match report_text(counts.as_slice(), out) {
+    let tree = read_plan(alloc, files, name)?;
+    let report = run_pipeline(alloc, files, tree.as_slice(), shape)?;
+    match report_text(report.as_slice(), out) {
         Ok(()) => Ok(()),
         Err(_) => Err(Refusal::Device(Place::Out, Op::Write)),
     }
@@ -104,8 +121,8 @@ fn run_command<F: Files, K: Sink>(
     ensures of_words { (k : ℕ) → result ≡ Err (Refusal.Usage k) → task_of (map string_bytes words.now) ≡ Err (Refusal.Usage k) }
     ensures risen { IfErr result (λ refusal. F.map files.old ≡ None → Risen (Rose (F.faults files.old) (F.faults files.new)) (Rose (K.faults out.old) (K.faults out.new)) refusal) }
     ensures out_risen { IfErr result (λ refusal. (o : Op) → refusal ≡ Refusal.Device Place.Out o → (o ≡ Op.Write) × Rose (K.faults out.old) (K.faults out.new)) }
-    ensures left { IfErr result (λ refusal. (m : Names) → F.map files.old ≡ Some m → (F.map files.new ≡ F.map files.old)
-        ⊎ ((may_be_kept refusal ≡ true) × IsOkAnd (answer (map string_bytes words.now) m) (λ run. WerePut (F.map files.old) run.outputs (F.map files.new)))) }
+    ensures left { IfErr result (λ refusal. (m : Names) → F.map files.old ≡ Some m → IsLeft refusal (F.map files.old) (F.map files.new) (answer (map string_bytes words.now) m)) }
+    ensures page { (text : List ℕ) → task_of (map string_bytes words.now) ≡ Ok (Print text) → OnOk result (Appends (K.bytes out.old) text (K.bytes out.new)) }
     ensures quiet { IfErr result (λ refusal. (K.bytes out.new ≡ K.bytes out.old) ⊎ ((refusal ≡ Refusal.Device Place.Out Op.Write) × ((m : Names) → F.map files.old ≡ Some m
         → IsOkAnd (answer (map string_bytes words.now) m) (IsPartDone (F.map files.old) (F.map files.new) (K.bytes out.old) (K.bytes out.new))))) }
     ensures lent { F.lent files.new ≡ F.lent files.old }
@@ -122,7 +139,7 @@ fn refused<E: Sink>(refusal: Refusal, err: &mut E) -> Status
     ensures status { result ≡ status_for refusal }
     ensures line { ToldWhy (E.bytes err.old) (E.bytes err.new) (E.faults err.old) (E.faults err.new) (fault_line refusal) }
 {
-    match fault_text(refusal, err) {
+    match fault_text(&refusal, err) {
         Ok(()) => Status::of(refusal),
         Err(_) => Status::of(refusal),
     }
@@ -138,9 +155,11 @@ fn refused<E: Sink>(refusal: Refusal, err: &mut E) -> Status
 /// the report is appended to `out`; on any other status a line that says why is appended to `err`. Every object that
 /// `files` handed out is given back.
 ///
-/// `Data` comes only where the files hold that fault, `NotBuilt` only where what is asked isn't built, `Device` only where
-/// the named device failed or a file to read isn't there, and `Memory` where there was none. After a refusal the files are
-/// as before, but that the output may be kept where its keeping failed or what came after it.
+/// `Pipeline` comes only where the pipeline has that fault and no earlier one, `Data` only where the files hold that fault,
+/// `NotBuilt` only where what is asked isn't built, `Device` only where the named device failed or a file to read isn't
+/// there, and `Memory` where there was none. After a refusal the files are as before. Only where the keeping of an output
+/// failed or found no memory are those of the stages before it kept, and that one may be; where the report couldn't be
+/// printed all are.
 pub fn lasline_solo<F: Files, K: Sink, E: Sink>(
     alloc: Global,
     words: &[String],
@@ -154,7 +173,11 @@ pub fn lasline_solo<F: Files, K: Sink, E: Sink>(
     ensures report { result ≡ Status.Ok → (m : Names) → F.map files.old ≡ Some m
         → IsOkAnd (answer (map string_bytes words.now) m) (λ run. Appends (K.bytes out.old) run.report (K.bytes out.new)) }
 
+    ensures page { result ≡ Status.Ok → (text : List ℕ) → task_of (map string_bytes words.now) ≡ Ok (Print text) → Appends (K.bytes out.old) text (K.bytes out.new) }
+
     // Each other answer has its cause.
+    ensures pipeline { (f : PipeFault) → result ≡ Status.Pipeline f → (m : Names) → F.map files.old ≡ Some m
+        → answer (map string_bytes words.now) m ≡ Err (Refusal.Pipeline f) }
     ensures data { (i : ℕ) (f : Fault) → result ≡ Status.Data i f → (m : Names) → F.map files.old ≡ Some m
         → answer (map string_bytes words.now) m ≡ Err (Refusal.Data i f) }
     ensures not_built { (r : ℕ) → result ≡ Status.NotBuilt r → (m : Names) → F.map files.old ≡ Some m
@@ -173,9 +196,10 @@ pub fn lasline_solo<F: Files, K: Sink, E: Sink>(
         → (Rose (K.faults out.old) (K.faults out.new) → ⊥)
         → (result ≡ status_of (answer (map string_bytes words.now) m)) ⊎ (result ≡ Status.Memory) }
 
-    // After a refusal the files are as before, but for the output where the answer is right.
-    ensures refused { (result ≡ Status.Ok → ⊥) → (m : Names) → F.map files.old ≡ Some m → (F.map files.new ≡ F.map files.old)
-        ⊎ ((may_be_kept_at result ≡ true) × IsOkAnd (answer (map string_bytes words.now) m) (λ run. WerePut (F.map files.old) run.outputs (F.map files.new))) }
+    // After a refusal the files are as before, but for the first outputs where one couldn't be kept, and for all where only
+    // the report couldn't be printed.
+    ensures refused { (refusal : Refusal) → result ≡ status_for refusal → (m : Names) → F.map files.old ≡ Some m
+        → IsLeft refusal (F.map files.old) (F.map files.new) (answer (map string_bytes words.now) m) }
     ensures quiet { (result ≡ Status.Ok → ⊥) → (K.bytes out.new ≡ K.bytes out.old) ⊎ ((result ≡ Status.Device Place.Out Op.Write) × ((m : Names) → F.map files.old ≡ Some m
         → IsOkAnd (answer (map string_bytes words.now) m) (IsPartDone (F.map files.old) (F.map files.new) (K.bytes out.old) (K.bytes out.new)))) }
 

@@ -4,15 +4,19 @@ ghost use Rattle.std.specs.Prelude.{◌≡◌};
 
 use file_devices::Op;
 use run_report::{Fault, Place, Refusal};
+use stage_names::PipeFault;
 
 /// How a command ends.
-#[derive(Clone, Copy, Debug, PartialEq, Eq)]
+#[derive(Drop)]
 pub enum Status {
     /// It kept its outputs and printed its report.
     Ok,
 
     /// The words are no command. The number is the place of the first one that is wrong or missing, from 0 on.
     Usage(usize),
+
+    /// The pipeline has a fault.
+    Pipeline(PipeFault),
 
     /// The data of the stage with this number have a fault.
     Data(u32, Fault),
@@ -23,7 +27,7 @@ pub enum Status {
     /// There was no memory.
     Memory,
 
-    /// What was asked isn't built yet: 1 the command, 2 the pipeline.
+    /// What was asked isn't built yet: 1 the command, 4 a stage of the pipeline, an option of it, or its second input.
     NotBuilt(u8),
 }
 
@@ -37,6 +41,7 @@ impl Status {
     {
         match refusal {
             Refusal::Usage(place) => Status::Usage(place),
+            Refusal::Pipeline(fault) => Status::Pipeline(fault),
             Refusal::Data(stage, fault) => Status::Data(stage, fault),
             Refusal::Device(place, op) => Status::Device(place, op),
             Refusal::Memory => Status::Memory,
@@ -51,6 +56,7 @@ impl Status {
         match self {
             Status::Ok => 0,
             Status::Usage(_) => 1,
+            Status::Pipeline(_) => 2,
             Status::Data(_, _) => 3,
             Status::Device(_, _) => 4,
             Status::Memory => 5,

@@ -1,49 +1,21 @@
 use crate::pages::{help, version};
-use crate::{Fault, Place, Refusal, Status, lasline_solo};
+use crate::test_files::{PIPELINE, REPORT, TEXT, named, run, run_failing, two_points, words};
+use crate::{Place, Refusal, Status, lasline_solo};
 use arrayvec::ArrayString;
-use cloud_points::{Make, PointFault, Spread};
+use cloud_points::{Make, Spread};
 use decimal_coords::print_fixed;
 use file_devices::{MemFiles, MemIn, MemOut, Op, SureFiles, SureOut};
-use las_header::{Axis, HeaderFault};
 use las_reader::LasReader;
-use las_vlr::{VlrFault, VlrList};
+use las_vlr::VlrList;
 use std::alloc::{AllocError, Global};
 use std::test::Fail;
 
-const PIPELINE: &[u8] = b"[\"in.las\",\"o.txt\"]";
-
 const HEADED: &[u8] = b"[\"in.las\",{\"type\":\"filters.head\",\"count\":3},\"o.txt\"]";
-
-const TEXT: &[u8] = b"\"X\",\"Y\",\"Z\"\n1.000,2.000,3.000\n-0.010,0.000,0.050\n";
-
-const REPORT: &[u8] =
-    b"stage 0 readers.las views 1 points 2\nstage 1 writers.text views 1 points 2 wrote 2\noutputs 1\n";
 
 const HEADED_REPORT: &[u8] =
     b"stage 0 readers.las views 1 points 2\nstage 1 filters.head views 1 points 2\nstage 2 writers.text views 1 points 2 wrote 2\noutputs 1\n";
 
-/// A LAS 1.4 file of two points in format 0.
-fn two_points() -> [u8; 415] {
-    let mut bytes = [0u8; 415];
-    bytes[..4].copy_from_slice(b"LASF");
-    bytes[24..26].copy_from_slice(&[1, 4]);
-    bytes[94..98].copy_from_slice(&[0x77, 1, 0x77, 1]);
-    bytes[105] = 20;
-    bytes[107] = 2;
-    bytes[111] = 2;
-    for at in [131usize, 139, 147] {
-        bytes[at..at + 8].copy_from_slice(&0x3F84_7AE1_47AE_147Bu64.to_le_bytes());
-    }
-    bytes[247] = 2;
-    bytes[255] = 2;
-    bytes[375..383].copy_from_slice(&[0x64, 0, 0, 0, 0xc8, 0, 0, 0]);
-    bytes[383..391].copy_from_slice(&[0x2c, 1, 0, 0, 0, 0, 9, 2]);
-    bytes[395..403].copy_from_slice(&[0xff, 0xff, 0xff, 0xff, 0, 0, 0, 0]);
-    bytes[403..411].copy_from_slice(&[5, 0, 0, 0, 0, 0, 9, 2]);
-    bytes
-}
-
-/// The same with another number of points in its header.
+/// The file of two points with another number of points in its header.
 fn counting(count: u16) -> [u8; 415] {
     let mut header = two_points();
     let [low, high] = count.to_le_bytes();
@@ -83,41 +55,15 @@ fn numbered_text(alloc: Global, count: u16) -> Result<String, AllocError> {
     Ok(text)
 }
 
-fn words(alloc: Global, words: &[&str]) -> Result<Vec<String>, AllocError> {
-    let mut all = Vec::new(alloc);
-    for word in words {
-        all.push(String::from_str(alloc, word)?)?;
-    }
-    Ok(all)
-}
-
-fn named(alloc: Global, files: &[(&str, &[u8])]) -> Result<Vec<(String, Vec<u8>)>, AllocError> {
-    let mut all = Vec::new(alloc);
-    for (name, bytes) in files {
-        all.push((
-            String::from_str(alloc, name)?,
-            Vec::from_slice(alloc, bytes)?,
-        ))?;
-    }
-    Ok(all)
-}
-
 #[test]
 fn two_points_become_text(rt: HostRuntime) -> Result<(), Fail> {
     let alloc = rt.alloc();
-    let las = two_points();
-    let given = named(alloc, &[("p.json", PIPELINE), ("in.las", &las)])?;
-    let mut files = SureFiles::new(alloc, given, 100);
-    let mut out = SureOut::new(alloc, 200)?;
-    let mut err = SureOut::new(alloc, 200)?;
-    let words = words(alloc, &["run", "p.json"])?;
-    let status = lasline_solo(alloc, &words, &mut files, &mut out, &mut err);
-    assert_eq!(rt; status, Status::Ok);
-    assert_eq!(rt; status.code(), 0);
-    assert_eq!(rt; files.contents("o.txt").ok_or("not kept")?, TEXT);
-    assert_eq!(rt; out.bytes().ok_or("no report")?, REPORT);
-    assert_eq!(rt; err.bytes().ok_or("no line")?, b"".as_slice());
-    assert_eq!(rt; files.lent(), 0);
+    let ran = run(alloc, PIPELINE, &two_points())?;
+    assert_eq!(rt; ran.status.code(), 0);
+    assert_eq!(rt; ran.files.contents("o.txt").ok_or("not kept")?, TEXT);
+    assert_eq!(rt; ran.out.bytes().ok_or("no report")?, REPORT);
+    assert_eq!(rt; ran.err.bytes().ok_or("no line")?, b"".as_slice());
+    assert_eq!(rt; ran.files.lent(), 0);
     Ok(())
 }
 
@@ -127,108 +73,93 @@ fn refusals_keep_nothing_and_say_why(rt: HostRuntime) -> Result<(), Fail> {
     let whole = two_points();
     let mut other_signature = whole;
     other_signature[0] = b'X';
-    let cut = Fault::Point(PointFault::Cut(1));
-    let not_las = Fault::Header(HeaderFault::NotLas);
-    let rows: [(&[&str], &[u8], &[u8], Status, &[u8]); 12] = [
+    let rows: [(&[&str], &[u8], &[u8], u8, &str); 12] = [
         (
             &["run", "p.json"],
             PIPELINE,
             &whole[..414],
-            Status::Data(0, cut),
-            b"lasline: stage 0: file ends before record 1\n",
+            3,
+            "stage 0: file ends before record 1",
         ),
         (
             &["run", "p.json"],
             PIPELINE,
             &other_signature,
-            Status::Data(0, not_las),
-            b"lasline: stage 0: not a LAS file\n",
+            3,
+            "stage 0: not a LAS file",
         ),
         (
             &["run", "p.json"],
             PIPELINE,
             b"",
-            Status::Data(0, not_las),
-            b"lasline: stage 0: not a LAS file\n",
+            3,
+            "stage 0: not a LAS file",
         ),
         (
             &["run", "p.json"],
             PIPELINE,
             &whole[..374],
-            Status::Data(0, Fault::Header(HeaderFault::HeaderSize)),
-            b"lasline: stage 0: header too short\n",
+            3,
+            "stage 0: header too short",
         ),
-        (
-            &["run", "p.json"],
-            b"[]",
-            &whole,
-            Status::NotBuilt(2),
-            b"lasline: not built\n",
-        ),
+        (&["run", "p.json"], b"[]", &whole, 2, "pipeline: no stages"),
         (
             &["run", "p.json"],
             b"[\"in.las\",",
             &whole,
-            Status::NotBuilt(2),
-            b"lasline: not built\n",
+            2,
+            "pipeline: not JSON",
         ),
         (
             &["run", "p.json"],
             b"[\"in.las\",\"o#.txt\"]",
             &whole,
-            Status::NotBuilt(2),
-            b"lasline: not built\n",
+            2,
+            "pipeline: stage 1: bad value of option filename",
         ),
         (
             &["run", "q.json"],
             PIPELINE,
             &whole,
-            Status::Device(Place::PipelineFile, Op::Open),
-            b"lasline: device: pipeline file: open failed\n",
+            4,
+            "device: pipeline file: open failed",
         ),
         (
             &["run", "p.json"],
             b"[\"no.LAS\",\"o.TXT\"]",
             &whole,
-            Status::Device(Place::Stage(0), Op::Open),
-            b"lasline: device: stage 0: open failed\n",
+            4,
+            "device: stage 0: open failed",
         ),
-        (
-            &[],
-            PIPELINE,
-            &whole,
-            Status::Usage(0),
-            b"lasline: usage: bad or missing word 0\n",
-        ),
+        (&[], PIPELINE, &whole, 1, "usage: bad or missing word 0"),
         (
             &["run", "p.json", "--chunk", "4", "--chunk", "4"],
             PIPELINE,
             &whole,
-            Status::Usage(4),
-            b"lasline: usage: bad or missing word 4\n",
+            1,
+            "usage: bad or missing word 4",
         ),
         (
             &["run", "p.json", "--whole"],
             PIPELINE,
             &whole,
-            Status::NotBuilt(1),
-            b"lasline: not built\n",
+            6,
+            "not built",
         ),
     ];
-    for (given, pipeline, las, status, line) in rows {
+    for (given, pipeline, las, code, reason) in rows {
         let words = words(alloc, given)?;
+        let line = format!(in alloc; "lasline: {reason}\n")?;
         for most in [1u64, 7, 1_000] {
             let stored = named(alloc, &[("p.json", pipeline), ("in.las", las)])?;
             let mut files = MemFiles::new(alloc, stored, 100, most.max(1), Vec::new(alloc));
             let mut out = SureOut::new(alloc, 200)?;
             let mut err = SureOut::new(alloc, 200)?;
-            assert_eq!(rt;
-                lasline_solo(alloc, &words, &mut files, &mut out, &mut err),
-                status
-            );
+            let status = lasline_solo(alloc, &words, &mut files, &mut out, &mut err);
+            assert_eq!(rt; status.code(), code, "{reason}");
             assert!(rt; files.contents("o.txt").is_none());
             assert_eq!(rt; out.bytes().ok_or("no report")?, b"".as_slice());
-            assert_eq!(rt; err.bytes().ok_or("no line")?, line);
+            assert_eq!(rt; err.bytes().ok_or("no line")?, line.as_bytes(), "{reason}");
             assert_eq!(rt; files.lent(), 0);
         }
     }
@@ -247,17 +178,6 @@ fn patched(alloc: Global, file: &[u8], patches: &[(usize, &[u8])]) -> Result<Vec
     Ok(bytes)
 }
 
-/// What a run over a LAS file answers, with the line that it says and with what it keeps.
-fn run_over(alloc: Global, las: &[u8]) -> Result<(Status, SureOut, SureFiles), Fail> {
-    let given = named(alloc, &[("p.json", PIPELINE), ("in.las", las)])?;
-    let mut files = SureFiles::new(alloc, given, 100);
-    let mut out = SureOut::new(alloc, 200)?;
-    let mut err = SureOut::new(alloc, 200)?;
-    let words = words(alloc, &["run", "p.json"])?;
-    let status = lasline_solo(alloc, &words, &mut files, &mut out, &mut err);
-    Ok((status, err, files))
-}
-
 /// The word next to that of 0.01, and those of 10^9 and of infinity, the lowest byte first.
 const NEIGHBOUR: [u8; 8] = [0x7C, 0x14, 0xAE, 0x47, 0xE1, 0x7A, 0x84, 0x3F];
 
@@ -269,101 +189,62 @@ const INFINITE: [u8; 8] = [0, 0, 0, 0, 0, 0, 0xF0, 0x7F];
 fn the_first_fault_of_a_header_is_told(rt: HostRuntime) -> Result<(), Fail> {
     let alloc = rt.alloc();
     let whole = two_points();
-    let rows: [(&[(usize, &[u8])], HeaderFault, &str); 17] = [
-        (
-            &[(0, b"X"), (24, &[2])],
-            HeaderFault::NotLas,
-            "not a LAS file",
-        ),
-        (
-            &[(25, &[3]), (94, &[0x76])],
-            HeaderFault::VersionNotRead,
-            "version not read",
-        ),
-        (
-            &[(94, &[0x76]), (104, &[131])],
-            HeaderFault::HeaderSize,
-            "header too short",
-        ),
-        (
-            &[(104, &[131]), (105, &[0])],
-            HeaderFault::Compressed,
-            "compressed points",
-        ),
-        (
-            &[(104, &[5]), (105, &[0])],
-            HeaderFault::FormatNotRead,
-            "point format not read",
-        ),
+    let rows: [(&[(usize, &[u8])], &str); 17] = [
+        (&[(0, b"X"), (24, &[2])], "not a LAS file"),
+        (&[(25, &[3]), (94, &[0x76])], "version not read"),
+        (&[(94, &[0x76]), (104, &[131])], "header too short"),
+        (&[(104, &[131]), (105, &[0])], "compressed points"),
+        (&[(104, &[5]), (105, &[0])], "point format not read"),
         (
             &[(105, &[19]), (96, &[0x76])],
-            HeaderFault::RecordTooShort,
             "record too short for its format",
         ),
         (
             &[(96, &[0x76]), (131, &[0; 8])],
-            HeaderFault::PointsInHeader,
             "points begin inside the header",
         ),
-        (
-            &[(131, &[0; 8]), (139, &[0; 8])],
-            HeaderFault::ScaleNotPositive(Axis::X),
-            "scale of X not positive",
-        ),
+        (&[(131, &[0; 8]), (139, &[0; 8])], "scale of X not positive"),
         (
             &[(138, &[0xBF]), (139, &NEIGHBOUR)],
-            HeaderFault::ScaleNotPositive(Axis::X),
             "scale of X not positive",
         ),
         (
             &[(131, &NEIGHBOUR), (139, &[0; 8])],
-            HeaderFault::ScaleNotDecimal(Axis::X),
             "scale of X has no decimal of 9 places",
         ),
         (
             &[(139, &[0; 8]), (147, &NEIGHBOUR)],
-            HeaderFault::ScaleNotPositive(Axis::Y),
             "scale of Y not positive",
         ),
         (
             &[(139, &NEIGHBOUR), (147, &[0; 8])],
-            HeaderFault::ScaleNotDecimal(Axis::Y),
             "scale of Y has no decimal of 9 places",
         ),
         (
             &[(147, &[0; 8]), (155, &BILLION)],
-            HeaderFault::ScaleNotPositive(Axis::Z),
             "scale of Z not positive",
         ),
         (
             &[(147, &NEIGHBOUR), (155, &BILLION)],
-            HeaderFault::ScaleNotDecimal(Axis::Z),
             "scale of Z has no decimal of 9 places",
         ),
         (
             &[(155, &BILLION), (163, &INFINITE)],
-            HeaderFault::OffsetOutOfRange(Axis::X),
             "offset of X out of range",
         ),
         (
             &[(163, &INFINITE), (171, &BILLION)],
-            HeaderFault::OffsetOutOfRange(Axis::Y),
             "offset of Y out of range",
         ),
-        (
-            &[(171, &BILLION), (100, &[1])],
-            HeaderFault::OffsetOutOfRange(Axis::Z),
-            "offset of Z out of range",
-        ),
+        (&[(171, &BILLION), (100, &[1])], "offset of Z out of range"),
     ];
-    for (patches, fault, text) in rows {
+    for (patches, text) in rows {
         let las = patched(alloc, &whole, patches)?;
-        let (status, said, files) = run_over(alloc, &las)?;
-        assert_eq!(rt; status, Status::Data(0, Fault::Header(fault)));
-        assert_eq!(rt; status.code(), 3);
-        assert!(rt; files.contents("o.txt").is_none());
+        let ran = run(alloc, PIPELINE, &las)?;
         let line = format!(in alloc; "lasline: stage 0: {text}\n")?;
-        assert_eq!(rt; said.bytes().ok_or("no line")?, line.as_bytes());
+        assert_eq!(rt; ran.status.code(), 3, "{text}");
+        assert!(rt; ran.left_all(), "{text}");
+        assert_eq!(rt; ran.err.bytes().ok_or("no line")?, line.as_bytes());
     }
     Ok(())
 }
@@ -373,65 +254,31 @@ fn hostile_counts_and_places_are_refused(rt: HostRuntime) -> Result<(), Fail> {
     let alloc = rt.alloc();
     let whole = two_points();
     let far = [0xFF; 8];
-    let rows: [(&[(usize, &[u8])], Fault, &str); 10] = [
-        (
-            &[(100, &far[..4])],
-            Fault::Vlr(VlrFault::TooManyVlrs),
-            "too many VLRs",
-        ),
-        (
-            &[(100, &[1])],
-            Fault::Vlr(VlrFault::VlrPastPoints(0)),
-            "VLR 0 ends after the points begin",
-        ),
-        (
-            &[(100, &[1]), (96, &far[..4])],
-            Fault::Vlr(VlrFault::VlrPastEnd(0)),
-            "VLR 0 ends after the file",
-        ),
+    let rows: [(&[(usize, &[u8])], &str); 10] = [
+        (&[(100, &far[..4])], "too many VLRs"),
+        (&[(100, &[1])], "VLR 0 ends after the points begin"),
+        (&[(100, &[1]), (96, &far[..4])], "VLR 0 ends after the file"),
         (
             &[(100, &[1]), (243, &far[..4])],
-            Fault::Vlr(VlrFault::VlrPastPoints(0)),
             "VLR 0 ends after the points begin",
         ),
-        (
-            &[(243, &far[..4])],
-            Fault::Vlr(VlrFault::TooManyVlrs),
-            "too many VLRs",
-        ),
-        (
-            &[(243, &[1]), (235, &far)],
-            Fault::Vlr(VlrFault::EvlrPastEnd(0)),
-            "EVLR 0 ends after the file",
-        ),
+        (&[(243, &far[..4])], "too many VLRs"),
+        (&[(243, &[1]), (235, &far)], "EVLR 0 ends after the file"),
         (
             &[(243, &[1]), (235, &[0x63, 1]), (375, &far)],
-            Fault::Vlr(VlrFault::TooManyVlrs),
             "too many VLRs",
         ),
-        (
-            &[(247, &far)],
-            Fault::Point(PointFault::Cut(2)),
-            "file ends before record 2",
-        ),
-        (
-            &[(105, &far[..2])],
-            Fault::Point(PointFault::Cut(0)),
-            "file ends before record 0",
-        ),
-        (
-            &[(96, &far[..4])],
-            Fault::Point(PointFault::Cut(0)),
-            "file ends before record 0",
-        ),
+        (&[(247, &far)], "file ends before record 2"),
+        (&[(105, &far[..2])], "file ends before record 0"),
+        (&[(96, &far[..4])], "file ends before record 0"),
     ];
-    for (patches, fault, text) in rows {
+    for (patches, text) in rows {
         let las = patched(alloc, &whole, patches)?;
-        let (status, said, files) = run_over(alloc, &las)?;
-        assert_eq!(rt; status, Status::Data(0, fault));
-        assert!(rt; files.contents("o.txt").is_none());
+        let ran = run(alloc, PIPELINE, &las)?;
         let line = format!(in alloc; "lasline: stage 0: {text}\n")?;
-        assert_eq!(rt; said.bytes().ok_or("no line")?, line.as_bytes());
+        assert_eq!(rt; ran.status.code(), 3, "{text}");
+        assert!(rt; ran.left_all(), "{text}");
+        assert_eq!(rt; ran.err.bytes().ok_or("no line")?, line.as_bytes());
     }
     Ok(())
 }
@@ -459,10 +306,10 @@ fn records_of_each_format_may_be_longer(rt: HostRuntime) -> Result<(), Fail> {
                 las.push(byte)?;
             }
         }
-        let (status, said, files) = run_over(alloc, &las)?;
-        assert_eq!(rt; status, Status::Ok, "format {format}");
-        assert_eq!(rt; said.bytes().ok_or("no line")?, b"".as_slice());
-        assert_eq!(rt; files.contents("o.txt").ok_or("not kept")?, TEXT);
+        let ran = run(alloc, PIPELINE, &las)?;
+        assert_eq!(rt; ran.status.code(), 0, "format {format}");
+        assert_eq!(rt; ran.err.bytes().ok_or("no line")?, b"".as_slice());
+        assert_eq!(rt; ran.files.contents("o.txt").ok_or("not kept")?, TEXT);
     }
     Ok(())
 }
@@ -477,10 +324,10 @@ fn each_axis_has_its_own_grid(rt: HostRuntime) -> Result<(), Fail> {
         (375, &i32::MAX.to_le_bytes()),
     ];
     let las = patched(alloc, &two_points(), &patches)?;
-    let (status, _, files) = run_over(alloc, &las)?;
-    assert_eq!(rt; status, Status::Ok);
+    let ran = run(alloc, PIPELINE, &las)?;
+    assert_eq!(rt; ran.status.code(), 0);
     assert_eq!(rt;
-        files.contents("o.txt").ok_or("not kept")?,
+        ran.files.contents("o.txt").ok_or("not kept")?,
         b"\"X\",\"Y\",\"Z\"\n3147483646.000,0.500,3.000\n999999998.000,-1.500,0.050\n".as_slice()
     );
     Ok(())
@@ -552,9 +399,9 @@ fn only(list: &VlrList) -> Option<(u16, &[u8], &[u8])> {
 fn the_lists_of_a_file_are_given(rt: HostRuntime) -> Result<(), Fail> {
     let alloc = rt.alloc();
     let las = with_lists(alloc)?;
-    let (status, _, files) = run_over(alloc, &las)?;
-    assert_eq!(rt; status, Status::Ok);
-    assert_eq!(rt; files.contents("o.txt").ok_or("not kept")?, TEXT);
+    let ran = run(alloc, PIPELINE, &las)?;
+    assert_eq!(rt; ran.status.code(), 0);
+    assert_eq!(rt; ran.files.contents("o.txt").ok_or("not kept")?, TEXT);
     let Ok(reader) = LasReader::begin(alloc, source(alloc, &las)?) else {
         return Err(Fail::from("refused"));
     };
@@ -579,9 +426,9 @@ fn points_begin_where_the_header_says(rt: HostRuntime) -> Result<(), Fail> {
     las.truncate(375);
     las.extend_from_slice(b"a gap")?;
     las.extend_from_slice(near.get(375..).ok_or("no records")?)?;
-    let (status, _, files) = run_over(alloc, &las)?;
-    assert_eq!(rt; status, Status::Ok);
-    assert_eq!(rt; files.contents("o.txt").ok_or("not kept")?, TEXT);
+    let ran = run(alloc, PIPELINE, &las)?;
+    assert_eq!(rt; ran.status.code(), 0);
+    assert_eq!(rt; ran.files.contents("o.txt").ok_or("not kept")?, TEXT);
     Ok(())
 }
 
@@ -595,10 +442,8 @@ fn short_reads_change_nothing(rt: HostRuntime) -> Result<(), Fail> {
         let mut files = MemFiles::new(alloc, stored, 100, most.max(1), Vec::new(alloc));
         let mut out = MemOut::new(alloc, 200, Vec::new(alloc))?;
         let mut err = MemOut::new(alloc, 200, Vec::new(alloc))?;
-        assert_eq!(rt;
-            lasline_solo(alloc, &words, &mut files, &mut out, &mut err),
-            Status::Ok
-        );
+        let status = lasline_solo(alloc, &words, &mut files, &mut out, &mut err);
+        assert_eq!(rt; status.code(), 0);
         assert_eq!(rt; files.contents("o.txt").ok_or("not kept")?, TEXT);
         assert_eq!(rt; out.bytes(), REPORT);
     }
@@ -609,43 +454,38 @@ fn short_reads_change_nothing(rt: HostRuntime) -> Result<(), Fail> {
 fn each_failing_call_is_answered(rt: HostRuntime) -> Result<(), Fail> {
     let alloc = rt.alloc();
     let las = two_points();
-    let words = words(alloc, &["run", "p.json"])?;
     let rows = [
-        (PIPELINE, 0u64, 1u64, Place::PipelineFile, Op::Open),
-        (PIPELINE, 0, 2, Place::Stage(0), Op::Open),
-        (PIPELINE, 0, 3, Place::Stage(1), Op::Create),
-        (PIPELINE, 0, 4, Place::Stage(1), Op::Keep),
-        (PIPELINE, 1, 1, Place::PipelineFile, Op::Read),
-        (PIPELINE, 1, 2, Place::PipelineFile, Op::Read),
-        (PIPELINE, 2, 1, Place::Stage(0), Op::Read),
-        (PIPELINE, 2, 2, Place::Stage(0), Op::Read),
-        (PIPELINE, 3, 1, Place::Stage(1), Op::Write),
-        (PIPELINE, 3, 2, Place::Stage(1), Op::Write),
-        (PIPELINE, 3, 3, Place::Stage(1), Op::Write),
-        (HEADED, 0, 2, Place::Stage(0), Op::Open),
-        (HEADED, 0, 3, Place::Stage(2), Op::Create),
-        (HEADED, 0, 4, Place::Stage(2), Op::Keep),
-        (HEADED, 2, 2, Place::Stage(0), Op::Read),
-        (HEADED, 3, 1, Place::Stage(2), Op::Write),
-        (HEADED, 3, 3, Place::Stage(2), Op::Write),
+        (PIPELINE, 0u64, 1u64, "pipeline file: open"),
+        (PIPELINE, 0, 2, "stage 0: open"),
+        (PIPELINE, 0, 3, "stage 1: create"),
+        (PIPELINE, 0, 4, "stage 1: keep"),
+        (PIPELINE, 1, 1, "pipeline file: read"),
+        (PIPELINE, 1, 2, "pipeline file: read"),
+        (PIPELINE, 2, 1, "stage 0: read"),
+        (PIPELINE, 2, 2, "stage 0: read"),
+        (PIPELINE, 3, 1, "stage 1: write"),
+        (PIPELINE, 3, 2, "stage 1: write"),
+        (PIPELINE, 3, 3, "stage 1: write"),
+        (HEADED, 0, 2, "stage 0: open"),
+        (HEADED, 0, 3, "stage 2: create"),
+        (HEADED, 0, 4, "stage 2: keep"),
+        (HEADED, 2, 2, "stage 0: read"),
+        (HEADED, 3, 1, "stage 2: write"),
+        (HEADED, 3, 3, "stage 2: write"),
     ];
-    for (pipeline, object, call, place, op) in rows {
-        let stored = named(alloc, &[("p.json", pipeline), ("in.las", &las)])?;
-        let fails = vec![in alloc; (object, call)]?;
-        let mut files = MemFiles::new(alloc, stored, 100, 1_000, fails);
-        let mut out = MemOut::new(alloc, 200, Vec::new(alloc))?;
-        let mut err = MemOut::new(alloc, 200, Vec::new(alloc))?;
-        let status = lasline_solo(alloc, &words, &mut files, &mut out, &mut err);
+    for (pipeline, object, call, what) in rows {
+        let line = format!(in alloc; "lasline: device: {what} failed\n")?;
+        let failing = run_failing(alloc, pipeline, &las, &[(object, call)], &[])?;
+        assert_eq!(rt; failing.status.code(), 4, "object {object} call {call}");
         assert_eq!(rt;
-            status,
-            Status::Device(place, op),
+            failing.err.bytes(),
+            line.as_bytes(),
             "object {object} call {call}"
         );
-        assert_eq!(rt; status.code(), 4);
-        assert_eq!(rt; files.count(), 1);
-        assert_eq!(rt; files.lent(), 0);
-        assert!(rt; files.contents("o.txt").is_none());
-        assert_eq!(rt; out.bytes(), b"".as_slice());
+        assert_eq!(rt; failing.files.count(), 1);
+        assert_eq!(rt; failing.files.lent(), 0);
+        assert!(rt; failing.files.contents("o.txt").is_none());
+        assert_eq!(rt; failing.out.bytes(), b"".as_slice());
     }
     Ok(())
 }
@@ -659,22 +499,32 @@ fn the_least_stage_whose_device_failed_is_named(rt: HostRuntime) -> Result<(), F
     let stored = named(alloc, &[("p.json", PIPELINE), ("in.las", cut)])?;
     let mut files = MemFiles::new(alloc, stored, 12, 1_000, Vec::new(alloc));
     let mut out = SureOut::new(alloc, 200)?;
-    let mut err = SureOut::new(alloc, 200)?;
+    let mut err = MemOut::new(alloc, 200, Vec::new(alloc))?;
     let status = lasline_solo(alloc, &words, &mut files, &mut out, &mut err);
-    assert_eq!(rt; status, Status::Device(Place::Stage(1), Op::Write));
+    assert_eq!(rt; status.code(), 4);
+    assert_eq!(rt;
+        err.bytes(),
+        b"lasline: device: stage 1: write failed\n".as_slice()
+    );
 
     let stored = named(alloc, &[("p.json", PIPELINE), ("in.las", &las)])?;
     let fails = vec![in alloc; (2u64, 2u64), (3, 2)]?;
     let mut files = MemFiles::new(alloc, stored, 100, 395, fails);
+    let mut err = MemOut::new(alloc, 200, Vec::new(alloc))?;
     let status = lasline_solo(alloc, &words, &mut files, &mut out, &mut err);
-    assert_eq!(rt; status, Status::Device(Place::Stage(0), Op::Read));
+    assert_eq!(rt; status.code(), 4);
+    assert_eq!(rt;
+        err.bytes(),
+        b"lasline: device: stage 0: read failed\n".as_slice()
+    );
 
     let las = numbered(alloc, 1_000)?;
-    let stored = named(alloc, &[("p.json", PIPELINE), ("in.las", &las)])?;
-    let fails = vec![in alloc; (2u64, 3u64), (3, 2)]?;
-    let mut files = MemFiles::new(alloc, stored, 100, 1_000, fails);
-    let status = lasline_solo(alloc, &words, &mut files, &mut out, &mut err);
-    assert_eq!(rt; status, Status::Device(Place::Stage(0), Op::Read));
+    let failing = run_failing(alloc, PIPELINE, &las, &[(2, 3), (3, 2)], &[])?;
+    assert_eq!(rt; failing.status.code(), 4);
+    assert_eq!(rt;
+        failing.err.bytes(),
+        b"lasline: device: stage 0: read failed\n".as_slice()
+    );
     Ok(())
 }
 
@@ -688,7 +538,7 @@ fn a_head_in_the_least_pieces_gives_the_same(rt: HostRuntime) -> Result<(), Fail
     let mut err = SureOut::new(alloc, 200)?;
     let words = words(alloc, &["run", "p.json", "--chunk", "1", "--queue", "1"])?;
     let status = lasline_solo(alloc, &words, &mut files, &mut out, &mut err);
-    assert_eq!(rt; status, Status::Ok);
+    assert_eq!(rt; status.code(), 0);
     assert_eq!(rt; files.contents("o.txt").ok_or("not kept")?, TEXT);
     assert_eq!(rt; out.bytes().ok_or("no report")?, HEADED_REPORT);
     assert_eq!(rt; files.lent(), 0);
@@ -699,7 +549,6 @@ fn a_head_in_the_least_pieces_gives_the_same(rt: HostRuntime) -> Result<(), Fail
 fn heads_let_the_first_points_pass(rt: HostRuntime) -> Result<(), Fail> {
     let alloc = rt.alloc();
     let las = two_points();
-    let words = words(alloc, &["run", "p.json"])?;
     let rows: [(u32, &[u8]); 3] = [
         (0, b"\"X\",\"Y\",\"Z\"\n"),
         (1, b"\"X\",\"Y\",\"Z\"\n1.000,2.000,3.000\n"),
@@ -709,15 +558,9 @@ fn heads_let_the_first_points_pass(rt: HostRuntime) -> Result<(), Fail> {
         let pipeline = format!(in alloc;
             "[\"in.las\",{{\"type\":\"filters.head\",\"count\":{count}}},\"o.txt\"]"
         )?;
-        let given = named(alloc, &[("p.json", pipeline.as_bytes()), ("in.las", &las)])?;
-        let mut files = SureFiles::new(alloc, given, 100);
-        let mut out = SureOut::new(alloc, 200)?;
-        let mut err = SureOut::new(alloc, 200)?;
-        assert_eq!(rt;
-            lasline_solo(alloc, &words, &mut files, &mut out, &mut err),
-            Status::Ok
-        );
-        assert_eq!(rt; files.contents("o.txt").ok_or("not kept")?, text);
+        let ran = run(alloc, pipeline.as_bytes(), &las)?;
+        assert_eq!(rt; ran.status.code(), 0);
+        assert_eq!(rt; ran.files.contents("o.txt").ok_or("not kept")?, text);
     }
     Ok(())
 }
@@ -746,10 +589,8 @@ fn pieces_change_nothing(rt: HostRuntime) -> Result<(), Fail> {
             let mut files = SureFiles::new(alloc, given, 20_000);
             let mut out = SureOut::new(alloc, 200)?;
             let mut err = SureOut::new(alloc, 200)?;
-            assert_eq!(rt;
-                lasline_solo(alloc, &words, &mut files, &mut out, &mut err),
-                Status::Ok
-            );
+            let status = lasline_solo(alloc, &words, &mut files, &mut out, &mut err);
+            assert_eq!(rt; status.code(), 0);
             assert_eq!(rt; files.contents("o.txt").ok_or("not kept")?, text.as_bytes());
             assert_eq!(rt; out.bytes().ok_or("no report")?, report.as_bytes());
         }
@@ -773,16 +614,19 @@ fn a_pipeline_of_64_elements_runs(rt: HostRuntime) -> Result<(), Fail> {
     pipeline.push_str("\"o.txt\"]")?;
     report.push_str("stage 63 writers.text views 1 points 18 wrote 18\noutputs 1\n")?;
     let text = numbered_text(alloc, 18)?;
-    let words = words(alloc, &["run", "p.json"])?;
-    let given = named(alloc, &[("p.json", pipeline.as_bytes()), ("in.las", &las)])?;
-    let mut files = SureFiles::new(alloc, given, 1_000);
-    let mut out = SureOut::new(alloc, 4_000)?;
-    let mut err = SureOut::new(alloc, 200)?;
-    let status = lasline_solo(alloc, &words, &mut files, &mut out, &mut err);
-    assert_eq!(rt; status, Status::Ok);
-    assert_eq!(rt; files.contents("o.txt").ok_or("not kept")?, text.as_bytes());
-    assert_eq!(rt; out.bytes().ok_or("no report")?, report.as_bytes());
+    let ran = run(alloc, pipeline.as_bytes(), &las)?;
+    assert_eq!(rt; ran.status.code(), 0);
+    assert_eq!(rt;
+        ran.files.contents("o.txt").ok_or("not kept")?,
+        text.as_bytes()
+    );
+    assert_eq!(rt; ran.out.bytes().ok_or("no report")?, report.as_bytes());
     Ok(())
+}
+
+/// Whether the output of the program failed.
+fn is_failed_output(status: &Status) -> bool {
+    matches!(status, Status::Device(Place::Out, Op::Write))
 }
 
 #[test]
@@ -795,11 +639,13 @@ fn a_failing_output_leaves_the_kept_file(rt: HostRuntime) -> Result<(), Fail> {
     let mut out = MemOut::new(alloc, 200, vec![in alloc; 1u64]?)?;
     let mut err = MemOut::new(alloc, 200, vec![in alloc; 1u64]?)?;
     let status = lasline_solo(alloc, &words, &mut files, &mut out, &mut err);
-    assert_eq!(rt; status, Status::Device(Place::Out, Op::Write));
+    assert!(rt; is_failed_output(&status));
     assert_eq!(rt; files.contents("o.txt").ok_or("not kept")?, TEXT);
-    assert_eq!(rt; Status::of(Refusal::Device(Place::Out, Op::Write)), status);
+    assert_eq!(rt; err.bytes(), b"".as_slice());
+    let status = Status::of(Refusal::Device(Place::Out, Op::Write));
+    assert!(rt; is_failed_output(&status));
     let status = lasline_solo(alloc, &words, &mut files, &mut out, &mut err);
-    assert_eq!(rt; status, Status::Ok);
+    assert_eq!(rt; status.code(), 0);
     Ok(())
 }
 
@@ -812,43 +658,65 @@ fn pages_are_printed(rt: HostRuntime) -> Result<(), Fail> {
         let mut out = SureOut::new(alloc, 2_000)?;
         let mut err = SureOut::new(alloc, 200)?;
         let status = lasline_solo(alloc, &words, &mut files, &mut out, &mut err);
-        assert_eq!(rt; status, Status::Ok);
+        assert_eq!(rt; status.code(), 0);
         assert_eq!(rt; out.bytes().ok_or("no page")?, page.as_bytes());
         assert_eq!(rt; err.bytes().ok_or("no line")?, b"".as_slice());
         let mut failing = MemOut::new(alloc, 2_000, vec![in alloc; 1u64]?)?;
         let status = lasline_solo(alloc, &words, &mut files, &mut failing, &mut err);
-        assert_eq!(rt; status, Status::Device(Place::Out, Op::Write));
+        assert_eq!(rt; status.code(), 4);
+        assert_eq!(rt;
+            err.bytes().ok_or("no line")?,
+            b"lasline: device: output: write failed\n".as_slice()
+        );
     }
     assert_eq!(rt; version(), "lasline 1\n");
     Ok(())
 }
 
+/// What words are answered where there are no files, with the line that is said.
+fn answer_to(alloc: Global, given: &[&str]) -> Result<(Status, MemOut), Fail> {
+    let words = words(alloc, given)?;
+    let mut files = SureFiles::new(alloc, Vec::new(alloc), 100);
+    let mut out = SureOut::new(alloc, 200)?;
+    let mut err = MemOut::new(alloc, 200, Vec::new(alloc))?;
+    let status = lasline_solo(alloc, &words, &mut files, &mut out, &mut err);
+    Ok((status, err))
+}
+
 #[test]
-fn words_have_exit_codes(rt: HostRuntime) -> Result<(), Fail> {
+fn words_that_are_no_command_are_told(rt: HostRuntime) -> Result<(), Fail> {
     let alloc = rt.alloc();
-    let rows: [(&[&str], Status, u8); 9] = [
-        (&["fly"], Status::Usage(0), 1),
-        (&["run"], Status::Usage(1), 1),
-        (&["run", "--chunk", "4"], Status::Usage(1), 1),
-        (&["run", "p.json", "--chunk", "0"], Status::Usage(3), 1),
-        (&["gen", "10000001", "a.las"], Status::Usage(1), 1),
-        (&["--help", "run"], Status::Usage(1), 1),
-        (&["plan", "p.json"], Status::NotBuilt(1), 6),
-        (&["gen", "10000000", "a.las"], Status::NotBuilt(1), 6),
-        (
-            &["trial", "0", "--workers", "32", "--patience", "0"],
-            Status::NotBuilt(1),
-            6,
-        ),
+    let rows: [(&[&str], u64); 6] = [
+        (&["fly"], 0),
+        (&["run"], 1),
+        (&["run", "--chunk", "4"], 1),
+        (&["run", "p.json", "--chunk", "0"], 3),
+        (&["gen", "10000001", "a.las"], 1),
+        (&["--help", "run"], 1),
     ];
-    for (given, status, code) in rows {
-        let words = words(alloc, given)?;
-        let mut files = SureFiles::new(alloc, Vec::new(alloc), 100);
-        let mut out = SureOut::new(alloc, 200)?;
-        let mut err = SureOut::new(alloc, 200)?;
-        let answer = lasline_solo(alloc, &words, &mut files, &mut out, &mut err);
-        assert_eq!(rt; answer, status);
-        assert_eq!(rt; answer.code(), code);
+    for (given, place) in rows {
+        let (status, said) = answer_to(alloc, given)?;
+        let line = format!(in alloc; "lasline: usage: bad or missing word {place}\n")?;
+        assert_eq!(rt; status.code(), 1, "{line}");
+        assert_eq!(rt; said.bytes(), line.as_bytes());
+    }
+    Ok(())
+}
+
+#[test]
+fn some_commands_are_not_built(rt: HostRuntime) -> Result<(), Fail> {
+    let alloc = rt.alloc();
+    let rows: [&[&str]; 4] = [
+        &["plan", "p.json"],
+        &["gen", "10000000", "a.las"],
+        &["trial", "0", "--workers", "32", "--patience", "0"],
+        &["run", "p.json", "--whole"],
+    ];
+    for given in rows {
+        let (status, said) = answer_to(alloc, given)?;
+        assert!(rt; matches!(&status, Status::NotBuilt(1)));
+        assert_eq!(rt; status.code(), 6);
+        assert_eq!(rt; said.bytes(), b"lasline: not built\n".as_slice());
     }
     Ok(())
 }
@@ -866,7 +734,7 @@ fn workers_and_patience_change_nothing(rt: HostRuntime) -> Result<(), Fail> {
         &["run", "p.json", "--workers", "4", "--patience", "7"],
     )?;
     let status = lasline_solo(alloc, &words, &mut files, &mut out, &mut err);
-    assert_eq!(rt; status, Status::Ok);
+    assert_eq!(rt; status.code(), 0);
     assert_eq!(rt; files.contents("o.txt").ok_or("not kept")?, TEXT);
     assert_eq!(rt; out.bytes().ok_or("no report")?, REPORT);
     Ok(())

@@ -1,1 +1,5 @@
-pub mod Elements
+pub mod Members
+pub mod Numbers
+pub mod Taken
+pub mod TreeFacts
+pub mod Texts

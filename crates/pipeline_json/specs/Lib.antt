@@ -1,2 +1,5 @@
-pub mod Pipelines
+pub mod Lists
+pub mod Stages
+pub mod Trees
 pub mod Shown
+pub mod TreeShown

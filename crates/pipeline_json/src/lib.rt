@@ -1,13 +1,17 @@
-//! The text of a pipeline: JSON (RFC 8259), as `serde_json` reads it, and the stages that it names.
+//! The tree of stages that a pipeline's text is: JSON (RFC 8259), as `serde_json` reads it.
 #![tactic(auto)]
 
-mod ends;
-mod heads;
-mod pipeline;
+mod elements;
+mod kinds;
 mod reading;
+mod stage;
+mod takes;
+mod tree;
 
-pub use pipeline::{PipeErr, Pipeline};
+pub use elements::member;
 pub use reading::read_pipeline;
+pub use stage::{RawStage, StageList};
+pub use tree::RawTree;
 
 #[cfg(test)]
 mod tests;

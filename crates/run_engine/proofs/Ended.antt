@@ -1,9 +1,9 @@
 -- A chain that was run over a file.
-use Rattle.std.proofs.Common.{◌≡◌, ℕ, zero, suc, ◌+◌, ◌≤◌, ◌<◌, true, false, cond, List, [], ◌∷◌, ◌++◌, length, map, Option, Some, None, Ok, Err, refl, ap, subst, sym, ◌∙◌, inl, inr, arith}
-use Rattle.std.specs.Prelude.{slice_get, is_some}
+use Rattle.std.proofs.Common.{◌≡◌, ℕ, zero, suc, ◌+◌, ◌<◌, true, false, cond, List, [], ◌∷◌, length, Option, Some, None, Result, Ok, Err, IfOk, IfErr, refl, ap, subst, sym, ◌∙◌, inl, inr, arith}
+use Rattle.std.specs.Prelude.{slice_get}
 use Rattle.std.proofs.lemmas.Option.{slice_get_within}
 use Rattle.std.proofs.lemmas.Bool.{ne_eqb}
-use Rattle.file_devices.specs.Counts.{Rose}
+use Rattle.std.proofs.lemmas.Result.{IfOk-weaker, IfErr-weaker}
 use Rattle.file_devices.specs.declared.devices.Source as source
 use Rattle.file_devices.specs.declared.devices.Sink as sink
 use Rattle.file_devices.specs.declared.devices.Op.TheVariants.{Read, Write}
@@ -12,212 +12,130 @@ use Rattle.cloud_points.specs.declared.faults.PointFault.{PointFault}
 use Rattle.cloud_points.specs.declared.faults.PointFault.TheVariants.{Cut}
 use Rattle.cloud_points.specs.declared.faults.StageFault.TheVariants as stage
 use Rattle.cloud_points.specs.Events.{is_device}
-use Rattle.cloud_points.specs.Flows.{Flow, points}
+use Rattle.cloud_points.specs.Flows.{Flow}
 use Rattle.cloud_points.specs.Marks.{flow_marks}
-use Rattle.network_theory.specs.Machine.{output, after_all}
 use Rattle.network_theory.specs.Shape.{Each}
 use Rattle.las_reader.specs.Files.{Las, las_with}
 use Rattle.las_reader.specs.declared.reader.LasReader.{LasReader}
 use Rattle.las_reader.specs.declared.reader.Progress.TheVariants.{Records}
-use Rattle.text_writer.specs.TextOutput.{holds_text}
-use Rattle.text_writer.specs.declared.writer.TextWriter.{TextWriter}
 use Rattle.stage_kinds.specs.declared.kind.Kind.{Kind}
 use Rattle.stage_kinds.specs.declared.kind.Kind.TheVariants.{Reader, Head, Text}
-use Rattle.stage_kinds.specs.declared.kind.StageState.TheVariants.{Heading, Writing}
-use Rattle.stage_kinds.specs.Stages.{is_head, is_reader, meaning_of, faults_of, holds_of}
+use Rattle.stage_kinds.specs.Stages.{is_reader, faults_of}
 use Rattle.stage_kinds.specs.Reads.{las_flow, cut_fault, fault_with, told_of, tells_of, told_fault_of}
-use Rattle.stage_kinds.proofs.Streams.{head_gives, head_sound, text_gives, text_sound}
 use Rattle.stage_kinds.proofs.Telling.{reader_starts}
-use Rattle.stage_kinds.proofs.Variants.{reader_is, head_is, text_is}
+use Rattle.stage_kinds.proofs.Variants.{reader_is}
+use Rattle.stage_options.specs.declared.options.Options.{Options}
+use Rattle.stage_options.specs.declared.options.Options.TheVariants.{ReadersLas, FiltersHead, WritersText}
+use Rattle.stage_options.specs.declared.stage.StageSpec.{StageSpec}
+use Rattle.stage_options.specs.Chained.{reads, AreLinked, IsChain}
 use Rattle.network_core.specs.declared.node.Node.{Node}
-use Rattle.network_core.specs.Shown.{shown, work_of}
+use Rattle.network_core.specs.Shown.{work_of}
 use Rattle.network_core.specs.Calm.{Calm}
-use Rattle.network_core.specs.Chains.{AreNew, IsNewNode, IsLine}
-use Rattle.network_core.specs.Ran.{Gave, Took, EndsOver, IsRanChain}
+use Rattle.network_core.specs.Chains.{AreNew, IsLine}
+use Rattle.network_core.specs.Ran.{EndsOver, IsRanChain, IsNewChain}
 use Rattle.network_core.proofs.Running.{same_some}
+use Rattle.network_core.proofs.Chains.{new-length}
+use Rattle.run_report.specs.declared.report.StageCount.{StageCount}
 use Rattle.run_report.specs.declared.refusal.Place.TheVariants.{PipelineFile, Stage, Out}
 use Rattle.run_report.specs.declared.refusal.Fault.TheVariants as fault
 use Rattle.run_report.specs.declared.refusal.Refusal.{Refusal}
-use Rattle.run_report.specs.declared.refusal.Refusal.TheVariants.{Usage, Data, Device, Memory, NotBuilt}
-use Rattle.run_engine.specs.Chains.{headed, streamed, counts, count_of}
+use Rattle.run_report.specs.declared.refusal.Refusal.TheVariants.{Usage, Pipeline, Data, Device, Memory, NotBuilt}
+use Rattle.run_engine.specs.Chains.{passed, counts_from, count_of}
 use Rattle.run_engine.specs.Runs.{whole_flow, to_end}
 use Rattle.run_engine.specs.Cause.{Because, Blamed, AtTurns}
-use Rattle.run_engine.specs.Lines.{works_of, as_works, AreStages}
-use Rattle.run_engine.specs.Outcomes.{NoFault, NoDevice, DeviceAt, PointFaultAt, IsOutcome, count_at, op_at}
-use Rattle.run_engine.proofs.Lined.{head_of}
+use Rattle.run_engine.specs.Outcomes.{NoFault, NoDevice, DeviceAt, PointFaultAt, IsOutcome, counted_from, op_at}
+use Rattle.run_engine.specs.Works.{as_works, works_of, IsLined, IsFor, IsAtStart, AreAtStart, AreFor, HoldsOf, AllHold}
+use Rattle.run_engine.proofs.Behaving.{new_fault}
+use Rattle.run_engine.proofs.Behind.{value_at, AllBehave, all-behave, fit-all, failed-at, streams-on, AllTook, sound-all, hold-all, one_count, counted-all}
 
--- what each stage gives, by its number; behind the heads the writer gives what it takes
-abbrev pub value_at : Flow the_point.Point → List ℕ → ℕ → Flow the_point.Point
-value_at flow heads zero = flow
-value_at flow [] (suc k) = flow
-value_at flow (n ∷ ns) (suc k) = value_at (headed n flow) ns k
+-- there is none beyond the end
+none_within : {A : Type 0} (xs : List A) (j : ℕ) → slice_get xs j ≡ None → j < length xs → ⊥
+none_within [] j e h = absurd (omega arith)
+none_within (x ∷ xs) zero e h = cc
+none_within (x ∷ xs) (suc j) e h = none_within xs j e (omega arith)
 
--- no count that stays at 0 rose
-not_risen : {A : Type 0} → Rose 0 0 → A
-not_risen h = absurd (omega arith)
+-- a reader's options, and what such a stage gives on
+through_reader : (o : Options) (flow : Flow the_point.Point) → reads o ≡ true → passed o flow ≡ flow
+through_reader (ReadersLas filename) flow e = refl
+through_reader (FiltersHead count only) flow e = cc
+through_reader (WritersText filename order precision delimiter quote_header write_header only) flow e = cc
 
-module _ {S K : Type 0} (s : source.Ghosts S) (k : sink.Ghosts K) (chunk : ℕ) (writer : TextWriter K) where
-  -- the nodes behind the reader
-  pub record Tail (hs : List ℕ) (ns ms : List (Node (Kind S K))) : Type 0 where
-    pub middle : List (Kind S K)
-    pub are_heads : Each (λ x. is_head x ≡ true) middle
-    pub writer' : TextWriter K
-    pub works : map work_of ms ≡ middle ++ Text writer' ∷ []
-    pub wrote : k.faults writer.sink ≤ k.faults writer'.sink
-    pub risen : (j : ℕ) (m : Node (Kind S K)) → slice_get ms j ≡ Some m → is_device m.fault ≡ true → (j ≡ length hs) × Rose (k.faults writer.sink) (k.faults writer'.sink)
-    pub sound : (flow : Flow the_point.Point) → ((j : ℕ) (n m : Node (Kind S K)) → slice_get ns j ≡ Some n → slice_get ms j ≡ Some m → Took (as_works s k) (value_at flow hs j) n m) → NoFault ms
-    pub held : (flow : Flow the_point.Point) → ((j : ℕ) (n m : Node (Kind S K)) → slice_get ns j ≡ Some n → slice_get ms j ≡ Some m → Took (as_works s k) (value_at flow hs j) n m)
-        → holds_text (k.bytes writer.sink) [] ≡ true → holds_text (k.bytes writer'.sink) (points (streamed flow hs)) ≡ true
+module _ {S K : Type 0} (s : source.Ghosts S) (k : sink.Ghosts K) where
+  reader_for : (o : Options) (r : LasReader S) → reads o ≡ true → IsFor {K = K} o (Reader r)
+  reader_for (ReadersLas filename) r e = tt
+  reader_for (FiltersHead count only) r e = cc
+  reader_for (WritersText filename order precision delimiter quote_header write_header only) r e = cc
 
-  pub new_fault : (inputs : ℕ) (w : Kind S K) (n : Node (Kind S K)) → IsNewNode (as_works s k) chunk inputs w n → is_some n.fault ≡ false
-  new_fault inputs w n is = ap (λ x. is_some x.machine.fault) (is.shown [])
+  reader_start : (o : Options) (r : LasReader S) → IsAtStart {K = K} k.bytes o (Reader r) → r.progress ≡ Records 0
+  reader_start (ReadersLas filename) r h = h
+  reader_start (FiltersHead count only) r h = absurd h
+  reader_start (WritersText filename order precision delimiter quote_header write_header only) r h = absurd h
 
-  -- one head
-  module _ (h : ℕ) (n m : Node (Kind S K)) (is : IsNewNode (as_works s k) chunk 1 (head_of h) n) where
-    head_back : meaning_of (work_of m) ≡ meaning_of (work_of n) → is_head (work_of m) ≡ true
-    head_back same =
-        let e = ap (λ x. (x.at_view (Heading 0)).1) (same ∙ ap meaning_of is.work) in
-        let v = head_is (work_of m) e in ap is_head v.1
+  -- works before their first turn are those of their stages
+  start_for : (o : Options) (w : Kind S K) → IsAtStart k.bytes o w → IsFor o w
+  start_for (ReadersLas filename) (Reader r) h = tt
+  start_for (ReadersLas filename) (Head x) h = absurd h
+  start_for (ReadersLas filename) (Text w) h = absurd h
+  start_for (FiltersHead count only) (Reader r) h = absurd h
+  start_for (FiltersHead count only) (Head x) h = tt
+  start_for (FiltersHead count only) (Text w) h = absurd h
+  start_for (WritersText filename order precision delimiter quote_header write_header only) (Reader r) h = absurd h
+  start_for (WritersText filename order precision delimiter quote_header write_header only) (Head x) h = absurd h
+  start_for (WritersText filename order precision delimiter quote_header write_header only) (Text w) h = tt
 
-    head_calm : {A : Type 0} → is_head (work_of m) ≡ true → Calm (as_works s k) n m → is_device m.fault ≡ true → A
-    head_calm {A} head calm d =
-        let r = calm.cause (new_fault 1 (head_of h) n is) d in
-        not_risen (subst (λ x. Rose (faults_of s.faults k.faults x) 0) is.work (subst (λ x. Rose (faults_of s.faults k.faults n.work) x) (none (work_of m) head) r))
-      where
-        none : (x : Kind S K) → is_head x ≡ true → faults_of s.faults k.faults x ≡ 0
-        none (Reader r) e = cc
-        none (Head y) e = refl
-        none (Text w) e = cc
+  pub starts_for : (ts : List StageSpec) (ws : List (Kind S K)) → AreAtStart k.bytes ts ws → AreFor ts ws
+  starts_for [] [] h = tt
+  starts_for [] (w ∷ ws) h = absurd h
+  starts_for (t ∷ ts) [] h = absurd h
+  starts_for (t ∷ ts) (w ∷ ws) h = (start_for t.options w h.0, starts_for ts ws h.1)
 
-    head_took : (flow : Flow the_point.Point) → Took (as_works s k) flow n m → m.fault ≡ None
-    head_took flow took = took.fault ∙ ap (λ x. (after_all x.work x.machine (flow_marks flow)).fault) (is.shown []) ∙ head_sound h flow
+  pub for_length : (ts : List StageSpec) (ws : List (Kind S K)) → AreFor ts ws → length ws ≡ length ts
+  for_length [] [] h = refl
+  for_length [] (w ∷ ws) h = absurd h
+  for_length (t ∷ ts) [] h = absurd h
+  for_length (t ∷ ts) (w ∷ ws) h = ap suc (for_length ts ws h.1)
 
-  -- the writer
-  module _ (n m : Node (Kind S K)) (is : IsNewNode (as_works s k) chunk 1 (Text writer) n) where
-    text_back : meaning_of (work_of m) ≡ meaning_of (work_of n) → (w : TextWriter K) × (work_of m ≡ Text w)
-    text_back same = text_is (work_of m) (ap (λ x. (x.at_view Writing).1) (same ∙ ap meaning_of is.work))
+  pub start_length : (ts : List StageSpec) (ws : List (Kind S K)) → AreAtStart k.bytes ts ws → length ws ≡ length ts
+  start_length ts ws h = for_length ts ws (starts_for ts ws h)
 
-    text_took : (flow : Flow the_point.Point) → Took (as_works s k) flow n m → m.fault ≡ None
-    text_took flow took = took.fault ∙ ap (λ x. (after_all x.work x.machine (flow_marks flow)).fault) (is.shown []) ∙ text_sound flow
+  -- the works of new nodes
+  pub new_works : (chunk inputs : ℕ) (ws : List (Kind S K)) (ns : List (Node (Kind S K))) → AreNew (as_works s k) chunk inputs ws ns → works_of ns ≡ ws
+  new_works chunk inputs [] [] h = refl
+  new_works chunk inputs [] (n ∷ ns) h = absurd h
+  new_works chunk inputs (w ∷ ws) [] h = absurd h
+  new_works chunk inputs (w ∷ ws) (n ∷ ns) h = ap (λ x. x ∷ works_of ns) h.0.work ∙ ap (λ xs. w ∷ xs) (new_works chunk 1 ws ns h.1)
 
-    text_tail : Calm (as_works s k) n m → meaning_of (work_of m) ≡ meaning_of (work_of n) → Tail [] (n ∷ []) (m ∷ [])
-    text_tail calm same =
-        let w = text_back same in
-        let faults_old : faults_of s.faults k.faults n.work ≡ k.faults writer.sink = ap (faults_of s.faults k.faults) is.work in
-        let faults_new : faults_of s.faults k.faults m.work ≡ k.faults w.0.sink = ap (faults_of s.faults k.faults) w.1 in
-        record {
-          middle = [];
-          are_heads = tt;
-          writer' = w.0;
-          works = ap (λ x. x ∷ []) w.1;
-          wrote = let c = calm.faults in omega (arith, c, faults_old, faults_new);
-          risen = λ j x e d. by_place j x e d faults_old faults_new;
-          sound = λ flow took. (λ j x e. only flow took j x e);
-          held = λ flow took empty.
-              let t = took 0 n m refl refl in
-              let kept = t.holds (text_took flow t) (ap (λ x. holds_of k.bytes x []) is.work ∙ empty) in
-              sym (ap (λ x. holds_of k.bytes x (points flow)) w.1) ∙ kept;
-        }
-      where
-        by_place : (j : ℕ) (x : Node (Kind S K)) → slice_get (m ∷ []) j ≡ Some x → is_device x.fault ≡ true → faults_of s.faults k.faults n.work ≡ k.faults writer.sink → faults_of s.faults k.faults m.work ≡ k.faults (text_back same).0.sink → (j ≡ 0) × Rose (k.faults writer.sink) (k.faults (text_back same).0.sink)
-        by_place zero x e d old new =
-            let is_m : m ≡ x = same_some m x e in
-            let r = calm.cause (new_fault 1 (Text writer) n is) (ap (λ (y : Node (Kind S K)). is_device y.fault) is_m ∙ d) in
-            (refl, omega (arith, r, old, new))
-        by_place (suc j) x e d old new = cc
+  -- only the first work is a leaf
+  not_leaf : (o : Options) (w : Kind S K) → IsAtStart k.bytes o w → reads o ≡ false → is_reader w ≡ false
+  not_leaf (ReadersLas filename) w h e = cc
+  not_leaf (FiltersHead count only) (Reader r) h e = absurd h
+  not_leaf (FiltersHead count only) (Head x) h e = refl
+  not_leaf (FiltersHead count only) (Text w) h e = refl
+  not_leaf (WritersText filename order precision delimiter quote_header write_header only) (Reader r) h e = absurd h
+  not_leaf (WritersText filename order precision delimiter quote_header write_header only) (Head x) h e = refl
+  not_leaf (WritersText filename order precision delimiter quote_header write_header only) (Text w) h e = refl
 
-        only : (flow : Flow the_point.Point) → ((j : ℕ) (a b : Node (Kind S K)) → slice_get (n ∷ []) j ≡ Some a → slice_get (m ∷ []) j ≡ Some b → Took (as_works s k) (value_at flow [] j) a b) → (j : ℕ) (x : Node (Kind S K)) → slice_get (m ∷ []) j ≡ Some x → x.fault ≡ None
-        only flow took zero x e = let is_m : m ≡ x = same_some m x e in subst (λ (y : Node (Kind S K)). y.fault ≡ None) is_m (text_took flow (took 0 n m refl refl))
-        only flow took (suc j) x e = cc
+  not_leaves : (i : ℕ) (ts : List StageSpec) (ws : List (Kind S K)) → AreLinked i ts → AreAtStart k.bytes ts ws → Each (λ w. is_reader w ≡ false) ws
+  not_leaves i [] [] linked h = tt
+  not_leaves i [] (w ∷ ws) linked h = absurd h
+  not_leaves i (t ∷ ts) [] linked h = absurd h
+  not_leaves i (t ∷ ts) (w ∷ ws) linked h = (not_leaf t.options w h.0 linked.1, not_leaves (i + 1) ts ws linked.2 h.1)
 
-  pub tail : (hs : List ℕ) (ns ms : List (Node (Kind S K))) → AreNew (as_works s k) chunk 1 (map head_of hs ++ Text writer ∷ []) ns → length ms ≡ length ns
-      → ((j : ℕ) (n m : Node (Kind S K)) → slice_get ns j ≡ Some n → slice_get ms j ≡ Some m → meaning_of (work_of m) ≡ meaning_of (work_of n))
-      → ((j : ℕ) (n m : Node (Kind S K)) → slice_get ns j ≡ Some n → slice_get ms j ≡ Some m → Calm (as_works s k) n m) → Tail hs ns ms
-  tail [] [] ms new size same calm = absurd new
-  tail [] (n ∷ []) [] new size same calm = absurd (omega arith)
-  tail [] (n ∷ []) (m ∷ []) new size same calm = text_tail n m new.0 (calm 0 n m refl refl) (same 0 n m refl refl)
-  tail [] (n ∷ []) (m ∷ x ∷ ms) new size same calm = absurd (omega arith)
-  tail [] (n ∷ x ∷ ns) ms new size same calm = absurd new.1
-  tail (h ∷ hs) [] ms new size same calm = absurd new
-  tail (h ∷ hs) (n ∷ ns) [] new size same calm = absurd (omega arith)
-  tail (h ∷ hs) (n ∷ ns) (m ∷ ms) new size same calm =
-      let t = tail hs ns ms new.1 (omega (arith, size)) (λ j a b e f. same (suc j) a b e f) (λ j a b e f. calm (suc j) a b e f) in
-      let head = head_back h n m new.0 (same 0 n m refl refl) in
-      record {
-        middle = work_of m ∷ t.middle;
-        are_heads = (head, t.are_heads);
-        writer' = t.writer';
-        works = ap (λ xs. work_of m ∷ xs) t.works;
-        wrote = t.wrote;
-        risen = λ j x e d. by_place head t j x e d;
-        sound = λ flow took. (λ j x e. only t flow took j x e);
-        held = λ flow took empty. t.held (headed h flow) (λ j a b e f. took (suc j) a b e f) empty;
-      }
-    where
-      by_place : is_head (work_of m) ≡ true → (t : Tail hs ns ms) → (j : ℕ) (x : Node (Kind S K)) → slice_get (m ∷ ms) j ≡ Some x → is_device x.fault ≡ true → (j ≡ length (h ∷ hs)) × Rose (k.faults writer.sink) (k.faults t.writer'.sink)
-      by_place head t zero x e d =
-          let is_m : m ≡ x = same_some m x e in
-          head_calm h n m new.0 head (calm 0 n m refl refl) (ap (λ (y : Node (Kind S K)). is_device y.fault) is_m ∙ d)
-      by_place head t (suc j) x e d = let r = t.risen j x e d in (ap suc r.0, r.1)
+  in_line : (stages : List StageSpec) (reader : LasReader S) (rest : List (Kind S K)) → IsChain stages → AreAtStart k.bytes stages (Reader reader ∷ rest) → IsLine (as_works s k) (Reader reader ∷ rest)
+  in_line [] reader rest chain start = absurd chain
+  in_line (t ∷ ts) reader rest chain start = (refl, not_leaves 0 ts rest chain.2 start.1)
 
-      only : (t : Tail hs ns ms) (flow : Flow the_point.Point) → ((j : ℕ) (a b : Node (Kind S K)) → slice_get (n ∷ ns) j ≡ Some a → slice_get (m ∷ ms) j ≡ Some b → Took (as_works s k) (value_at flow (h ∷ hs) j) a b) → (j : ℕ) (x : Node (Kind S K)) → slice_get (m ∷ ms) j ≡ Some x → x.fault ≡ None
-      only t flow took zero x e = let is_m : m ≡ x = same_some m x e in subst (λ (y : Node (Kind S K)). y.fault ≡ None) is_m (head_took h n m new.0 flow (took 0 n m refl refl))
-      only t flow took (suc j) x e = t.sound (headed h flow) (λ i a b p q. took (suc i) a b p q) j x e
+  pub new_chain : (stages : List StageSpec) (reader : LasReader S) (nodes : List (Node (Kind S K))) → IsChain stages → IsLined s k stages reader nodes → IsNewChain (as_works s k) nodes
+  new_chain stages reader nodes chain is = record { works = Reader reader ∷ is.rest; chunk = is.chunk; line = in_line stages reader is.rest chain is.start; new = is.new }
 
-  -- each node makes of the flow before it its own
-  pub streams-on : (hs : List ℕ) (ns : List (Node (Kind S K))) → AreNew (as_works s k) chunk 1 (map head_of hs ++ Text writer ∷ []) ns → (flow : Flow the_point.Point) (j : ℕ) (n : Node (Kind S K)) → slice_get ns j ≡ Some n
-      → output (shown (as_works s k) [] n).work (shown (as_works s k) [] n).machine (flow_marks (value_at flow hs j)) ≡ flow_marks (value_at flow hs (suc j))
-  streams-on [] [] new flow j n e = absurd new
-  streams-on [] (m ∷ []) new flow zero n e =
-      let is_m : m ≡ n = same_some m n e in
-      subst (λ (y : Node (Kind S K)). output (shown (as_works s k) [] y).work (shown (as_works s k) [] y).machine (flow_marks flow) ≡ flow_marks flow) is_m
-      (ap (λ x. output x.work x.machine (flow_marks flow)) (new.0.shown []) ∙ text_gives flow)
-  streams-on [] (m ∷ []) new flow (suc j) n e = cc
-  streams-on [] (m ∷ x ∷ ns) new flow j n e = absurd new.1
-  streams-on (h ∷ hs) [] new flow j n e = absurd new
-  streams-on (h ∷ hs) (m ∷ ns) new flow zero n e =
-      let is_m : m ≡ n = same_some m n e in
-      subst (λ (y : Node (Kind S K)). output (shown (as_works s k) [] y).work (shown (as_works s k) [] y).machine (flow_marks flow) ≡ flow_marks (headed h flow)) is_m
-      (ap (λ x. output x.work x.machine (flow_marks flow)) (new.0.shown []) ∙ head_gives h flow)
-  streams-on (h ∷ hs) (m ∷ ns) new flow (suc j) n e = streams-on hs ns new.1 (headed h flow) j n e
+  pub lined_length : (stages : List StageSpec) (reader : LasReader S) (nodes : List (Node (Kind S K))) → IsLined s k stages reader nodes → length nodes ≡ length stages
+  lined_length stages reader nodes is =
+      let a = new-length (as_works s k) is.chunk 0 (Reader reader ∷ is.rest) nodes is.new in
+      let b = start_length stages (Reader reader ∷ is.rest) is.start in
+      omega (arith, a, b)
 
-  -- what all nodes gave on
-  one_count : (flow : Flow the_point.Point) (m : Node (Kind S K)) → Gave (as_works s k) flow m → count_at m ≡ count_of flow
-  one_count flow m gave = let v = gave.views in let p = gave.points in cc
-
-  pub counted : (hs : List ℕ) (flow : Flow the_point.Point) (m : Node (Kind S K)) (ms : List (Node (Kind S K))) → length ms ≡ length hs + 1 → ((j : ℕ) (x : Node (Kind S K)) → slice_get (m ∷ ms) j ≡ Some x → Gave (as_works s k) (value_at flow hs j) x) → map count_at (m ∷ ms) ≡ counts flow hs
-  counted [] flow m [] size gave = absurd (omega arith)
-  counted [] flow m (a ∷ []) size gave = let x = one_count flow m (gave 0 m refl) in let y = one_count flow a (gave 1 a refl) in ap (λ c. c ∷ count_at a ∷ []) x ∙ ap (λ c. count_of flow ∷ c ∷ []) y
-  counted [] flow m (a ∷ b ∷ ms) size gave = absurd (omega arith)
-  counted (h ∷ hs) flow m [] size gave = absurd (omega arith)
-  counted (h ∷ hs) flow m (a ∷ ms) size gave =
-      ap (λ c. c ∷ map count_at (a ∷ ms)) (one_count flow m (gave 0 m refl))
-      ∙ ap (λ cs. count_of flow ∷ cs) (counted hs (headed h flow) a ms (omega (arith, size)) (λ j x e. gave (suc j) x e))
-
-  -- the works stand in a line
-  pub in-line : (reader : LasReader S) (hs : List ℕ) → IsLine (as_works s k) (works_of reader hs writer)
-  in-line reader hs = (refl, inner hs)
-    where
-      inner : (xs : List ℕ) → Each {A = Kind S K} (λ v. is_reader v ≡ false) (map head_of xs ++ Text writer ∷ [])
-      inner [] = (refl, tt)
-      inner (x ∷ xs) = (refl, inner xs)
-
--- a chain's nodes after they were run, by those at the start
-module _ {S K : Type 0} (s : source.Ghosts S) (k : sink.Ghosts K) (chunk : ℕ) (reader : LasReader S) (hs : List ℕ) (writer : TextWriter K) where
-  -- what is known of the nodes that a run handed back
-  pub record Ended (new : List (Node (Kind S K))) : Type 0 where
-    pub reader' : LasReader S
-    pub writer' : TextWriter K
-    pub stages : AreStages new reader' writer'
-    pub few : length new ≡ length hs + 2
-    pub read : s.faults reader.source ≤ s.faults reader'.source
-    pub wrote : k.faults writer.sink ≤ k.faults writer'.sink
-    pub ok : reader.progress ≡ Records 0 → NoFault new → (file : List ℕ) → s.bytes reader.source ≡ Some file →
-        (whole_flow (las_with reader.header file) ≡ Ok (las_flow (las_with reader.header file))) × (map count_at new ≡ counts (las_flow (las_with reader.header file)) hs)
-        × (holds_text (k.bytes writer.sink) [] ≡ true → holds_text (k.bytes writer'.sink) (points (streamed (las_flow (las_with reader.header file)) hs)) ≡ true)
-    pub faulty : reader.progress ≡ Records 0 → (i : ℕ) (f : PointFault) → NoDevice new (length new) → PointFaultAt new i f → (file : List ℕ) → s.bytes reader.source ≡ Some file →
-        whole_flow (las_with reader.header file) ≡ Err (Data i (fault.Point f))
-    pub device : (i : ℕ) → DeviceAt new i → AtTurns (Rose (s.faults reader.source) (s.faults reader'.source)) (Rose (k.faults writer.sink) (k.faults writer'.sink)) (length hs + 1) (Stage i) (op_at i)
+  pub lined_for : (stages : List StageSpec) (reader : LasReader S) (nodes : List (Node (Kind S K))) → IsLined s k stages reader nodes → AreFor stages (works_of nodes)
+  lined_for stages reader nodes is = subst (AreFor stages) (sym (new_works is.chunk 0 (Reader reader ∷ is.rest) nodes is.new)) (starts_for stages (Reader reader ∷ is.rest) is.start)
 
   no_cut : (las : Las) (c : Option ℕ) → las.cut ≡ c → fault_with c ≡ None → whole_flow las ≡ Ok (las_flow las)
   no_cut las None e f = ap (to_end las) e
@@ -227,9 +145,20 @@ module _ {S K : Type 0} (s : source.Ghosts S) (k : sink.Ghosts K) (chunk : ℕ) 
   is_cut las None f e g = cc
   is_cut las (Some n) f e g = ap (to_end las) e ∙ (let same : Cut n ≡ f = cc in ap (λ x. Err (Data 0 (fault.Point x))) same)
 
-  module _ (n m : Node (Kind S K)) (ns ms : List (Node (Kind S K))) (new : AreNew (as_works s k) chunk 0 (works_of reader hs writer) (n ∷ ns)) (ran : IsRanChain (as_works s k) (n ∷ ns) (m ∷ ms)) where
-    behind : Tail s k chunk writer hs ns ms
-    behind = tail s k chunk writer hs ns ms new.1 (let c = ran.count in omega (arith, c)) (λ j a b e f. ran.work (suc j) a b e f) (λ j a b e f. ran.calm (suc j) a b e f)
+  -- what is known of the nodes that a run handed back
+  pub record Ended (stages : List StageSpec) (reader : LasReader S) (old new : List (Node (Kind S K))) : Type 0 where
+    pub size : length new ≡ length stages
+    pub fit : AreFor stages (works_of new)
+    pub ok : NoFault new → (file : List ℕ) → s.bytes reader.source ≡ Some file →
+        (whole_flow (las_with reader.header file) ≡ Ok (las_flow (las_with reader.header file))) × (counted_from 0 stages new ≡ counts_from 0 (las_flow (las_with reader.header file)) stages)
+        × AllHold k.bytes (las_flow (las_with reader.header file)) stages (works_of new)
+    pub faulty : (i : ℕ) (f : PointFault) → NoDevice new (length new) → PointFaultAt new i f → (file : List ℕ) → s.bytes reader.source ≡ Some file → whole_flow (las_with reader.header file) ≡ Err (Data i (fault.Point f))
+    pub device : (i : ℕ) → DeviceAt new i → AtTurns (faults_of s.faults k.faults) (works_of old) (works_of new) stages (Stage i) (op_at i)
+
+  module _ (chunk : ℕ) (reader : LasReader S) (rest : List (Kind S K)) (t : StageSpec) (ts : List StageSpec) (chain : IsChain (t ∷ ts)) (start : AreAtStart k.bytes (t ∷ ts) (Reader reader ∷ rest))
+      (n m : Node (Kind S K)) (ns ms : List (Node (Kind S K))) (new : AreNew (as_works s k) chunk 0 (Reader reader ∷ rest) (n ∷ ns)) (ran : IsRanChain (as_works s k) (n ∷ ns) (m ∷ ms)) where
+    behind : AllBehave s k chunk ts ns ms
+    behind = all-behave s k chunk 0 ts rest ns ms chain.2 start.1 new.1 (let c = ran.count in omega (arith, c)) (λ j a b e f. ran.work (suc j) a b e f) (λ j a b e f. ran.calm (suc j) a b e f)
 
     first_calm : Calm (as_works s k) n m
     first_calm = ran.calm 0 n m refl refl
@@ -237,51 +166,59 @@ module _ {S K : Type 0} (s : source.Ghosts S) (k : sink.Ghosts K) (chunk : ℕ) 
     back : (r : LasReader S) × (work_of m ≡ Reader r)
     back = reader_is (work_of m) (first_calm.leaf ∙ ap is_reader new.0.work)
 
-    old_faults : faults_of s.faults k.faults n.work ≡ s.faults reader.source
-    old_faults = ap (faults_of s.faults k.faults) new.0.work
+    first_size : length (m ∷ ms) ≡ length (t ∷ ts)
+    first_size =
+        let c = ran.count in
+        let a = new-length (as_works s k) chunk 0 (Reader reader ∷ rest) (n ∷ ns) new in
+        let b = start_length (t ∷ ts) (Reader reader ∷ rest) start in
+        omega (arith, a, b, c)
 
-    new_faults : faults_of s.faults k.faults m.work ≡ s.faults back.0.source
-    new_faults = ap (faults_of s.faults k.faults) back.1
-
-    tail_length : (xs : List ℕ) (ys : List (Node (Kind S K))) → AreNew (as_works s k) chunk 1 (map head_of xs ++ Text writer ∷ []) ys → length ys ≡ length xs + 1
-    tail_length [] [] a = absurd a
-    tail_length [] (y ∷ []) a = refl
-    tail_length [] (y ∷ z ∷ ys) a = absurd a.1
-    tail_length (x ∷ xs) [] a = absurd a
-    tail_length (x ∷ xs) (y ∷ ys) a = let r = tail_length xs ys a.1 in omega (arith, r)
-
-    size : length (m ∷ ms) ≡ length hs + 2
-    size = let c = ran.count in let t = tail_length hs ns new.1 in omega (arith, c, t)
+    fit_so : AreFor (t ∷ ts) (works_of (m ∷ ms))
+    fit_so = (subst (IsFor t.options) (sym back.1) (reader_for t.options back.0 chain.1), fit-all s k chunk ts ns ms behind)
 
     -- over a file that is told, where no device failed
-    module _ (start : reader.progress ≡ Records 0) (calm : NoDevice (m ∷ ms) (length (m ∷ ms))) (file : List ℕ) (told : s.bytes reader.source ≡ Some file) where
+    module _ (calm : NoDevice (m ∷ ms) (length (m ∷ ms))) (file : List ℕ) (told : s.bytes reader.source ≡ Some file) where
       abbrev pub las : Las
       las = las_with reader.header file
 
       starts : (told_of s.bytes n.work ≡ flow_marks (las_flow las)) × (tells_of s.bytes n.work ≡ true) × (told_fault_of s.bytes n.work ≡ cut_fault las)
-      starts = let t = reader_starts {K = K} s.bytes reader file start told in (ap (told_of s.bytes) new.0.work ∙ t.told, ap (tells_of s.bytes) new.0.work ∙ t.tells, ap (told_fault_of s.bytes) new.0.work ∙ t.fault)
+      starts =
+          let x = reader_starts {K = K} s.bytes reader file (reader_start t.options reader start.0) told in
+          (ap (told_of s.bytes) new.0.work ∙ x.told, ap (tells_of s.bytes) new.0.work ∙ x.tells, ap (told_fault_of s.bytes) new.0.work ∙ x.fault)
 
-      ends : EndsOver (as_works s k) (n ∷ ns) (m ∷ ms) (value_at (las_flow las) hs)
+      ends : EndsOver (as_works s k) (n ∷ ns) (m ∷ ms) (value_at (las_flow las) ts)
       ends = ran.ends
           (λ j a b e f. record { fault = calm j b (slice_get_within (m ∷ ms) j b f) f; short = refl })
           (λ a e. let same : n ≡ a = same_some n a e in subst (λ (x : Node (Kind S K)). tells_of s.bytes x.work ≡ true) same starts.1)
-          (value_at (las_flow las) hs)
+          (value_at (las_flow las) ts)
           (record {
             first = λ a e. (let same : n ≡ a = same_some n a e in subst (λ (x : Node (Kind S K)). told_of s.bytes x.work ≡ flow_marks (las_flow las)) same starts.0);
-            next = λ j a e. streams-on s k chunk writer hs ns new.1 (las_flow las) j a e;
+            next = λ j a e. streams-on s k chunk ts ns ms behind (las_flow las) j a e;
           })
 
       first_fault : m.fault ≡ cut_fault las
       first_fault = ends.first n m refl refl ∙ starts.2
 
-      took : (j : ℕ) (a b : Node (Kind S K)) → slice_get ns j ≡ Some a → slice_get ms j ≡ Some b → Took (as_works s k) (value_at (las_flow las) hs j) a b
-      took j a b e f = ends.took j a b e f
+      took : AllTook s k chunk (las_flow las) ts ns ms
+      took = λ j a b e f. ends.took j a b e f
 
       whole : m.fault ≡ None → whole_flow las ≡ Ok (las_flow las)
       whole e = no_cut las las.cut refl (sym first_fault ∙ e)
 
-      counted-all : map count_at (m ∷ ms) ≡ counts (las_flow las) hs
-      counted-all = counted s k chunk writer hs (las_flow las) m ms (let z = size in omega (arith, z)) (λ j x e. ends.gave j x e)
+      counted_so : counted_from 0 (t ∷ ts) (m ∷ ms) ≡ counts_from 0 (las_flow las) (t ∷ ts)
+      counted_so =
+          let same : passed t.options (las_flow las) ≡ las_flow las = through_reader t.options (las_flow las) chain.1 in
+          ap (λ c. c ∷ counted_from 1 ts ms) (one_count s k chunk 0 t (las_flow las) m (ends.gave 0 m refl))
+          ∙ ap (λ cs. count_of 0 t (las_flow las) ∷ cs) (counted-all s k chunk 1 ts ns ms behind (las_flow las) (λ j x e. ends.gave (suc j) x e))
+          ∙ ap (λ flow. count_of 0 t flow ∷ counts_from 1 flow ts) (sym same)
+
+      held_so : AllHold k.bytes (las_flow las) (t ∷ ts) (works_of (m ∷ ms))
+      held_so =
+          let same : passed t.options (las_flow las) ≡ las_flow las = through_reader t.options (las_flow las) chain.1 in
+          (first_holds (work_of m) back.0 back.1, subst (λ flow. AllHold k.bytes flow ts (works_of ms)) (sym same) (hold-all s k chunk ts ns ms behind (las_flow las) took))
+        where
+          first_holds : (w : Kind S K) (r : LasReader S) → w ≡ Reader r → HoldsOf k.bytes (las_flow las) w
+          first_holds w r e = subst (HoldsOf k.bytes (las_flow las)) (sym e) tt
 
       fault_is : (i : ℕ) (f : PointFault) → PointFaultAt (m ∷ ms) i f → whole_flow las ≡ Err (Data i (fault.Point f))
       fault_is zero f at = is_cut las las.cut f refl (sym first_fault ∙ at.1 m refl)
@@ -289,86 +226,83 @@ module _ {S K : Type 0} (s : source.Ghosts S) (k : sink.Ghosts K) (chunk : ℕ) 
         where
           by_place : (o : Option (Node (Kind S K))) → slice_get ms i ≡ o → ⊥
           by_place None e = none_within ms i e (let b = at.0 in omega arith)
-            where
-              none_within : (xs : List (Node (Kind S K))) (j : ℕ) → slice_get xs j ≡ None → j < length xs → ⊥
-              none_within [] j e h = absurd (omega arith)
-              none_within (x ∷ xs) zero e h = cc
-              none_within (x ∷ xs) (suc j) e h = none_within xs j e (omega arith)
-          by_place (Some b) e = let x = behind.sound (las_flow las) took i b e in let y = at.1 b e in (let z : None ≡ Some (stage.Point f) = sym x ∙ y in cc)
+          by_place (Some b) e = let x = sound-all s k chunk ts ns ms behind (las_flow las) took i b e in let y = at.1 b e in (let z : None ≡ Some (stage.Point f) = sym x ∙ y in cc)
 
-    device_at : (i : ℕ) → DeviceAt (m ∷ ms) i → AtTurns (Rose (s.faults reader.source) (s.faults back.0.source)) (Rose (k.faults writer.sink) (k.faults behind.writer'.sink)) (length hs + 1) (Stage i) (op_at i)
-    device_at zero at =
-        let r = first_calm.cause (new_fault s k chunk writer 0 (Reader reader) n new.0) (at.1 m refl) in
-        let a = old_faults in let b = new_faults in
-        inl (refl, (refl, omega (arith, r, a, b)))
+    device_at : (i : ℕ) → DeviceAt (m ∷ ms) i → AtTurns (faults_of s.faults k.faults) (works_of (n ∷ ns)) (works_of (m ∷ ms)) (t ∷ ts) (Stage i) (op_at i)
+    device_at zero at = (inl (refl, refl), record { before = work_of n; after = work_of m; was = refl; is = refl; rose = first_calm.cause (new_fault s k chunk 0 (Reader reader) n new.0) (at.1 m refl) })
     device_at (suc i) at = by_place (slice_get ms i) refl
       where
-        by_place : (o : Option (Node (Kind S K))) → slice_get ms i ≡ o → AtTurns (Rose (s.faults reader.source) (s.faults back.0.source)) (Rose (k.faults writer.sink) (k.faults behind.writer'.sink)) (length hs + 1) (Stage (suc i)) (op_at (suc i))
+        by_place : (o : Option (Node (Kind S K))) → slice_get ms i ≡ o → AtTurns (faults_of s.faults k.faults) (works_of (n ∷ ns)) (works_of (m ∷ ms)) (t ∷ ts) (Stage (suc i)) (op_at (suc i))
         by_place None e = absurd (none_within ms i e (let b = at.0 in omega arith))
-          where
-            none_within : (xs : List (Node (Kind S K))) (j : ℕ) → slice_get xs j ≡ None → j < length xs → ⊥
-            none_within [] j e h = absurd (omega arith)
-            none_within (x ∷ xs) zero e h = cc
-            none_within (x ∷ xs) (suc j) e h = none_within xs j e (omega arith)
-        by_place (Some b) e = let r = behind.risen i b e (at.1 b e) in inr ((let q = r.0 in omega (arith, q)), (ap (λ b. cond b Read Write) (ne_eqb (suc i) 0 (λ z. absurd (omega (arith, z)))), r.1))
+        by_place (Some b) e =
+            let r = failed-at s k chunk ts ns ms behind i b e (at.1 b e) in (
+              inr ((r.0.0, r.0.1, r.0.2), ap (λ x. cond x Read Write) (ne_eqb (suc i) 0 (λ z. absurd (omega (arith, z))))),
+              record { before = r.1.before; after = r.1.after; was = r.1.was; is = r.1.is; rose = r.1.rose },
+            )
 
-    ended-so : Ended (m ∷ ms)
-    ended-so = record {
-      reader' = back.0;
-      writer' = behind.writer';
-      stages = record { heads = behind.middle; are_heads = behind.are_heads; works = ap (λ w. w ∷ map work_of ms) back.1 ∙ ap (λ ws. Reader back.0 ∷ ws) behind.works };
-      few = size;
-      read = let f = first_calm.faults in let a = old_faults in let b = new_faults in omega (arith, f, a, b);
-      wrote = behind.wrote;
-      ok = λ start sound file told.
+    ended_so : Ended (t ∷ ts) reader (n ∷ ns) (m ∷ ms)
+    ended_so = record {
+      size = first_size;
+      fit = fit_so;
+      ok = λ sound file told.
           let calm : NoDevice (m ∷ ms) (length (m ∷ ms)) = λ j x h e. ap is_device (sound j x e) in
-          (whole start calm file told (sound 0 m refl), counted-all start calm file told, behind.held (las_flow (las_with reader.header file)) (took start calm file told));
-      faulty = λ start i f calm at file told. fault_is start calm file told i f at;
+          (whole calm file told (sound 0 m refl), counted_so calm file told, held_so calm file told);
+      faulty = λ i f calm at file told. fault_is calm file told i f at;
       device = device_at;
     }
 
-  pub ended : (old new : List (Node (Kind S K))) → AreNew (as_works s k) chunk 0 (works_of reader hs writer) old → IsRanChain (as_works s k) old new → Ended new
-  ended [] new are ran = absurd are
-  ended (n ∷ ns) [] are ran = absurd (let c = ran.count in omega (arith, c))
-  ended (n ∷ ns) (m ∷ ms) are ran = ended-so n m ns ms are ran
+  pub ended : (stages : List StageSpec) (reader : LasReader S) (old new : List (Node (Kind S K))) → IsChain stages → IsLined s k stages reader old → IsRanChain (as_works s k) old new → Ended stages reader old new
+  ended [] reader old new chain is ran = absurd chain
+  ended (t ∷ ts) reader [] new chain is ran = absurd is.new
+  ended (t ∷ ts) reader (n ∷ ns) [] chain is ran = absurd (let c = ran.count in omega (arith, c))
+  ended (t ∷ ts) reader (n ∷ ns) (m ∷ ms) chain is ran = ended_so is.chunk reader is.rest t ts chain is.start n m ns ms is.new ran
 
   -- what a run that was refused says
-  pub because : (new : List (Node (Kind S K))) (e : Ended new) (refusal : Refusal) → reader.progress ≡ Records 0 → IsOutcome new refusal → (file : List ℕ) → s.bytes reader.source ≡ Some file →
-      Because (whole_flow (las_with reader.header file)) (AtTurns (Rose (s.faults reader.source) (s.faults e.reader'.source)) (Rose (k.faults writer.sink) (k.faults e.writer'.sink)) (length hs + 1)) refusal
-  because new e Memory start out file told = absurd out
-  because new e (NotBuilt r) start out file told = absurd out
-  because new e (Usage k) start out file told = absurd out
-  because new e (Data i (fault.Header f)) start out file told = absurd out
-  because new e (Data i (fault.Vlr f)) start out file told = absurd out
-  because new e (Data i (fault.Point f)) start out file told = e.faulty start i f out.0 out.1 file told
-  because new e (Device PipelineFile o) start out file told = absurd out
-  because new e (Device Out o) start out file told = absurd out
-  because new e (Device (Stage i) o) start out file told = inr (subst (AtTurns (Rose (s.faults reader.source) (s.faults e.reader'.source)) (Rose (k.faults writer.sink) (k.faults e.writer'.sink)) (length hs + 1) (Stage i)) (sym out.1) (e.device i out.0))
+  module _ (stages : List StageSpec) (reader : LasReader S) (old new : List (Node (Kind S K))) (e : Ended stages reader old new) where
+    pub because : (refusal : Refusal) → IsOutcome new refusal → (file : List ℕ) → s.bytes reader.source ≡ Some file →
+        Because (whole_flow (las_with reader.header file)) (AtTurns (faults_of s.faults k.faults) (works_of old) (works_of new) stages) refusal
+    because Memory out file told = absurd out
+    because (NotBuilt r) out file told = absurd out
+    because (Usage j) out file told = absurd out
+    because (Pipeline f) out file told = absurd out
+    because (Data i (fault.Header f)) out file told = absurd out
+    because (Data i (fault.Vlr f)) out file told = absurd out
+    because (Data i (fault.Point f)) out file told = e.faulty i f out.0 out.1 file told
+    because (Device PipelineFile o) out file told = absurd out
+    because (Device Out o) out file told = absurd out
+    because (Device (Stage i) o) out file told = inr (subst (AtTurns (faults_of s.faults k.faults) (works_of old) (works_of new) stages (Stage i)) (sym out.1) (e.device i out.0))
 
-  pub blamed : (new : List (Node (Kind S K))) (e : Ended new) (refusal : Refusal) → IsOutcome new refusal →
-      Blamed (AtTurns (Rose (s.faults reader.source) (s.faults e.reader'.source)) (Rose (k.faults writer.sink) (k.faults e.writer'.sink)) (length hs + 1)) refusal
-  blamed new e Memory out = absurd out
-  blamed new e (NotBuilt r) out = absurd out
-  blamed new e (Usage k) out = absurd out
-  blamed new e (Data i (fault.Header f)) out = absurd out
-  blamed new e (Data i (fault.Vlr f)) out = absurd out
-  blamed new e (Data i (fault.Point f)) out = tt
-  blamed new e (Device PipelineFile o) out = absurd out
-  blamed new e (Device Out o) out = absurd out
-  blamed new e (Device (Stage i) o) out = subst (AtTurns (Rose (s.faults reader.source) (s.faults e.reader'.source)) (Rose (k.faults writer.sink) (k.faults e.writer'.sink)) (length hs + 1) (Stage i)) (sym out.1) (e.device i out.0)
+    pub blamed : (refusal : Refusal) → IsOutcome new refusal → Blamed (AtTurns (faults_of s.faults k.faults) (works_of old) (works_of new) stages) refusal
+    blamed Memory out = absurd out
+    blamed (NotBuilt r) out = absurd out
+    blamed (Usage j) out = absurd out
+    blamed (Pipeline f) out = absurd out
+    blamed (Data i (fault.Header f)) out = absurd out
+    blamed (Data i (fault.Vlr f)) out = absurd out
+    blamed (Data i (fault.Point f)) out = tt
+    blamed (Device PipelineFile o) out = absurd out
+    blamed (Device Out o) out = absurd out
+    blamed (Device (Stage i) o) out = subst (AtTurns (faults_of s.faults k.faults) (works_of old) (works_of new) stages (Stage i)) (sym out.1) (e.device i out.0)
 
-  -- nodes that had no turn
-  pub unturned : (old : List (Node (Kind S K))) → AreNew (as_works s k) chunk 0 (works_of reader hs writer) old → AreStages old reader writer
-  unturned [] are = absurd are
-  unturned (n ∷ ns) are = let t = works-tail hs ns are.1 in record { heads = map head_of hs; are_heads = all_heads hs; works = ap (λ w. w ∷ map work_of ns) are.0.work ∙ ap (λ ws. Reader reader ∷ ws) t }
-    where
-      all_heads : (xs : List ℕ) → Each {A = Kind S K} (λ x. is_head x ≡ true) (map head_of xs)
-      all_heads [] = tt
-      all_heads (x ∷ xs) = (refl, all_heads xs)
+  -- what is known of a run by the lists that its calls give on
+  module _ (stages : List StageSpec) (nodes listed back final seen : List (Node (Kind S K))) (chain : IsChain stages) (same : listed ≡ nodes) (ran : IsRanChain (as_works s k) listed back) (last : final ≡ back) (lent : seen ≡ final) where
+    pub ended-as : (reader : LasReader S) → IsLined s k stages reader nodes → Ended stages reader nodes final
+    ended-as reader is = ended stages reader nodes final chain is (subst (λ ns. IsRanChain (as_works s k) nodes ns) (sym last) (subst (λ ns. IsRanChain (as_works s k) ns back) same ran))
 
-      works-tail : (xs : List ℕ) (ys : List (Node (Kind S K))) → AreNew (as_works s k) chunk 1 (map head_of xs ++ Text writer ∷ []) ys → map work_of ys ≡ map head_of xs ++ Text writer ∷ []
-      works-tail [] [] a = absurd a
-      works-tail [] (y ∷ []) a = ap (λ w. w ∷ []) a.0.work
-      works-tail [] (y ∷ z ∷ ys) a = absurd a.1
-      works-tail (x ∷ xs) [] a = absurd a
-      works-tail (x ∷ xs) (y ∷ ys) a = ap (λ w. w ∷ map work_of ys) a.0.work ∙ ap (λ ws. head_of x ∷ ws) (works-tail xs ys a.1)
+    pub seen-fit : (reader : LasReader S) → IsLined s k stages reader nodes → length seen ≡ length stages
+    seen-fit reader is = ap length lent ∙ (ended-as reader is).size
+
+    module _ {C : Type 0} (items : C → List StageCount) (o : Result C Refusal) where
+      pub ok-is : IfOk o (λ c. NoFault seen × (items c ≡ counted_from 0 stages seen)) → IfOk o (λ c. (reader : LasReader S) (file : List ℕ) → IsLined s k stages reader nodes → s.bytes reader.source ≡ Some file
+          → (whole_flow (las_with reader.header file) ≡ Ok (las_flow (las_with reader.header file))) × (items c ≡ counts_from 0 (las_flow (las_with reader.header file)) stages) × AllHold k.bytes (las_flow (las_with reader.header file)) stages (works_of final))
+      ok-is known = IfOk-weaker o _ _ (λ c h. λ reader file is told.
+          (let t = (ended-as reader is).ok (subst NoFault lent h.0) file told in
+          (t.0, h.1 ∙ ap (counted_from 0 stages) lent ∙ t.1, t.2))) known
+
+      pub err-is : IfErr o (IsOutcome seen) → IfErr o (λ refusal. (reader : LasReader S) (file : List ℕ) → IsLined s k stages reader nodes → s.bytes reader.source ≡ Some file
+          → Because (whole_flow (las_with reader.header file)) (AtTurns (faults_of s.faults k.faults) (works_of nodes) (works_of final) stages) refusal)
+      err-is known = IfErr-weaker o _ _ (λ refusal out. λ reader file is told.
+          because stages reader nodes final (ended-as reader is) refusal (subst (λ ns. IsOutcome ns refusal) lent out) file told) known
+
+      pub blamed-is : (reader : LasReader S) → IsLined s k stages reader nodes → IfErr o (IsOutcome seen) → IfErr o (Blamed (AtTurns (faults_of s.faults k.faults) (works_of nodes) (works_of final) stages))
+      blamed-is reader is known = IfErr-weaker o _ _ (λ refusal out. blamed stages reader nodes final (ended-as reader is) refusal (subst (λ ns. IsOutcome ns refusal) lent out)) known

@@ -1,8 +1,9 @@
-pub mod Lined
 pub mod Faultless
-pub mod Ended
-pub mod Apart
-pub mod Turned
+pub mod Closing
 pub mod Causes
-pub mod Written
-pub mod Running
+pub mod Behaving
+pub mod Behind
+pub mod Ended
+pub mod Lined
+pub mod Kept
+pub mod Ran

@@ -1,14 +1,17 @@
 -- Why a step was refused, and what it leaves.
-use Rattle.std.specs.Prelude.{◌≡◌, ◌⊎◌, ℕ, ◌+◌, ◌≤◌, List, length, Bool, true, false, ◌||◌, Option, Some, Result, Err, IsOk, ⊤}
+use Rattle.std.specs.Prelude.{◌≡◌, ◌⊎◌, ℕ, ◌+◌, ◌≤◌, nat_lt, List, Bool, true, slice_get, Option, Some, Result, Err, IsOkAnd, ⊤}
+use Rattle.std.specs.List.{filter}
 use Rattle.file_devices.specs.Told.{IsAsTold}
+use Rattle.file_devices.specs.Counts.{Rose}
 use Rattle.file_devices.specs.Named.{Names}
 use Rattle.file_devices.specs.Content.{Appends, AppendsPart}
 use Rattle.file_devices.specs.declared.devices.Op.{Op}
 use Rattle.file_devices.specs.declared.devices.Op.TheVariants as op
-use Rattle.run_engine.specs.Runs.{Output, Run, put_all}
+use Rattle.stage_options.specs.declared.stage.StageSpec.{StageSpec}
+use Rattle.run_engine.specs.Chains.{Output, writes}
+use Rattle.run_engine.specs.Runs.{Run, put_all}
 use Rattle.run_report.specs.Reports.{report_of}
 use Rattle.run_report.specs.declared.report.StageCount.{StageCount}
-use Rattle.pipeline_json.specs.Pipelines.{Chain}
 use Rattle.run_report.specs.declared.refusal.Refusal.{Refusal}
 use Rattle.run_report.specs.declared.refusal.Refusal.TheVariants as of
 use Rattle.run_report.specs.declared.refusal.Place.{Place}
@@ -17,26 +20,29 @@ use Rattle.run_report.specs.declared.refusal.Place.TheVariants as at
 -- the refusal is the one that is expected, or want of memory, or a device that failed
 abbrev pub Because : {X : Type 0} → Result X Refusal → (Place → Op → Type 0) → Refusal → Type 0
 Because expected failed of.Memory = ⊤
+Because expected failed (of.Pipeline f) = expected ≡ Err (of.Pipeline f)
 Because expected failed (of.Data i f) = expected ≡ Err (of.Data i f)
 Because expected failed (of.NotBuilt r) = expected ≡ Err (of.NotBuilt r)
 Because expected failed (of.Usage k) = expected ≡ Err (of.Usage k)
 Because expected failed (of.Device p o) = (expected ≡ Err (of.Device p o)) ⊎ failed p o
 
--- a device is named only where it failed
-abbrev pub Blamed : (Place → Op → Type 0) → Refusal → Type 0
-Blamed failed of.Memory = ⊤
-Blamed failed (of.Data i f) = ⊤
-Blamed failed (of.NotBuilt r) = ⊤
-Blamed failed (of.Usage k) = ⊥
-Blamed failed (of.Device p o) = failed p o
-
 -- want of memory, or a device that failed
 abbrev pub OnlyBlamed : (Place → Op → Type 0) → Refusal → Type 0
 OnlyBlamed failed of.Memory = ⊤
+OnlyBlamed failed (of.Pipeline f) = ⊥
 OnlyBlamed failed (of.Data i f) = ⊥
 OnlyBlamed failed (of.NotBuilt r) = ⊥
 OnlyBlamed failed (of.Usage k) = ⊥
 OnlyBlamed failed (of.Device p o) = failed p o
+
+-- a fault of the data, want of memory, or a device that failed
+abbrev pub Blamed : (Place → Op → Type 0) → Refusal → Type 0
+Blamed failed of.Memory = ⊤
+Blamed failed (of.Pipeline f) = ⊥
+Blamed failed (of.Data i f) = ⊤
+Blamed failed (of.NotBuilt r) = ⊥
+Blamed failed (of.Usage k) = ⊥
+Blamed failed (of.Device p o) = failed p o
 
 -- over files that tell nothing a device is named only where its count rose: that of the files, or that of the output
 abbrev pub RisenAt : Type 0 → Type 0 → Place → Type 0
@@ -46,6 +52,7 @@ RisenAt files out at.Out = out
 
 abbrev pub Risen : Type 0 → Type 0 → Refusal → Type 0
 Risen files out of.Memory = ⊤
+Risen files out (of.Pipeline f) = ⊤
 Risen files out (of.Data i f) = ⊤
 Risen files out (of.NotBuilt r) = ⊤
 Risen files out (of.Usage k) = ⊤
@@ -60,6 +67,7 @@ IsNotOutAt at.Out = ⊥
 -- it is neither for the words nor for the program's output
 abbrev pub IsInside : Refusal → Type 0
 IsInside of.Memory = ⊤
+IsInside (of.Pipeline f) = ⊤
 IsInside (of.Data i f) = ⊤
 IsInside (of.NotBuilt r) = ⊤
 IsInside (of.Usage k) = ⊥
@@ -82,13 +90,7 @@ AtText rose at.PipelineFile op.Keep = ⊥
 AtText rose (at.Stage i) o = ⊥
 AtText rose at.Out o = ⊥
 
--- this operation of a stage failed
-abbrev pub AtStage : ℕ → Op → Type 0 → Place → Op → Type 0
-AtStage i operation rose at.PipelineFile o = ⊥
-AtStage i operation rose at.Out o = ⊥
-AtStage i operation rose (at.Stage j) o = (j ≡ i) × (o ≡ operation) × rose
-
--- what may fail at the reader
+-- what may fail at a reader
 abbrev pub AtReader : Type 0 → Op → Type 0
 AtReader rose op.Open = rose
 AtReader rose op.Read = rose
@@ -103,7 +105,7 @@ AtOpening rose at.PipelineFile o = ⊥
 AtOpening rose at.Out o = ⊥
 AtOpening rose (at.Stage i) o = (i ≡ 0) × AtReader rose o
 
--- what may fail at the writer: its keeping only where the answer is right, the rest only where the reader's file was opened
+-- what may fail at a writer: its keeping only where the answer is right, the rest only where the reader's file was opened
 abbrev pub AtWriter : Type 0 → Type 0 → Type 0 → Op → Type 0
 AtWriter rose opened right op.Open = ⊥
 AtWriter rose opened right op.Read = ⊥
@@ -112,23 +114,39 @@ AtWriter rose opened right op.Write = rose × opened
 AtWriter rose opened right op.Patch = ⊥
 AtWriter rose opened right op.Keep = rose × right
 
--- at the first stage the reader's, and at the last one, which has this number, the writer's
-abbrev pub AtPlaces : (Op → Type 0) → (Op → Type 0) → ℕ → ℕ → Op → Type 0
-AtPlaces reader writer last i o = ((i ≡ 0) × reader o) ⊎ ((i ≡ last) × writer o)
+-- what may fail while the file of a stage is created, if it writes one
+abbrev pub AtNewFile : Type 0 → Bool → ℕ → Place → Op → Type 0
+AtNewFile rose writer stage at.PipelineFile o = ⊥
+AtNewFile rose writer stage at.Out o = ⊥
+AtNewFile rose writer stage (at.Stage i) o = (i ≡ stage) × (writer ≡ true) × AtWriter rose ⊤ ⊥ o
+
+-- the stage with this number is a writer
+abbrev pub WritesAt : List StageSpec → ℕ → Type 0
+WritesAt stages i = (s : StageSpec) × (slice_get stages i ≡ Some s) × (writes s.options ≡ true)
+
+-- at the first stage the reader's, and at a writer the writer's
+abbrev pub AtPlaces : (Op → Type 0) → (Op → Type 0) → List StageSpec → ℕ → Op → Type 0
+AtPlaces reader writer stages i o = ((i ≡ 0) × reader o) ⊎ (WritesAt stages i × writer o)
 
 -- what may fail once there is a pipeline
-abbrev pub AtStages : (Op → Type 0) → (Op → Type 0) → ℕ → Place → Op → Type 0
-AtStages reader writer last at.PipelineFile o = ⊥
-AtStages reader writer last at.Out o = ⊥
-AtStages reader writer last (at.Stage i) o = AtPlaces reader writer last i o
+abbrev pub AtStages : (Op → Type 0) → (Op → Type 0) → List StageSpec → Place → Op → Type 0
+AtStages reader writer stages at.PipelineFile o = ⊥
+AtStages reader writer stages at.Out o = ⊥
+AtStages reader writer stages (at.Stage i) o = AtPlaces reader writer stages i o
 
--- the reader's or the writer's device failed while the stages took turns
-abbrev pub AtTurns : Type 0 → Type 0 → ℕ → Place → Op → Type 0
-AtTurns read written last = AtStages (λ o. (o ≡ op.Read) × read) (λ o. (o ≡ op.Write) × written) last
+-- the device of the work at a place failed, by works before and after
+pub record FailedAt {W : Type 0} (faults : W → ℕ) (old new : List W) (i : ℕ) : Type 0 where
+  pub before : W
+  pub after : W
+  pub was : slice_get old i ≡ Some before
+  pub is : slice_get new i ≡ Some after
+  pub rose : Rose (faults before) (faults after)
 
--- the number of a chain's writer
-abbrev pub last_stage : Chain → ℕ
-last_stage chain = length chain.heads + 1
+-- a device failed while the stages took turns
+abbrev pub AtTurns : {W : Type 0} → (W → ℕ) → List W → List W → List StageSpec → Place → Op → Type 0
+AtTurns faults old new stages at.PipelineFile o = ⊥
+AtTurns faults old new stages at.Out o = ⊥
+AtTurns faults old new stages (at.Stage i) o = AtPlaces (λ x. x ≡ op.Read) (λ x. x ≡ op.Write) stages i o × FailedAt faults old new i
 
 -- where the map is told, it has these outputs put under their names
 abbrev pub WerePut : Option Names → List Output → Option Names → Type 0
@@ -149,32 +167,30 @@ pub record IsPartDone (old new : Option Names) (out_before out : Option (List �
   pub put : WerePut old run.outputs new
   pub report : AppendsPart out_before run.report out
 
-abbrev pub is_keep : Op → Bool
-is_keep op.Open = false
-is_keep op.Read = false
-is_keep op.Create = false
-is_keep op.Write = false
-is_keep op.Patch = false
-is_keep op.Keep = true
+-- the outputs of the stages before one
+abbrev pub outputs_before : ℕ → List Output → List Output
+outputs_before i outputs = filter (λ output. nat_lt output.stage i) outputs
 
-abbrev pub is_out : Place → Bool
-is_out at.PipelineFile = false
-is_out (at.Stage i) = false
-is_out at.Out = true
+-- the outputs of the stages before one were put
+abbrev pub WerePutBefore : ℕ → Option Names → Option Names → Run → Type 0
+WerePutBefore i old new run = WerePut old (outputs_before i run.outputs) new
 
--- after these refusals the output may be kept
-abbrev pub may_be_kept : Refusal → Bool
-may_be_kept of.Memory = true
-may_be_kept (of.Data i f) = false
-may_be_kept (of.NotBuilt r) = false
-may_be_kept (of.Usage k) = false
-may_be_kept (of.Device p o) = is_out p || is_keep o
+-- what a device that failed leaves: all outputs where only the report couldn't be printed; where an output wasn't kept, those before it, and perhaps that one; else nothing
+abbrev pub IsLeftAt : Place → Op → Option Names → Option Names → Result Run Refusal → Type 0
+IsLeftAt at.Out o old new expected = IsOkAnd expected (λ run. WerePut old run.outputs new)
+IsLeftAt at.PipelineFile o old new expected = new ≡ old
+IsLeftAt (at.Stage i) op.Keep old new expected = IsOkAnd expected (λ run. WerePutBefore i old new run ⊎ WerePutBefore (i + 1) old new run)
+IsLeftAt (at.Stage i) op.Open old new expected = new ≡ old
+IsLeftAt (at.Stage i) op.Read old new expected = new ≡ old
+IsLeftAt (at.Stage i) op.Create old new expected = new ≡ old
+IsLeftAt (at.Stage i) op.Write old new expected = new ≡ old
+IsLeftAt (at.Stage i) op.Patch old new expected = new ≡ old
 
--- the map after a refusal: as before, or with the outputs put where the answer is right
-abbrev pub IsLeft : Refusal → Option Names → Option Names → Type 0 → List Output → Type 0
-IsLeft refusal old new right outputs = (new ≡ old) ⊎ ((may_be_kept refusal ≡ true) × right × WerePut old outputs new)
-
--- a file wasn't kept: the run had this refusal, and the files are as before; or its keeping found no memory or failed, and the map is as before or as after it
-abbrev pub IsKept : {C : Type 0} → Result C Refusal → ℕ → Type 0 → Option Names → Option Names → Option Names → Refusal → Type 0
-IsKept outcome stage rose old new kept refusal =
-    ((outcome ≡ Err refusal) × (new ≡ old)) ⊎ (IsOk outcome × ((refusal ≡ of.Memory) ⊎ ((refusal ≡ of.Device (at.Stage stage) op.Keep) × rose)) × ((new ≡ old) ⊎ (new ≡ kept)))
+-- what a refusal leaves: want of memory the map as it was, or with the first outputs where the answer is right
+abbrev pub IsLeft : Refusal → Option Names → Option Names → Result Run Refusal → Type 0
+IsLeft of.Memory old new expected = (new ≡ old) ⊎ IsOkAnd expected (λ run. (i : ℕ) × WerePutBefore i old new run)
+IsLeft (of.Pipeline f) old new expected = new ≡ old
+IsLeft (of.Data i f) old new expected = new ≡ old
+IsLeft (of.NotBuilt r) old new expected = new ≡ old
+IsLeft (of.Usage k) old new expected = new ≡ old
+IsLeft (of.Device p o) old new expected = IsLeftAt p o old new expected

@@ -2,6 +2,6 @@ pub mod Chains
 pub mod Refusals
 pub mod Runs
 pub mod Cause
-pub mod Lines
+pub mod Works
 pub mod Outcomes
 pub mod Opened

@@ -1,5 +1,5 @@
 -- What the nodes of a run came to.
-use Rattle.std.specs.Prelude.{◌≡◌, ℕ, ◌<◌, ◌==◌, true, false, cond, List, length, Option, Some, None, slice_get}
+use Rattle.std.specs.Prelude.{◌≡◌, ℕ, ◌+◌, ◌<◌, ◌==◌, true, false, cond, List, [], ◌∷◌, length, Option, Some, None, slice_get}
 use Rattle.file_devices.specs.declared.devices.Op.{Op}
 use Rattle.file_devices.specs.declared.devices.Op.TheVariants.{Read, Write}
 use Rattle.cloud_points.specs.declared.faults.PointFault.{PointFault}
@@ -8,11 +8,13 @@ use Rattle.cloud_points.specs.declared.faults.StageFault.TheVariants as stage
 use Rattle.cloud_points.specs.Events.{is_device}
 use Rattle.cloud_points.specs.Queue.{up_to_limit}
 use Rattle.network_core.specs.declared.node.Node.{Node}
+use Rattle.stage_options.specs.declared.stage.StageSpec.{StageSpec}
+use Rattle.run_engine.specs.Chains.{writes}
 use Rattle.run_report.specs.declared.report.StageCount.{StageCount}
 use Rattle.run_report.specs.declared.refusal.Place.TheVariants.{PipelineFile, Stage, Out}
 use Rattle.run_report.specs.declared.refusal.Fault.TheVariants.{Header, Vlr, Point}
 use Rattle.run_report.specs.declared.refusal.Refusal.{Refusal}
-use Rattle.run_report.specs.declared.refusal.Refusal.TheVariants.{Usage, Data, Device, Memory, NotBuilt}
+use Rattle.run_report.specs.declared.refusal.Refusal.TheVariants.{Usage, Pipeline, Data, Device, Memory, NotBuilt}
 
 -- no device failed at one of the first so many nodes, and one did at this node
 abbrev pub NoDevice : {W : Type 0} → List (Node W) → ℕ → Type 0
@@ -36,11 +38,23 @@ PointFaultAt {W} nodes i f = (i < length nodes) × ((n : Node W) → slice_get n
 abbrev pub NoFault : {W : Type 0} → List (Node W) → Type 0
 NoFault {W} nodes = (k : ℕ) (n : Node W) → slice_get nodes k ≡ Some n → n.fault ≡ None
 
--- what a node gave on
-abbrev pub count_at : {W : Type 0} → Node W → StageCount
-count_at n = record { views = up_to_limit n.views; points = up_to_limit n.points }
+-- what a stage's node gave on
+abbrev pub count_at : {W : Type 0} → ℕ → StageSpec → Node W → StageCount
+count_at i s n = record {
+  stage = i;
+  kind = s.kind;
+  views = up_to_limit n.views;
+  points = up_to_limit n.points;
+  wrote = cond (writes s.options) (Some (up_to_limit n.points)) None;
+}
 
--- the operation that a stage's device does in turns
+-- what the nodes of these stages gave on; the first has this number
+abbrev pub counted_from : {W : Type 0} → ℕ → List StageSpec → List (Node W) → List StageCount
+counted_from i [] nodes = []
+counted_from i (s ∷ later) [] = []
+counted_from i (s ∷ later) (n ∷ nodes) = count_at i s n ∷ counted_from (i + 1) later nodes
+
+-- the operation that a stage's device does in turns: the first stage reads, the others write
 abbrev pub op_at : ℕ → Op
 op_at stage = cond (stage == 0) Read Write
 
@@ -49,6 +63,7 @@ abbrev pub IsOutcome : {W : Type 0} → List (Node W) → Refusal → Type 0
 IsOutcome nodes Memory = ⊥
 IsOutcome nodes (NotBuilt r) = ⊥
 IsOutcome nodes (Usage k) = ⊥
+IsOutcome nodes (Pipeline f) = ⊥
 IsOutcome nodes (Data i (Header f)) = ⊥
 IsOutcome nodes (Data i (Vlr f)) = ⊥
 IsOutcome nodes (Data i (Point f)) = NoDevice nodes (length nodes) × PointFaultAt nodes i f

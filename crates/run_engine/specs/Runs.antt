@@ -3,11 +3,10 @@ use Rattle.std.specs.Prelude.{ℕ, List, [], ◌∷◌, Option, Some, None, Resu
 use Rattle.file_devices.specs.Named.{Names, put}
 use Rattle.file_devices.specs.declared.devices.Op.TheVariants.{Open}
 use Rattle.cloud_points.specs.declared.point.Point.{Point}
-use Rattle.cloud_points.specs.Flows.{Flow, points}
+use Rattle.cloud_points.specs.Flows.{Flow}
 use Rattle.cloud_points.specs.declared.faults.PointFault.TheVariants.{Cut}
 use Rattle.las_reader.specs.Frames.{LasFault, In_header, In_list}
 use Rattle.las_reader.specs.Files.{Las, las_of}
-use Rattle.pipeline_json.specs.Pipelines.{Chain}
 use Rattle.run_report.specs.declared.refusal.Place.{Place}
 use Rattle.run_report.specs.declared.refusal.Place.TheVariants.{Stage}
 use Rattle.run_report.specs.declared.refusal.Fault.TheVariants as fault
@@ -15,14 +14,11 @@ use Rattle.run_report.specs.declared.refusal.Refusal.{Refusal}
 use Rattle.run_report.specs.declared.refusal.Refusal.TheVariants.{Data, Device}
 use Rattle.run_report.specs.Reports.{report_of}
 use Rattle.stage_kinds.specs.Reads.{las_flow}
-use Rattle.text_writer.specs.TextOutput.{text_output}
-use Rattle.run_engine.specs.Chains.{streamed, counts}
+use Rattle.stage_options.specs.declared.options.Options.{Options}
+use Rattle.stage_options.specs.declared.options.Options.TheVariants.{ReadersLas, FiltersHead, WritersText}
+use Rattle.stage_options.specs.declared.stage.StageSpec.{StageSpec}
+use Rattle.run_engine.specs.Chains.{Output, counts_from, outputs_from}
 use Rattle.run_engine.specs.Refusals.{and_then}
-
--- a file that is kept
-pub record Output : Type 0 where
-  pub name : List ℕ
-  pub bytes : List ℕ
 
 -- the files that a run keeps, in the order of their stages, and what it reports
 pub record Run : Type 0 where
@@ -57,16 +53,26 @@ to_end las (Some k) = Err (Data 0 (fault.Point (Cut k)))
 abbrev pub whole_flow : Las → Result (Flow Point) Refusal
 whole_flow las = to_end las las.cut
 
--- what a run over this flow gives
-abbrev pub written : Chain → Flow Point → Run
-written chain flow = record {
-  outputs = record { name = chain.to; bytes = text_output (points (streamed flow chain.heads)) } ∷ [];
-  report = report_of (counts flow chain.heads);
+-- the file that a chain's reader reads
+abbrev pub source_in : Options → List ℕ
+source_in (ReadersLas filename) = filename
+source_in (FiltersHead count only) = []
+source_in (WritersText filename order precision delimiter quote_header write_header only) = []
+
+abbrev pub source_of : List StageSpec → List ℕ
+source_of [] = []
+source_of (s ∷ later) = source_in s.options
+
+-- what a run gives whose reader gives this flow
+abbrev pub run_over : List StageSpec → Flow Point → Run
+run_over stages flow = record {
+  outputs = outputs_from 0 flow stages;
+  report = report_of (counts_from 0 flow stages);
 }
 
 -- what the run of a chain comes to
-abbrev pub converted : Chain → Las → Result Run Refusal
-converted chain las = and_then (whole_flow las) (λ flow. Ok (written chain flow))
+abbrev pub converted : List StageSpec → Las → Result Run Refusal
+converted stages las = and_then (whole_flow las) (λ flow. Ok (run_over stages flow))
 
-abbrev pub run_of : Names → Chain → Result Run Refusal
-run_of m chain = and_then (las_at (m chain.from)) (converted chain)
+abbrev pub run_of : Names → List StageSpec → Result Run Refusal
+run_of m stages = and_then (las_at (m (source_of stages))) (converted stages)

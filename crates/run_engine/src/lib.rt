@@ -1,13 +1,13 @@
 //! Runs pipelines: opens their files, lets their stages take turns, and keeps their outputs.
 #![tactic(auto)]
 
+mod close;
 mod line;
 mod open;
 mod outcome;
 mod run;
 mod shape;
-mod stages;
+mod turns;
 
-pub use outcome::Counts;
 pub use run::run_pipeline;
 pub use shape::Shape;

@@ -6,7 +6,7 @@ ghost use Rattle.file_devices.specs.Named.{Names};
 ghost use Rattle.las_reader.specs.declared.reader.Progress.TheVariants.{Records};
 ghost use Rattle.text_writer.specs.TextOutput.{holds_text};
 ghost use Rattle.run_engine.specs.Runs.{las_at};
-ghost use Rattle.run_engine.specs.Cause.{Because, Blamed, OnlyBlamed, IsInside, AtOpening, AtStages, AtWriter};
+ghost use Rattle.run_engine.specs.Cause.{Because, Blamed, OnlyBlamed, IsInside, AtOpening, AtNewFile};
 ghost use Rattle.run_engine.specs.Opened.{IsReading, opening_refusal};
 
 use file_devices::{DeviceErr, Files, Op};
@@ -66,7 +66,7 @@ pub(crate) fn open_writer<F: Files>(
     stage: u32,
 ) -> Result<TextWriter<F::Out>, Refusal>
     ensures holds { IfOk result (λ w. holds_text (F.Out.bytes w.sink) [] ≡ true) }
-    ensures err { IfErr result (OnlyBlamed (AtStages (λ o. ⊥) (AtWriter (Rose (F.faults files.old) (F.faults files.new)) ⊤ ⊥) stage)) }
+    ensures err { IfErr result (OnlyBlamed (AtNewFile (Rose (F.faults files.old) (F.faults files.new)) true stage)) }
     ensures map { F.map files.new ≡ F.map files.old }
     ensures lent_ok { OnOk result (F.lent files.new ≡ F.lent files.old + 1) }
     ensures lent_err { OnErr result (F.lent files.new ≡ F.lent files.old) }

@@ -1,17 +1,15 @@
 //! What the stages of a run came to.
 
-ghost use Rattle.std.specs.Prelude.{◌≡◌, ◌<◌, ◌≤◌, ◌==◌, ℕ, length, map, cond, Some, None, IfOk, IfErr, IfSome, IfNone};
+ghost use Rattle.std.specs.Prelude.{◌≡◌, ◌<◌, ◌≤◌, ◌==◌, ℕ, length, cond, Some, None, IfOk, IfErr, IfSome, IfNone};
 ghost use Rattle.cloud_points.specs.Events.{is_device};
-ghost use Rattle.run_engine.specs.Outcomes.{NoDevice, DeviceAt, PointFaultAt, NoPointFault, NoFault, IsOutcome, point_fault, count_at, op_at};
+ghost use Rattle.run_engine.specs.Chains.{writes};
+ghost use Rattle.run_engine.specs.Outcomes.{NoDevice, DeviceAt, PointFaultAt, NoPointFault, NoFault, IsOutcome, point_fault, count_at, counted_from, op_at};
 
-use arrayvec::ArrayVec;
 use cloud_points::{PointFault, StageFault, Work};
 use file_devices::Op;
 use network_core::Node;
-use run_report::{Fault, Place, Refusal, StageCount};
-
-/// How many views and points each stage of a run gave on, in the order of the stages, which are at most 64.
-pub type Counts = ArrayVec<StageCount, 64>;
+use run_report::{Fault, Place, Refusal, Report, StageCount};
+use stage_options::{Options, StageSpec};
 
 fn is_device(fault: Option<StageFault>) -> bool
     ensures { result ≡ is_device fault }
@@ -54,22 +52,44 @@ fn faulty_stage<W: Work>(nodes: &[Node<W>]) -> Option<(usize, PointFault)>
     None
 }
 
-/// What each stage gave on.
-fn counts<W: Work>(nodes: &[Node<W>]) -> Counts
-    requires { length nodes.now ≤ 64 }
-    ensures { result.items ≡ map count_at nodes.now }
+fn writes(options: &Options) -> bool
+    ensures { result ≡ writes options.now }
 {
-    let mut counts = Counts::new();
-    for node in nodes {
-        counts.push(StageCount {
-            views: node.views(),
-            points: node.points(),
-        });
-    }
-    counts
+    matches!(options, Options::WritersText { .. })
 }
 
-/// The operation that a stage's device does in turns: the first stage reads, and the last one writes.
+/// What the node of stage i gave on.
+fn count_at<W: Work>(i: u32, stage: &StageSpec, node: &Node<W>) -> StageCount
+    ensures { result ≡ count_at i stage.now node.now }
+{
+    let points = node.points();
+    StageCount {
+        stage: i,
+        kind: stage.kind,
+        views: node.views(),
+        points,
+        wrote: if writes(&stage.options) {
+            Some(points)
+        } else {
+            None
+        },
+    }
+}
+
+/// What the node of each stage gave on.
+fn counts<W: Work>(stages: &[StageSpec], nodes: &[Node<W>]) -> Report
+    requires fit { length nodes.now ≡ length stages.now }
+    requires few { length stages.now ≤ 64 }
+    ensures { result.items ≡ counted_from 0 stages.now nodes.now }
+{
+    let mut report = Report::new();
+    for i in 0..nodes.len() {
+        report.push(count_at(i as u32, &stages[i], &nodes[i]));
+    }
+    report
+}
+
+/// The operation that a stage's device does in turns: the first stage reads, and the others write.
 fn op_at(stage: usize) -> Op
     ensures { result ≡ op_at stage }
 {
@@ -78,9 +98,10 @@ fn op_at(stage: usize) -> Op
 
 /// What a run came to whose nodes are done: the least stage whose device failed, or else the least stage whose points have a
 /// fault, or else what each stage gave on.
-pub(crate) fn outcome<W: Work>(nodes: &[Node<W>]) -> Result<Counts, Refusal>
-    requires { length nodes.now ≤ 64 }
-    ensures ok { IfOk result (λ counts. NoFault nodes.now × (counts.items ≡ map count_at nodes.now)) }
+pub(crate) fn outcome<W: Work>(stages: &[StageSpec], nodes: &[Node<W>]) -> Result<Report, Refusal>
+    requires fit { length nodes.now ≡ length stages.now }
+    requires few { length stages.now ≤ 64 }
+    ensures ok { IfOk result (λ report. NoFault nodes.now × (report.items ≡ counted_from 0 stages.now nodes.now)) }
     ensures err { IfErr result (IsOutcome nodes.now) }
 {
     if let Some(stage) = failed_stage(nodes) {
@@ -89,5 +110,5 @@ pub(crate) fn outcome<W: Work>(nodes: &[Node<W>]) -> Result<Counts, Refusal>
     if let Some((stage, fault)) = faulty_stage(nodes) {
         return Err(Refusal::Data(stage as u32, Fault::Point(fault)));
     }
-    Ok(counts(nodes))
+    Ok(counts(stages, nodes))
 }

@@ -11,12 +11,14 @@ use Rattle.las_vlr.specs.declared.entry.VlrFault.TheVariants.{TooManyVlrs, VlrPa
 use Rattle.cloud_points.specs.declared.faults.PointFault.{PointFault}
 use Rattle.cloud_points.specs.declared.faults.PointFault.TheVariants.{Cut, NotHeld, ValueOutOfRange, DivideByZero, ArithOverflow}
 use Rattle.cloud_points.specs.Dims.{name_of}
+use Rattle.stage_names.specs.declared.faults.PipeFault.{PipeFault}
+use Rattle.stage_names.specs.declared.faults.PipeFault.TheVariants.{TextTooLong, NotJson, NotAPipeline, Empty, TooManyStages, BadStage, TypeUnknown, CannotInfer, TagTwice, TagUnknown, InputOfReader, NoInput, UsedTwice, Loose, OptionUnknown, OptionMissing, OptionValue, SameOutput, DimUnknown, DimNotNumeric, TooManyDims}
 use Rattle.run_report.specs.declared.refusal.Place.{Place}
 use Rattle.run_report.specs.declared.refusal.Place.TheVariants.{PipelineFile, Stage, Out}
 use Rattle.run_report.specs.declared.refusal.Fault.{Fault}
 use Rattle.run_report.specs.declared.refusal.Fault.TheVariants.{Header, Vlr, Point}
 use Rattle.run_report.specs.declared.refusal.Refusal.{Refusal}
-use Rattle.run_report.specs.declared.refusal.Refusal.TheVariants.{Usage, Data, Device, Memory, NotBuilt}
+use Rattle.run_report.specs.declared.refusal.Refusal.TheVariants.{Usage, Pipeline, Data, Device, Memory, NotBuilt}
 
 abbrev pub axis_text : Axis → List ℕ
 axis_text X = codes "X"
@@ -59,6 +61,33 @@ fault_text (Header f) = header_fault_text f
 fault_text (Vlr f) = vlr_fault_text f
 fault_text (Point f) = point_fault_text f
 
+-- at the stage with this number
+abbrev pub at_stage : ℕ → List ℕ → List ℕ
+at_stage i text = codes "stage " ++ decimal i ++ codes ": " ++ text
+
+abbrev pub pipe_fault_text : PipeFault → List ℕ
+pipe_fault_text TextTooLong = codes "text too long"
+pipe_fault_text NotJson = codes "not JSON"
+pipe_fault_text NotAPipeline = codes "no stage list"
+pipe_fault_text Empty = codes "no stages"
+pipe_fault_text TooManyStages = codes "more than 64 stages"
+pipe_fault_text (BadStage i) = at_stage i (codes "malformed")
+pipe_fault_text (TypeUnknown i) = at_stage i (codes "unknown type")
+pipe_fault_text (CannotInfer i) = at_stage i (codes "no type for this file name")
+pipe_fault_text (TagTwice i) = at_stage i (codes "tag used twice")
+pipe_fault_text (TagUnknown i) = at_stage i (codes "unknown input")
+pipe_fault_text (InputOfReader i) = at_stage i (codes "a reader takes no input")
+pipe_fault_text (NoInput i) = at_stage i (codes "no input")
+pipe_fault_text (UsedTwice i) = at_stage i (codes "input already taken")
+pipe_fault_text (Loose i) = at_stage i (codes "output not used")
+pipe_fault_text (OptionUnknown i name) = at_stage i (codes "unknown option " ++ name)
+pipe_fault_text (OptionMissing i name) = at_stage i (codes "missing option " ++ name)
+pipe_fault_text (OptionValue i name) = at_stage i (codes "bad value of option " ++ name)
+pipe_fault_text (SameOutput i) = at_stage i (codes "output file already named")
+pipe_fault_text (DimUnknown i name) = at_stage i (codes "unknown dimension " ++ name)
+pipe_fault_text (DimNotNumeric i name) = at_stage i (codes "dimension " ++ name ++ codes " is not numeric")
+pipe_fault_text (TooManyDims i) = at_stage i (codes "more than 8 extra dimensions")
+
 abbrev pub place_text : Place → List ℕ
 place_text PipelineFile = codes "pipeline file"
 place_text (Stage i) = codes "stage " ++ decimal i
@@ -74,7 +103,8 @@ op_text Keep = codes "keep"
 
 abbrev pub reason_text : Refusal → List ℕ
 reason_text (Usage k) = codes "usage: bad or missing word " ++ decimal k
-reason_text (Data i fault) = codes "stage " ++ decimal i ++ codes ": " ++ fault_text fault
+reason_text (Pipeline fault) = codes "pipeline: " ++ pipe_fault_text fault
+reason_text (Data i fault) = at_stage i (fault_text fault)
 reason_text (Device place op) = codes "device: " ++ place_text place ++ codes ": " ++ op_text op ++ codes " failed"
 reason_text Memory = codes "out of memory"
 reason_text (NotBuilt r) = codes "not built"

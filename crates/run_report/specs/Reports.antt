@@ -1,25 +1,26 @@
 -- What is printed of a run.
-use Rattle.std.specs.Prelude.{ℕ, ◌+◌, ◌==◌, Bool, List, [], ◌∷◌, ◌++◌, length, codes, decimal, if◌then◌else◌}
+use Rattle.std.specs.Prelude.{ℕ, List, [], ◌∷◌, ◌++◌, Option, Some, None, is_some, codes, decimal, count_by}
+use Rattle.stage_names.specs.Kinds.{name_of}
 use Rattle.run_report.specs.declared.report.StageCount.{StageCount}
 
--- what the stage with this number does, in a chain of so many stages: a reader, then heads, then a text writer
-abbrev pub stage_name : ℕ → ℕ → List ℕ
-stage_name stage stages = if stage == 0 then codes "readers.las" else (if stage + 1 == stages then codes "writers.text" else codes "filters.head")
-
 -- how many points a writer wrote
-abbrev pub wrote_text : Bool → ℕ → List ℕ
-wrote_text writer points = if writer then codes " wrote " ++ decimal points else []
+abbrev pub wrote_text : Option ℕ → List ℕ
+wrote_text None = []
+wrote_text (Some points) = codes " wrote " ++ decimal points
 
 -- the line of a stage
-abbrev pub stage_line : ℕ → ℕ → StageCount → List ℕ
-stage_line stage stages count = codes "stage " ++ decimal stage ++ codes " " ++ stage_name stage stages ++ codes " views " ++ decimal count.views
-    ++ codes " points " ++ decimal count.points ++ wrote_text (stage + 1 == stages) count.points ++ codes "\n"
+abbrev pub stage_line : StageCount → List ℕ
+stage_line count = codes "stage " ++ decimal count.stage ++ codes " " ++ name_of count.kind ++ codes " views " ++ decimal count.views
+    ++ codes " points " ++ decimal count.points ++ wrote_text count.wrote ++ codes "\n"
 
--- the lines of these stages, the first of which has this number
-abbrev pub lines_from : ℕ → ℕ → List StageCount → List ℕ
-lines_from stage stages [] = []
-lines_from stage stages (count ∷ counts) = stage_line stage stages count ++ lines_from (stage + 1) stages counts
+abbrev pub lines_of : List StageCount → List ℕ
+lines_of [] = []
+lines_of (count ∷ counts) = stage_line count ++ lines_of counts
+
+-- how many stages wrote a file
+abbrev pub outputs_in : List StageCount → ℕ
+outputs_in counts = count_by (λ count. is_some count.wrote) counts
 
 -- the report of a run, by what each of its stages gave on
 abbrev pub report_of : List StageCount → List ℕ
-report_of counts = lines_from 0 (length counts) counts ++ codes "outputs 1\n"
+report_of counts = lines_of counts ++ (codes "outputs " ++ decimal (outputs_in counts) ++ codes "\n")

@@ -8,4 +8,4 @@ mod text;
 
 pub use faults::fault_text;
 pub use refusal::{Fault, Place, Refusal};
-pub use report::{StageCount, report_text};
+pub use report::{Report, StageCount, report_text};

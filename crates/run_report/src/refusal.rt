@@ -4,6 +4,7 @@ use cloud_points::PointFault;
 use file_devices::Op;
 use las_header::HeaderFault;
 use las_vlr::VlrFault;
+use stage_names::PipeFault;
 
 /// Where a device stands.
 #[derive(Clone, Copy, Debug, PartialEq, Eq)]
@@ -32,10 +33,13 @@ pub enum Fault {
 }
 
 /// Why a command ends without its outputs.
-#[derive(Clone, Copy, Debug, PartialEq, Eq)]
+#[derive(Drop)]
 pub enum Refusal {
     /// The words are no command. The number is the place of the first one that is wrong or missing, from 0 on.
     Usage(usize),
+
+    /// The pipeline has a fault.
+    Pipeline(PipeFault),
 
     /// The data of the stage with this number have a fault.
     Data(u32, Fault),
@@ -46,6 +50,6 @@ pub enum Refusal {
     /// There was no memory.
     Memory,
 
-    /// What was asked isn't built yet: 1 the command, 2 the pipeline.
+    /// What was asked isn't built yet: 1 the command, 4 a stage of the pipeline, an option of it, or its second input.
     NotBuilt(u8),
 }

@@ -1,78 +1,110 @@
 //! What is printed of a run that kept its outputs.
 
-ghost use Rattle.std.specs.Prelude.{◌≡◌, ◌+◌, ◌<◌, ◌≤◌, ◌++◌, length, OnOk, OnErr};
+ghost use Rattle.std.specs.Prelude.{◌≡◌, ◌+◌, ◌≤◌, ◌++◌, codes, decimal, OnOk, OnErr};
 ghost use Rattle.arrayvec.specs.ArrayString.{array_string_len};
 ghost use Rattle.file_devices.specs.Counts.{HasCause};
 ghost use Rattle.file_devices.specs.Content.{Appends, AppendsPart};
-ghost use Rattle.run_report.specs.Reports.{report_of, stage_name, stage_line, wrote_text};
+ghost use Rattle.run_report.specs.Reports.{report_of, stage_line, wrote_text, outputs_in};
 
 use crate::text::{Text, push_number};
+use arrayvec::ArrayVec;
 use file_devices::{Failed, Sink};
+use stage_names::KindName;
 
-/// How many views and points a stage gave on. The counts stand at the greatest u64.
-#[derive(Clone, Copy, Debug, Default, PartialEq, Eq)]
+/// What a stage gave on. The counts stand at the greatest u64.
+#[derive(Clone, Copy, Debug, PartialEq, Eq)]
 pub struct StageCount {
+    /// The number of the stage, from 0 on.
+    pub stage: u32,
+
+    /// Its type.
+    pub kind: KindName,
+
+    /// How many views it gave on.
     pub views: u64,
+
+    /// How many points it gave on.
     pub points: u64,
+
+    /// How many points it wrote, of a writer.
+    pub wrote: Option<u64>,
 }
 
-/// What the stage with this number does, in a chain of so many stages: a reader, then heads, then a text writer.
-fn stage_name(stage: usize, stages: usize) -> &'static str
-    requires { stage < stages }
-    ensures name { result.now ≡ stage_name stage stages }
-    ensures len { length result.now ≤ 12 }
-{
-    if stage == 0 {
-        "readers.las"
-    } else if stage + 1 == stages {
-        "writers.text"
-    } else {
-        "filters.head"
+impl Default for StageCount {
+    /// A reader that gave on nothing.
+    fn default() -> Self {
+        StageCount {
+            stage: 0,
+            kind: KindName::ReadersLas,
+            views: 0,
+            points: 0,
+            wrote: None,
+        }
     }
 }
 
-/// The line of the stage with this number.
-fn stage_line(stage: usize, stages: usize, count: StageCount) -> Text
-    requires inside { stage < stages }
-    requires few { stages ≤ 64 }
-    ensures { result.bytes ≡ stage_line stage stages count }
-{
-    let mut text = Text::new();
-    text.push_str("stage ");
-    push_number(stage as u64, &mut text);
-    text.push_str(" ");
-    text.push_str(stage_name(stage, stages));
-    text.push_str(" views ");
-    push_number(count.views, &mut text);
-    text.push_str(" points ");
-    push_number(count.points, &mut text);
-    push_wrote(stage + 1 == stages, count.points, &mut text);
-    text.push_str("\n");
-    text
-}
+/// What each stage of a run gave on, in the order of the stages, which are at most 64.
+pub type Report = ArrayVec<StageCount, 64>;
 
 /// How many points a writer wrote.
-fn push_wrote(writer: bool, points: u64, text: &mut Text)
-    requires { array_string_len text.old ≤ 100 }
-    ensures bytes { text.new.bytes ≡ text.old.bytes ++ wrote_text writer points }
+fn push_wrote(wrote: Option<u64>, text: &mut Text)
+    requires { array_string_len text.old ≤ 120 }
+    ensures bytes { text.new.bytes ≡ text.old.bytes ++ wrote_text wrote }
     ensures len { array_string_len text.new ≤ array_string_len text.old + 27 }
 {
-    if writer {
+    if let Some(points) = wrote {
         text.push_str(" wrote ");
         push_number(points, text);
     }
 }
 
-/// Appends the report of a run, by what each of its stages gave on.
-pub fn report_text<K: Sink>(counts: &[StageCount], out: &mut K) -> Result<(), Failed>
-    requires { length counts.now ≤ 64 }
-    ensures ok { OnOk result (Appends (K.bytes out.old) (report_of counts.now) (K.bytes out.new)) }
-    ensures part { OnErr result (AppendsPart (K.bytes out.old) (report_of counts.now) (K.bytes out.new)) }
+/// The line of a stage.
+fn stage_line(count: StageCount) -> Text
+    ensures { result.bytes ≡ stage_line count }
+{
+    let mut text = Text::new();
+    text.push_str("stage ");
+    push_number(count.stage as u64, &mut text);
+    text.push_str(" ");
+    text.push_str(count.kind.name());
+    text.push_str(" views ");
+    push_number(count.views, &mut text);
+    text.push_str(" points ");
+    push_number(count.points, &mut text);
+    push_wrote(count.wrote, &mut text);
+    text.push_str("\n");
+    text
+}
+
+/// How many stages wrote a file.
+fn outputs_in(counts: &[StageCount]) -> usize
+    ensures { result ≡ outputs_in counts.now }
+{
+    counts.iter().filter(|count| count.wrote.is_some()).count()
+}
+
+/// The line that says how many files were written.
+fn outputs_line(outputs: usize) -> Text
+    ensures { result.bytes ≡ codes "outputs " ++ decimal outputs ++ codes "\n" }
+{
+    let mut text = Text::new();
+    text.push_str("outputs ");
+    push_number(outputs as u64, &mut text);
+    text.push_str("\n");
+    text
+}
+
+/// Appends the report of a run, by what each of its stages gave on: a line for each stage, and the number of files that were
+/// written.
+pub fn report_text<K: Sink>(report: &[StageCount], out: &mut K) -> Result<(), Failed>
+    ensures ok { OnOk result (Appends (K.bytes out.old) (report_of report.now) (K.bytes out.new)) }
+    ensures part { OnErr result (AppendsPart (K.bytes out.old) (report_of report.now) (K.bytes out.new)) }
     ensures cause { HasCause (K.faults out.old) (K.faults out.new) result }
 {
-    for (stage, count) in counts.iter().enumerate() {
-        let text = stage_line(stage, counts.len(), *count);
+    for count in report {
+        let text = stage_line(*count);
         out.append(text.as_bytes())?;
     }
-    out.append(b"outputs 1\n")
+    let text = outputs_line(outputs_in(report));
+    out.append(text.as_bytes())
 }

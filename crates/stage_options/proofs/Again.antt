@@ -4,7 +4,7 @@ use Rattle.std.proofs.lemmas.Bool.{cases_lt}
 use Rattle.std.proofs.Math.Nat.{eq-or-lt_of_le}
 use Rattle.std.specs.Bool.{IsTrue}
 use Rattle.std.specs.List.{range_with_len}
-use Rattle.pipeline_trees.proofs.Numbers.{range_from, range_end}
+use Rattle.pipeline_json.proofs.Numbers.{range_from, range_end}
 use Rattle.std.specs.Prelude.{◌↔◌}
 use Rattle.stage_options.specs.declared.stage.StageSpec.{StageSpec}
 use Rattle.stage_options.proofs.Places.{drop_next}

@@ -1,4 +1,5 @@
 pub mod Again
+pub mod Chains
 pub mod Keys
 pub mod Places
 pub mod Shaped

@@ -3,9 +3,9 @@ use Rattle.std.proofs.Common.{ℕ, zero, suc, ◌≡◌, ◌∙◌, ◌++◌, Li
 use Rattle.std.proofs.lemmas.List.{length-map}
 use Rattle.std.proofs.lemmas.Option.{none-some}
 use Rattle.stage_names.specs.Kinds.{is_reader}
-use Rattle.pipeline_trees.specs.Lists.{is_empty, has, times}
-use Rattle.pipeline_trees.specs.Stages.{Stage, taken}
-use Rattle.pipeline_trees.specs.Trees.{IsTree}
+use Rattle.pipeline_json.specs.Lists.{is_empty, has, times}
+use Rattle.pipeline_json.specs.Stages.{Stage, taken}
+use Rattle.pipeline_json.specs.Trees.{IsTree}
 use Rattle.stage_options.specs.Shapes.{shape, shapes}
 use Rattle.stage_options.specs.TypedTree.{spec_of, specs_of}
 

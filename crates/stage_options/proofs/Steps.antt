@@ -2,8 +2,8 @@
 use Rattle.std.proofs.Common.{ℕ, ◌≡◌, ◌<◌, ◌+◌, ◌∙◌, ◌&&◌, ◌++◌, List, [], ◌∷◌, length, drop, get_or, Bool, true, false, None, refl, ap, sym, subst, true≢false}
 use Rattle.std.specs.Bool.{IsTrue}
 use Rattle.std.proofs.lemmas.List.{append_assoc}
-use Rattle.pipeline_trees.specs.Shown.{stage_view, stages_view}
-use Rattle.pipeline_trees.specs.declared.stage.RawStage.{RawStage}
+use Rattle.pipeline_json.specs.Shown.{stage_view, stages_view}
+use Rattle.pipeline_json.specs.declared.stage.RawStage.{RawStage}
 use Rattle.stage_options.proofs.Places.{drop_next}
 use Rattle.stage_options.specs.Faults.{or_else}
 use Rattle.stage_options.specs.declared.stage.StageSpec.{StageSpec}

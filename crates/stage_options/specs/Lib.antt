@@ -1,3 +1,4 @@
+pub mod Chained
 pub mod Faults
 pub mod Outputs
 pub mod Rules

@@ -1,7 +1,7 @@
 -- Which stages typed stages take.
 use Rattle.std.specs.Prelude.{List, map, None}
 use Rattle.serde_json.specs.Data.{no_members}
-use Rattle.pipeline_trees.specs.Stages.{Stage}
+use Rattle.pipeline_json.specs.Stages.{Stage}
 use Rattle.stage_options.specs.declared.stage.StageSpec.{StageSpec}
 
 -- the type and the inputs alone

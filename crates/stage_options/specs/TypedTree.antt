@@ -6,7 +6,7 @@ use Rattle.stage_names.specs.declared.faults.PipeFault.{PipeFault}
 use Rattle.stage_names.specs.declared.faults.PipeFault.TheVariants.{SameOutput}
 use Rattle.stage_names.specs.declared.faults.PipeErr.{PipeErr}
 use Rattle.stage_names.specs.declared.faults.PipeErr.TheVariants.{Fault, Memory}
-use Rattle.pipeline_trees.specs.Stages.{Stage}
+use Rattle.pipeline_json.specs.Stages.{Stage}
 use Rattle.stage_options.specs.declared.options.Options.TheVariants.{ReadersLas}
 use Rattle.stage_options.specs.declared.stage.StageSpec.{StageSpec}
 use Rattle.stage_options.specs.Faults.{first_fault, or_else}

@@ -6,7 +6,7 @@ ghost use Rattle.stage_options.specs.Typed.{has_none_of, is_built, is_kind_built
 ghost use Rattle.stage_options.specs.Seen.{rules_view};
 
 use crate::rules::{Rule, rules};
-use crate::values::member;
+use pipeline_json::member;
 use serde_json::{Map, Value};
 use stage_names::KindName;
 

@@ -1,7 +1,7 @@
 //! A stage with its options.
 
 use crate::options::Options;
-use pipeline_trees::StageList;
+use pipeline_json::StageList;
 use stage_names::KindName;
 
 /// A stage of a pipeline, with its typed options.

@@ -3,7 +3,7 @@ use crate::{
     Options, StageSpec, first_same_output, is_built, is_kind_built, is_tree_built, type_tree,
 };
 use file_devices::Name;
-use pipeline_trees::{StageList, read_tree};
+use pipeline_json::{StageList, read_pipeline};
 use serde_json::Value;
 use stage_names::{KindName, PipeErr, PipeFault};
 use std::alloc::{AllocError, Global};
@@ -365,7 +365,7 @@ fn the_same_output_is_found(rt: HostRuntime) -> Result<(), Fail> {
 
 /// The options of the last stage of a pipeline's text, or the first fault, as words.
 fn tree_answer(alloc: Global, text: &str) -> Result<String, AllocError> {
-    let Ok(raw) = read_tree(alloc, text.as_bytes()) else {
+    let Ok(raw) = read_pipeline(alloc, text.as_bytes()) else {
         return String::from_str(alloc, "no tree");
     };
     if !is_tree_built(&raw) {
@@ -429,7 +429,7 @@ fn faults_are_told_stage_by_stage(rt: HostRuntime) -> Result<(), Fail> {
 fn stages_keep_their_types_and_inputs(rt: HostRuntime) -> Result<(), Fail> {
     let alloc = rt.alloc();
     let text = r#"["a.las",{"type":"filters.head","count":3},"o.txt"]"#;
-    let Ok(raw) = read_tree(alloc, text.as_bytes()) else {
+    let Ok(raw) = read_pipeline(alloc, text.as_bytes()) else {
         assert!(rt; false, "no tree");
         return Ok(());
     };

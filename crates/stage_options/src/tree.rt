@@ -1,6 +1,6 @@
 //! The stages of a pipeline, with their options.
 
-ghost use Rattle.pipeline_trees.specs.Trees.{IsTree};
+ghost use Rattle.pipeline_json.specs.Trees.{IsTree};
 ghost use Rattle.stage_options.specs.Shapes.{shapes};
 
 use crate::stage::StageSpec;
@@ -15,7 +15,7 @@ pub struct Tree {
 
 impl Tree {
     ghost use Rattle.std.specs.Prelude.{◌≡◌};
-    ghost use Rattle.pipeline_trees.specs.Trees.{IsTree};
+    ghost use Rattle.pipeline_json.specs.Trees.{IsTree};
     ghost use Rattle.stage_options.specs.Shapes.{shapes};
     ghost use Rattle.stage_options.specs.TreeShown.{specs_view};
 

@@ -1,9 +1,10 @@
 //! The typed stages of a tree, or their first fault.
 
 ghost use Rattle.std.specs.Prelude.{◌≡◌, ◌≤◌, length, option_map, Ok, None, IfOk, IfErr, OnOk, IsTrue};
-ghost use Rattle.pipeline_trees.specs.Shown.{stage_view, stages_view};
-ghost use Rattle.pipeline_trees.specs.Trees.{IsTree};
-ghost use Rattle.pipeline_trees.specs.TreeShown.{tree_view};
+ghost use Rattle.pipeline_json.specs.Shown.{stage_view, stages_view};
+ghost use Rattle.pipeline_json.specs.Trees.{IsTree};
+ghost use Rattle.pipeline_json.specs.TreeShown.{tree_view};
+ghost use Rattle.stage_options.specs.Chained.{IsChain};
 ghost use Rattle.stage_options.specs.Faults.{IsFaultOf};
 ghost use Rattle.stage_options.specs.Shapes.{shapes};
 ghost use Rattle.stage_options.specs.TreeShown.{specs_view};
@@ -15,7 +16,7 @@ use crate::outputs::first_same_output;
 use crate::stage::StageSpec;
 use crate::tree::Tree;
 use crate::typing::type_options;
-use pipeline_trees::{RawStage, RawTree, StageList};
+use pipeline_json::{RawStage, RawTree, StageList};
 use stage_names::{PipeErr, PipeFault};
 use std::alloc::{AllocError, Global};
 
@@ -95,12 +96,14 @@ fn type_stages(alloc: Global, list: &[RawStage]) -> Result<Vec<StageSpec>, PipeE
 
 /// The tree with its options typed. The first fault is told: of the stages in their order, of each as `type_stage` tells
 /// it, and then `SameOutput` with the least number of a writer whose file an earlier one names. `Memory` comes only where
-/// there was none.
+/// there was none. Each stage that is built takes one stage at most, so that the stages stand in a line: a reader, and each
+/// other stage takes the one before it.
 pub fn type_tree(alloc: Global, raw: &RawTree) -> Result<Tree, PipeErr>
     requires { IsTrue (are_built (tree_view raw.now)) }
     ensures ok { IfOk result (λ tree. typed_tree (tree_view raw.now) ≡ Ok (specs_view tree)) }
     ensures fault { IfErr result (IsToldFault (typed_tree (tree_view raw.now))) }
     ensures is_tree { IfOk result (λ tree. IsTree (shapes (specs_view tree))) }
+    ensures chain { IfOk result (λ tree. IsChain (specs_view tree)) }
 {
     let specs = type_stages(alloc, raw.as_slice())?;
     if let Some(i) = first_same_output(&specs) {

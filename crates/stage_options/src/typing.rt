@@ -9,9 +9,10 @@ ghost use Rattle.stage_options.specs.Faults.{first_fault, IsFaultOf};
 
 use crate::options::Options;
 use crate::rules::rules;
-use crate::values::{json_truth, json_whole, member};
+use crate::values::{json_truth, json_whole};
 use crate::walks::{name_of, refuse};
 use file_devices::Name;
+use pipeline_json::member;
 use serde_json::{Map, Value};
 use stage_names::{KindName, PipeErr};
 use std::alloc::{AllocError, Global};

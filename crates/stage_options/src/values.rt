@@ -1,12 +1,13 @@
 //! The values of options.
 
 ghost use Rattle.std.specs.Prelude.{◌≡◌, option_map};
-ghost use Rattle.serde_json.specs.Find.{get_member, as_str};
+ghost use Rattle.serde_json.specs.Find.{as_str};
 ghost use Rattle.serde_json.specs.View.{view, members_view};
 ghost use Rattle.stage_options.specs.Values.{text_whole, whole_of, text_truth, truth_of, is_part, is_source, is_target};
 ghost use Rattle.stage_options.specs.Faults.{value_of};
 ghost use Rattle.stage_options.specs.Seen.{given_view};
 
+use pipeline_json::member;
 use serde_json::{Map, Value};
 
 /// The most digits of a whole number that is a text.
@@ -20,13 +21,6 @@ pub(crate) enum Given<'a> {
 
     /// The value of another member.
     Json(&'a Value),
-}
-
-/// The value of a member.
-pub(crate) fn member<'a>(members: &'a Map<String, Value>, name: &str) -> Option<&'a Value>
-    ensures { option_map (λ v. view v.now) result ≡ get_member name.now (members_view members.now.entries) }
-{
-    members.get(name)
 }
 
 /// What the option of this name is given.

@@ -1,5 +1,5 @@
 -- The parts of the examples.
-use Rattle.std.proofs.Common.{◌≡◌, ℕ, List, [], ◌∷◌, take, codes, Option, Some, None, Result, Ok, Err, refl, pos, negsuc, ap, ◌∙◌}
+use Rattle.std.proofs.Common.{◌≡◌, ℕ, List, [], ◌∷◌, take, codes, true, Some, None, Result, Ok, Err, refl, pos, negsuc, ap, ◌∙◌}
 use Rattle.std.specs.Fmt.{digits}
 use Rattle.std.specs.Str.{is_utf8, chars}
 use Rattle.std.specs.Float.Numeral.{scan_numeral}
@@ -22,58 +22,114 @@ use Rattle.las_reader.specs.Files.{Las, las_of}
 use Rattle.file_devices.specs.Named.{Names}
 use Rattle.file_devices.specs.declared.devices.Op.TheVariants.{Open}
 use Rattle.run_report.specs.declared.refusal.Place.TheVariants.{Stage}
-use Rattle.run_report.specs.declared.refusal.Refusal.TheVariants.{Device}
-use Rattle.pipeline_json.specs.Pipelines.{Chain, pipeline_of}
+use Rattle.run_report.specs.declared.refusal.Refusal.{Refusal}
+use Rattle.run_report.specs.declared.refusal.Refusal.TheVariants.{Device, Pipeline, NotBuilt}
+use Rattle.stage_names.specs.declared.kinds.KindName.TheVariants as kind
+use Rattle.stage_names.specs.declared.faults.PipeFault.TheVariants.{Empty, NotJson, NotAPipeline, CannotInfer, NoInput, TagTwice, TagUnknown, UsedTwice, OptionValue, OptionUnknown, SameOutput}
+use Rattle.stage_options.specs.declared.options.Options.TheVariants.{ReadersLas, FiltersHead, WritersText}
+use Rattle.stage_options.specs.declared.stage.StageSpec.{StageSpec}
+use Rattle.pipeline_json.specs.Trees.{tree_of}
 use Rattle.run_engine.specs.Refusals.{and_then}
 use Rattle.run_engine.specs.Runs.{las_read, converted, run_of}
 use Rattle.command_words.specs.Machine.{command_of}
 use Rattle.lasline_top.specs.Words.{Run_file, task_of}
-use Rattle.lasline_top.specs.Answer.{piped, ran, done, answer}
-use Rattle.worked_rows.specs.Rows.{run_p, files, files_with, pipeline_alone, pipeline_text, head_of_1, head_of_0, file_a, file_of_format_6, file_of_a_vlr, file_of_many_vlrs, file_of_a_far_evlr, file_compressed, file_of_neighbour, file_far, file_with_x, file_without_points, first_point, none_pass}
+use Rattle.lasline_top.specs.Answer.{piped, typed, ran, done, answer}
+use Rattle.worked_rows.specs.Rows.{run_p, files, files_with, pipeline_alone, pipeline_text, head_of_1, head_of_0, tagged_head, reader_alone, writer_between, file_a, file_of_format_6, file_of_a_vlr, file_of_many_vlrs, file_of_a_far_evlr, file_compressed, file_of_neighbour, file_far, file_with_x, file_without_points, first_point, none_pass, only_read, all_and_first}
 
--- from the LAS file to the text file through these heads
-abbrev through : List ℕ → Chain
-through heads = record { from = codes "in.las"; heads = heads; to = codes "o.txt" }
+-- the stages of a text, with their options
+abbrev pub planned : List ℕ → Result (List StageSpec) Refusal
+planned text = and_then (piped (tree_of text)) typed
 
-chain_is : pipeline_of pipeline_text ≡ Some (through [])
+-- stages behind the reader of the LAS file
+abbrev from_las : List StageSpec → List StageSpec
+from_las later = record { kind = kind.ReadersLas; ins = []; options = ReadersLas (codes "in.las") } ∷ later
+
+-- a head, and a writer, behind the stage with this number
+abbrev head_after : ℕ → ℕ → StageSpec
+head_after i count = record { kind = kind.FiltersHead; ins = i ∷ []; options = FiltersHead count None }
+
+abbrev writer_after : ℕ → List ℕ → StageSpec
+writer_after i name = record { kind = kind.WritersText; ins = i ∷ []; options = WritersText name (codes "X,Y,Z") 3 (codes ",") true true None }
+
+chain_is : planned pipeline_text ≡ Ok (from_las (writer_after 0 (codes "o.txt") ∷ []))
 unfolding is_utf8 chars encode value punctuate lex content
 chain_is = refl
 
-one_is : pipeline_of head_of_1 ≡ Some (through (1 ∷ []))
+one_is : planned head_of_1 ≡ Ok (from_las (head_after 0 1 ∷ writer_after 1 (codes "o.txt") ∷ []))
 unfolding is_utf8 chars encode value punctuate lex content word after_number number_of scan_numeral
 one_is = refl
 
-zero_is : pipeline_of head_of_0 ≡ Some (through (0 ∷ []))
+zero_is : planned head_of_0 ≡ Ok (from_las (head_after 0 0 ∷ writer_after 1 (codes "o.txt") ∷ []))
 unfolding is_utf8 chars encode value punctuate lex content word after_number number_of scan_numeral
 zero_is = refl
 
-pub empty_array : pipeline_of (codes "[]") ≡ None
+tagged_is : planned tagged_head ≡ Ok (from_las (head_after 0 1 ∷ writer_after 1 (codes "o.txt") ∷ []))
+unfolding is_utf8 chars encode value punctuate lex content word after_number number_of scan_numeral
+tagged_is = refl
+
+reader_is : planned reader_alone ≡ Ok (from_las [])
+unfolding is_utf8 chars encode value punctuate lex content
+reader_is = refl
+
+between_is : planned writer_between ≡ Ok (from_las (writer_after 0 (codes "all.txt") ∷ head_after 1 1 ∷ writer_after 2 (codes "o.txt") ∷ []))
+unfolding is_utf8 chars encode value punctuate lex content word after_number number_of scan_numeral
+between_is = refl
+
+pub empty_array : planned (codes "[]") ≡ Err (Pipeline Empty)
 unfolding is_utf8 chars encode value punctuate lex content
 empty_array = refl
 
-pub no_json : pipeline_of (codes "[\"in.las\"") ≡ None
+pub no_json : planned (codes "[\"in.las\"") ≡ Err (Pipeline NotJson)
 unfolding is_utf8 chars encode value punctuate lex content
 no_json = refl
 
-pub another_ending : pipeline_of (codes "[\"in.las\",\"o.laz\"]") ≡ None
+pub no_stages : planned (codes "{}") ≡ Err (Pipeline NotAPipeline)
+unfolding is_utf8 chars encode value punctuate lex content
+no_stages = refl
+
+pub another_ending : planned (codes "[\"in.las\",\"o.laz\"]") ≡ Err (Pipeline (CannotInfer 1))
 unfolding is_utf8 chars encode value punctuate lex content
 another_ending = refl
 
-pub numbered_name : pipeline_of (codes "[\"in.las\",\"o#.txt\"]") ≡ None
+pub a_head_first : planned (codes "[{\"type\":\"filters.head\"},\"in.las\",\"o.txt\"]") ≡ Err (Pipeline (NoInput 0))
 unfolding is_utf8 chars encode value punctuate lex content
-numbered_name = refl
+a_head_first = refl
 
-pub head_first : pipeline_of (codes "[{\"type\":\"filters.head\"},\"in.las\",\"o.txt\"]") ≡ None
+pub a_tag_twice : planned (codes "[{\"filename\":\"in.las\",\"tag\":\"a\"},{\"type\":\"filters.head\",\"tag\":\"a\"},\"o.txt\"]") ≡ Err (Pipeline (TagTwice 1))
 unfolding is_utf8 chars encode value punctuate lex content
-head_first = refl
+a_tag_twice = refl
 
-pub further_member : pipeline_of (codes "[\"in.las\",{\"type\":\"filters.head\",\"tag\":\"a\"},\"o.txt\"]") ≡ None
+pub an_unknown_tag : planned (codes "[{\"filename\":\"in.las\",\"tag\":\"a\"},{\"filename\":\"o.txt\",\"inputs\":[\"b\"]}]") ≡ Err (Pipeline (TagUnknown 1))
 unfolding is_utf8 chars encode value punctuate lex content
-further_member = refl
+an_unknown_tag = refl
 
-pub count_too_large : pipeline_of (codes "[\"in.las\",{\"type\":\"filters.head\",\"count\":4294967296},\"o.txt\"]") ≡ None
+pub an_input_taken_twice : planned (codes "[{\"filename\":\"in.las\",\"tag\":\"a\"},{\"type\":\"filters.head\",\"inputs\":[\"a\"]},{\"filename\":\"o.txt\",\"inputs\":[\"a\"]}]") ≡ Err (Pipeline (UsedTwice 2))
+unfolding is_utf8 chars encode value punctuate lex content
+an_input_taken_twice = refl
+
+pub a_numbered_name : planned (codes "[\"in.las\",\"o#.txt\"]") ≡ Err (Pipeline (OptionValue 1 (codes "filename")))
+unfolding is_utf8 chars encode value punctuate lex content
+a_numbered_name = refl
+
+pub an_unknown_option : planned (codes "[\"in.las\",{\"type\":\"filters.head\",\"cuont\":1},\"o.txt\"]") ≡ Err (Pipeline (OptionUnknown 1 (codes "cuont")))
 unfolding is_utf8 chars encode value punctuate lex content word after_number number_of scan_numeral
-count_too_large = refl
+an_unknown_option = refl
+
+pub a_count_too_large : planned (codes "[\"in.las\",{\"type\":\"filters.head\",\"count\":4294967296},\"o.txt\"]") ≡ Err (Pipeline (OptionValue 1 (codes "count")))
+unfolding is_utf8 chars encode value punctuate lex content word after_number number_of scan_numeral
+a_count_too_large = refl
+
+pub two_writers_of_a_name : planned (codes "[\"in.las\",{\"type\":\"writers.text\",\"filename\":\"o.txt\"},\"o.txt\"]") ≡ Err (Pipeline (SameOutput 2))
+unfolding is_utf8 chars encode value punctuate lex content
+two_writers_of_a_name = refl
+
+pub a_sort : planned (codes "[\"in.las\",{\"type\":\"filters.sort\",\"dimension\":\"Z\"},\"o.txt\"]") ≡ Err (NotBuilt 4)
+unfolding is_utf8 chars encode value punctuate lex content
+a_sort = refl
+
+pub two_inputs : planned (codes "[\"in.las\",\"b.las\",\"o.txt\"]") ≡ Err (NotBuilt 4)
+unfolding is_utf8 chars encode value punctuate lex content
+two_inputs = refl
 
 pub two_read : las_of file_a ≡ Ok (record { points = record zero_point { x = pos 1000000000; y = pos 2000000000; z = pos 3000000000; return_number = 1; number_of_returns = 1; classification = 2 } ∷ record zero_point { x = negsuc 9999999; y = pos 0; z = pos 50000000; return_number = 1; number_of_returns = 1; classification = 2 } ∷ []; cut = None })
 unfolding header_of format_in record_format scales_of offsets_of header_with scale_of_word decimal_of_word entries_from point_of points_from
@@ -143,27 +199,40 @@ asked = refl
 pub run_is : (m : Names) → answer run_p m ≡ ran m (codes "p.json")
 run_is m = ap (λ task. and_then task (done m)) asked
 
--- the run of the example's pipeline over a LAS file
-pub run_over : (las : List ℕ) (read : Result Las LasFault) → las_of las ≡ read → answer run_p (files las) ≡ and_then (las_read read) (converted (through []))
-run_over las read is = run_is (files las) ∙ ap (λ chain. and_then (piped chain) (run_of (files las))) chain_is ∙ ap (λ r. and_then (las_read r) (converted (through []))) is
+-- the run of a pipeline over a LAS file
+pub run_over : (pipeline las : List ℕ) {later : List StageSpec} {read : Result Las LasFault} → planned pipeline ≡ Ok (from_las later) → las_of las ≡ read
+    → answer run_p (files_with pipeline las) ≡ and_then (las_read read) (converted (from_las later))
+run_over pipeline las {later} plan is = run_is (files_with pipeline las) ∙ ap (λ stages. and_then stages (run_of (files_with pipeline las))) plan
+    ∙ ap (λ r. and_then (las_read r) (converted (from_las later))) is
 
--- the run of another pipeline
-pub planned : (pipeline : List ℕ) (plan : Option Chain) → pipeline_of pipeline ≡ plan → and_then (piped (pipeline_of pipeline)) (run_of (files_with pipeline file_a)) ≡ and_then (piped plan) (run_of (files_with pipeline file_a))
-planned pipeline plan is = ap (λ chain. and_then (piped chain) (run_of (files_with pipeline file_a))) is
+-- the run of the example's pipeline
+pub run_whole : (las : List ℕ) {read : Result Las LasFault} → las_of las ≡ read → answer run_p (files las) ≡ and_then (las_read read) (converted (from_las (writer_after 0 (codes "o.txt") ∷ [])))
+run_whole las is = run_over _ las chain_is is
 
--- the run of a pipeline with a head over the file of two points
-through_head : (pipeline : List ℕ) (count : ℕ) (read : Result Las LasFault) → pipeline_of pipeline ≡ Some (through (count ∷ [])) → las_of file_a ≡ read
-    → and_then (piped (pipeline_of pipeline)) (run_of (files_with pipeline file_a)) ≡ and_then (las_read read) (converted (through (count ∷ [])))
-through_head pipeline count read chain las = planned pipeline (Some (through (count ∷ []))) chain ∙ ap (λ r. and_then (las_read r) (converted (through (count ∷ [])))) las
+-- a pipeline that is refused
+pub refused : (pipeline : List ℕ) {refusal : Refusal} → planned pipeline ≡ Err refusal → answer run_p (files_with pipeline file_a) ≡ Err refusal
+refused pipeline plan = run_is (files_with pipeline file_a) ∙ ap (λ stages. and_then stages (run_of (files_with pipeline file_a))) plan
 
 pub one_passes : answer run_p (files_with head_of_1 file_a) ≡ Ok first_point
 unfolding digits
-one_passes = run_is (files_with head_of_1 file_a) ∙ through_head head_of_1 1 _ one_is two_read
+one_passes = run_over _ _ one_is two_read
 
 pub no_point_passes : answer run_p (files_with head_of_0 file_a) ≡ Ok none_pass
 unfolding digits
-no_point_passes = run_is (files_with head_of_0 file_a) ∙ through_head head_of_0 0 _ zero_is two_read
+no_point_passes = run_over _ _ zero_is two_read
+
+pub tagged_passes : answer run_p (files_with tagged_head file_a) ≡ Ok first_point
+unfolding digits
+tagged_passes = run_over _ _ tagged_is two_read
+
+pub reader_reads : answer run_p (files_with reader_alone file_a) ≡ Ok only_read
+unfolding digits
+reader_reads = run_over _ _ reader_is two_read
+
+pub both_write : answer run_p (files_with writer_between file_a) ≡ Ok all_and_first
+unfolding digits
+both_write = run_over _ _ between_is two_read
 
 -- the pipeline's file is there, and its LAS file isn't
 pub absent_las : answer run_p pipeline_alone ≡ Err (Device (Stage 0) Open)
-absent_las = run_is pipeline_alone ∙ ap (λ chain. and_then (piped chain) (run_of pipeline_alone)) chain_is
+absent_las = run_is pipeline_alone ∙ ap (λ stages. and_then stages (run_of pipeline_alone)) chain_is

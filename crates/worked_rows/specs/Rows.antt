@@ -94,6 +94,17 @@ head_of_1 = codes "[\"in.las\",{\"type\":\"filters.head\",\"count\":1},\"o.txt\"
 abbrev pub head_of_0 : List ℕ
 head_of_0 = codes "[\"in.las\",{\"type\":\"filters.head\",\"count\":0},\"o.txt\"]"
 
+-- the same with a tag on the head
+abbrev pub tagged_head : List ℕ
+tagged_head = codes "[\"in.las\",{\"type\":\"filters.head\",\"tag\":\"a\",\"count\":1},\"o.txt\"]"
+
+-- a reader alone, and a writer before a head
+abbrev pub reader_alone : List ℕ
+reader_alone = codes "[\"in.las\"]"
+
+abbrev pub writer_between : List ℕ
+writer_between = codes "[\"in.las\",{\"type\":\"writers.text\",\"filename\":\"all.txt\"},{\"type\":\"filters.head\",\"count\":1},\"o.txt\"]"
+
 abbrev pub files : List ℕ → Names
 files las = files_with pipeline_text las
 
@@ -109,30 +120,41 @@ run_p_in_pieces = codes "run" ∷ codes "p.json" ∷ codes "--chunk" ∷ codes "
 
 abbrev pub two_points : Run
 two_points = record {
-  outputs = record { name = codes "o.txt"; bytes = codes "\"X\",\"Y\",\"Z\"\n1.000,2.000,3.000\n-0.010,0.000,0.050\n" } ∷ [];
+  outputs = record { stage = 1; name = codes "o.txt"; bytes = codes "\"X\",\"Y\",\"Z\"\n1.000,2.000,3.000\n-0.010,0.000,0.050\n" } ∷ [];
   report = codes "stage 0 readers.las views 1 points 2\nstage 1 writers.text views 1 points 2 wrote 2\noutputs 1\n";
 }
 
 abbrev pub far_point : Run
 far_point = record {
-  outputs = record { name = codes "o.txt"; bytes = codes "\"X\",\"Y\",\"Z\"\n3147483646.000,0.000,0.000\n" } ∷ [];
+  outputs = record { stage = 1; name = codes "o.txt"; bytes = codes "\"X\",\"Y\",\"Z\"\n3147483646.000,0.000,0.000\n" } ∷ [];
   report = codes "stage 0 readers.las views 1 points 1\nstage 1 writers.text views 1 points 1 wrote 1\noutputs 1\n";
 }
 
 abbrev pub no_points : Run
 no_points = record {
-  outputs = record { name = codes "o.txt"; bytes = codes "\"X\",\"Y\",\"Z\"\n" } ∷ [];
+  outputs = record { stage = 1; name = codes "o.txt"; bytes = codes "\"X\",\"Y\",\"Z\"\n" } ∷ [];
   report = codes "stage 0 readers.las views 1 points 0\nstage 1 writers.text views 1 points 0 wrote 0\noutputs 1\n";
 }
 
 abbrev pub first_point : Run
 first_point = record {
-  outputs = record { name = codes "o.txt"; bytes = codes "\"X\",\"Y\",\"Z\"\n1.000,2.000,3.000\n" } ∷ [];
+  outputs = record { stage = 2; name = codes "o.txt"; bytes = codes "\"X\",\"Y\",\"Z\"\n1.000,2.000,3.000\n" } ∷ [];
   report = codes "stage 0 readers.las views 1 points 2\nstage 1 filters.head views 1 points 1\nstage 2 writers.text views 1 points 1 wrote 1\noutputs 1\n";
 }
 
 abbrev pub none_pass : Run
 none_pass = record {
-  outputs = record { name = codes "o.txt"; bytes = codes "\"X\",\"Y\",\"Z\"\n" } ∷ [];
+  outputs = record { stage = 2; name = codes "o.txt"; bytes = codes "\"X\",\"Y\",\"Z\"\n" } ∷ [];
   report = codes "stage 0 readers.las views 1 points 2\nstage 1 filters.head views 1 points 0\nstage 2 writers.text views 1 points 0 wrote 0\noutputs 1\n";
+}
+
+abbrev pub only_read : Run
+only_read = record { outputs = []; report = codes "stage 0 readers.las views 1 points 2\noutputs 0\n" }
+
+abbrev pub all_and_first : Run
+all_and_first = record {
+  outputs = record { stage = 1; name = codes "all.txt"; bytes = codes "\"X\",\"Y\",\"Z\"\n1.000,2.000,3.000\n-0.010,0.000,0.050\n" }
+      ∷ record { stage = 3; name = codes "o.txt"; bytes = codes "\"X\",\"Y\",\"Z\"\n1.000,2.000,3.000\n" }
+      ∷ [];
+  report = codes "stage 0 readers.las views 1 points 2\nstage 1 writers.text views 1 points 2 wrote 2\nstage 2 filters.head views 1 points 1\nstage 3 writers.text views 1 points 1 wrote 1\noutputs 2\n";
 }

@@ -9,11 +9,12 @@ ghost use Rattle.las_header.specs.declared.faults.Axis.{Axis};
 ghost use Rattle.las_header.specs.declared.faults.HeaderFault.{HeaderFault};
 ghost use Rattle.las_vlr.specs.declared.entry.VlrFault.{VlrFault};
 ghost use Rattle.cloud_points.specs.declared.faults.PointFault.{PointFault};
+ghost use Rattle.stage_names.specs.declared.faults.PipeFault.{PipeFault};
 ghost use Rattle.lasline_top.specs.Answer.{answer, printed};
 ghost use Rattle.run_report.specs.declared.refusal.Refusal.{Refusal};
 ghost use Rattle.run_report.specs.declared.refusal.Fault.{Fault};
 ghost use Rattle.run_report.specs.declared.refusal.Place.{Place};
-ghost use Rattle.worked_rows.specs.Rows.{run_p, run_p_in_pieces, head_of_1, head_of_0, file_a, file_of_format_6, file_of_a_vlr, file_of_many_vlrs, file_of_a_far_evlr, file_compressed, file_of_neighbour, file_far, file_with_x, file_without_points, files, files_with, pipeline_alone, two_points, far_point, no_points, first_point, none_pass};
+ghost use Rattle.worked_rows.specs.Rows.{run_p, run_p_in_pieces, head_of_1, head_of_0, file_a, file_of_format_6, file_of_a_vlr, file_of_many_vlrs, file_of_a_far_evlr, file_compressed, file_of_neighbour, file_far, file_with_x, file_without_points, files, files_with, tagged_head, reader_alone, writer_between, pipeline_alone, two_points, far_point, no_points, first_point, none_pass, only_read, all_and_first};
 
 /// A file of two points becomes 49 bytes of text and a report of three lines, and so it does in longer records of another
 /// format. A point far from 0 keeps each digit, and a file of no points becomes the names of the columns.
@@ -24,10 +25,18 @@ pub fn whole_files_become_text()
     ensures no_points { answer run_p (files file_without_points) ≡ Ok no_points }
 {}
 
-/// A head lets the first points of a view pass, and each stage is counted by what it gives on.
+/// A head lets the first points of a view pass, and each stage is counted by what it gives on. A tag changes nothing.
 pub fn heads_let_the_first_points_pass()
     ensures one { answer run_p (files_with head_of_1 file_a) ≡ Ok first_point }
     ensures none { answer run_p (files_with head_of_0 file_a) ≡ Ok none_pass }
+    ensures tagged { answer run_p (files_with tagged_head file_a) ≡ Ok first_point }
+{}
+
+/// A reader alone keeps no file. A writer writes what it takes and gives it on, so a head behind it changes only what comes
+/// later, and the outputs stand in the order of their stages.
+pub fn chains_keep_what_their_writers_take()
+    ensures reader_alone { answer run_p (files_with reader_alone file_a) ≡ Ok only_read }
+    ensures writer_between { answer run_p (files_with writer_between file_a) ≡ Ok all_and_first }
 {}
 
 /// The pieces that a run is cut into change nothing, whatever files there are.
@@ -52,16 +61,24 @@ pub fn files_are_refused()
     ensures absent { answer run_p pipeline_alone ≡ Err (Refusal.Device (Place.Stage 0) Op.Open) }
 {}
 
-/// A pipeline file that isn't there can't be opened, and one of another form isn't built.
+/// A pipeline file that isn't there can't be opened, and one whose text is no tree of stages with right options is refused
+/// for its first fault. A tree with a stage that isn't built, or that takes two others, isn't run.
 pub fn pipelines_are_refused()
     ensures absent { answer run_p (λ name. None) ≡ Err (Refusal.Device Place.PipelineFile Op.Open) }
-    ensures empty_array { answer run_p (files_with (codes "[]") file_a) ≡ Err (Refusal.NotBuilt 2) }
-    ensures no_json { answer run_p (files_with (codes "[\"in.las\"") file_a) ≡ Err (Refusal.NotBuilt 2) }
-    ensures another_ending { answer run_p (files_with (codes "[\"in.las\",\"o.laz\"]") file_a) ≡ Err (Refusal.NotBuilt 2) }
-    ensures a_numbered_name { answer run_p (files_with (codes "[\"in.las\",\"o#.txt\"]") file_a) ≡ Err (Refusal.NotBuilt 2) }
-    ensures a_head_first { answer run_p (files_with (codes "[{\"type\":\"filters.head\"},\"in.las\",\"o.txt\"]") file_a) ≡ Err (Refusal.NotBuilt 2) }
-    ensures a_further_member { answer run_p (files_with (codes "[\"in.las\",{\"type\":\"filters.head\",\"tag\":\"a\"},\"o.txt\"]") file_a) ≡ Err (Refusal.NotBuilt 2) }
-    ensures a_count_too_large { answer run_p (files_with (codes "[\"in.las\",{\"type\":\"filters.head\",\"count\":4294967296},\"o.txt\"]") file_a) ≡ Err (Refusal.NotBuilt 2) }
+    ensures empty_array { answer run_p (files_with (codes "[]") file_a) ≡ Err (Refusal.Pipeline PipeFault.Empty) }
+    ensures no_json { answer run_p (files_with (codes "[\"in.las\"") file_a) ≡ Err (Refusal.Pipeline PipeFault.NotJson) }
+    ensures no_stages { answer run_p (files_with (codes "{}") file_a) ≡ Err (Refusal.Pipeline PipeFault.NotAPipeline) }
+    ensures another_ending { answer run_p (files_with (codes "[\"in.las\",\"o.laz\"]") file_a) ≡ Err (Refusal.Pipeline (PipeFault.CannotInfer 1)) }
+    ensures a_head_first { answer run_p (files_with (codes "[{\"type\":\"filters.head\"},\"in.las\",\"o.txt\"]") file_a) ≡ Err (Refusal.Pipeline (PipeFault.NoInput 0)) }
+    ensures a_tag_twice { answer run_p (files_with (codes "[{\"filename\":\"in.las\",\"tag\":\"a\"},{\"type\":\"filters.head\",\"tag\":\"a\"},\"o.txt\"]") file_a) ≡ Err (Refusal.Pipeline (PipeFault.TagTwice 1)) }
+    ensures an_unknown_tag { answer run_p (files_with (codes "[{\"filename\":\"in.las\",\"tag\":\"a\"},{\"filename\":\"o.txt\",\"inputs\":[\"b\"]}]") file_a) ≡ Err (Refusal.Pipeline (PipeFault.TagUnknown 1)) }
+    ensures an_input_taken_twice { answer run_p (files_with (codes "[{\"filename\":\"in.las\",\"tag\":\"a\"},{\"type\":\"filters.head\",\"inputs\":[\"a\"]},{\"filename\":\"o.txt\",\"inputs\":[\"a\"]}]") file_a) ≡ Err (Refusal.Pipeline (PipeFault.UsedTwice 2)) }
+    ensures a_numbered_name { answer run_p (files_with (codes "[\"in.las\",\"o#.txt\"]") file_a) ≡ Err (Refusal.Pipeline (PipeFault.OptionValue 1 (codes "filename"))) }
+    ensures an_unknown_option { answer run_p (files_with (codes "[\"in.las\",{\"type\":\"filters.head\",\"cuont\":1},\"o.txt\"]") file_a) ≡ Err (Refusal.Pipeline (PipeFault.OptionUnknown 1 (codes "cuont"))) }
+    ensures a_count_too_large { answer run_p (files_with (codes "[\"in.las\",{\"type\":\"filters.head\",\"count\":4294967296},\"o.txt\"]") file_a) ≡ Err (Refusal.Pipeline (PipeFault.OptionValue 1 (codes "count"))) }
+    ensures two_writers_of_a_name { answer run_p (files_with (codes "[\"in.las\",{\"type\":\"writers.text\",\"filename\":\"o.txt\"},\"o.txt\"]") file_a) ≡ Err (Refusal.Pipeline (PipeFault.SameOutput 2)) }
+    ensures a_sort { answer run_p (files_with (codes "[\"in.las\",{\"type\":\"filters.sort\",\"dimension\":\"Z\"},\"o.txt\"]") file_a) ≡ Err (Refusal.NotBuilt 4) }
+    ensures two_inputs { answer run_p (files_with (codes "[\"in.las\",\"b.las\",\"o.txt\"]") file_a) ≡ Err (Refusal.NotBuilt 4) }
 {}
 
 /// Words that are no command are refused for the first one that is wrong or missing, whatever files there are, and some

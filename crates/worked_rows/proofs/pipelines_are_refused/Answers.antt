@@ -1,16 +1,23 @@
-use Rattle.std.proofs.Common.{refl, codes, None, ◌∙◌}
-use Rattle.worked_rows.specs.Rows.{file_a, files_with}
-use Rattle.worked_rows.proofs.Parts.{run_is, planned, empty_array, no_json, another_ending, numbered_name, head_first, further_member, count_too_large}
+use Rattle.std.proofs.Common.{refl, None, ◌∙◌}
+use Rattle.worked_rows.proofs.Parts as parts
+use Rattle.worked_rows.proofs.Parts.{run_is, refused}
 use Rattle.worked_rows.proofs.pipelines_are_refused.Goals as goal
 
 pub returns : goal.returns
 returns c = record {
   absent = run_is (λ name. None) ∙ refl;
-  empty_array = run_is (files_with (codes "[]") file_a) ∙ planned (codes "[]") _ empty_array;
-  no_json = run_is (files_with (codes "[\"in.las\"") file_a) ∙ planned (codes "[\"in.las\"") _ no_json;
-  another_ending = run_is (files_with (codes "[\"in.las\",\"o.laz\"]") file_a) ∙ planned (codes "[\"in.las\",\"o.laz\"]") _ another_ending;
-  a_numbered_name = run_is (files_with (codes "[\"in.las\",\"o#.txt\"]") file_a) ∙ planned (codes "[\"in.las\",\"o#.txt\"]") _ numbered_name;
-  a_head_first = run_is (files_with (codes "[{\"type\":\"filters.head\"},\"in.las\",\"o.txt\"]") file_a) ∙ planned (codes "[{\"type\":\"filters.head\"},\"in.las\",\"o.txt\"]") _ head_first;
-  a_further_member = run_is (files_with (codes "[\"in.las\",{\"type\":\"filters.head\",\"tag\":\"a\"},\"o.txt\"]") file_a) ∙ planned (codes "[\"in.las\",{\"type\":\"filters.head\",\"tag\":\"a\"},\"o.txt\"]") _ further_member;
-  a_count_too_large = run_is (files_with (codes "[\"in.las\",{\"type\":\"filters.head\",\"count\":4294967296},\"o.txt\"]") file_a) ∙ planned (codes "[\"in.las\",{\"type\":\"filters.head\",\"count\":4294967296},\"o.txt\"]") _ count_too_large;
+  empty_array = refused _ parts.empty_array;
+  no_json = refused _ parts.no_json;
+  no_stages = refused _ parts.no_stages;
+  another_ending = refused _ parts.another_ending;
+  a_head_first = refused _ parts.a_head_first;
+  a_tag_twice = refused _ parts.a_tag_twice;
+  an_unknown_tag = refused _ parts.an_unknown_tag;
+  an_input_taken_twice = refused _ parts.an_input_taken_twice;
+  a_numbered_name = refused _ parts.a_numbered_name;
+  an_unknown_option = refused _ parts.an_unknown_option;
+  a_count_too_large = refused _ parts.a_count_too_large;
+  two_writers_of_a_name = refused _ parts.two_writers_of_a_name;
+  a_sort = refused _ parts.a_sort;
+  two_inputs = refused _ parts.two_inputs;
 }

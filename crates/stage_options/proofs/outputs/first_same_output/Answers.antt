@@ -1,5 +1,5 @@
 use Rattle.std.proofs.Common.{◌∙◌, length, refl, sym, true≢false}
-use Rattle.pipeline_trees.proofs.Numbers.{find_next}
+use Rattle.pipeline_json.proofs.Numbers.{find_next}
 use Rattle.stage_options.specs.Outputs.{names_again}
 use Rattle.stage_options.proofs.Again.{least, one_more, none_again, found_here, found_none}
 use Rattle.stage_options.proofs.outputs.first_same_output.Goals as goal

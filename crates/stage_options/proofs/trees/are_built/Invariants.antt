@@ -1,5 +1,5 @@
 use Rattle.std.proofs.Common.{◌≡◌, drop}
-use Rattle.pipeline_trees.specs.Shown.{stages_view}
+use Rattle.pipeline_json.specs.Shown.{stages_view}
 use Rattle.stage_options.specs.TypedTree.{are_built}
 use Rattle.stage_options.proofs.trees.are_built.Given as goal
 

@@ -1,6 +1,6 @@
 use Rattle.std.proofs.Common.{◌≡◌, ◌++◌, drop}
 use Rattle.std.specs.Bool.{IsTrue}
-use Rattle.pipeline_trees.specs.Shown.{stages_view}
+use Rattle.pipeline_json.specs.Shown.{stages_view}
 use Rattle.stage_options.specs.TypedTree.{are_built, specs_of, options_fault}
 use Rattle.stage_options.proofs.trees.type_stages.Given as goal
 

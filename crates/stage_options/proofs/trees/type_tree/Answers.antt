@@ -1,9 +1,18 @@
-use Rattle.std.proofs.Common.{sym, subst}
-use Rattle.pipeline_trees.specs.Shown.{stages_view}
-use Rattle.pipeline_trees.specs.Trees.{IsTree}
+use Rattle.std.proofs.Common.{◌∙◌, IsTrue, sym, subst}
+use Rattle.pipeline_json.specs.Shown.{stages_view}
+use Rattle.pipeline_json.specs.Trees.{IsTree}
+use Rattle.stage_options.specs.Chained.{IsChain}
 use Rattle.stage_options.specs.Shapes.{shapes}
+use Rattle.stage_options.specs.TypedTree.{are_built}
+use Rattle.stage_options.proofs.Chains.{chained}
 use Rattle.stage_options.proofs.Shaped.{shaped_tree}
 use Rattle.stage_options.proofs.trees.type_tree.Goals as goal
 
 pub new-requires : goal.new-requires
 new-requires c = subst (λ xs. IsTree (shapes xs)) (sym c.in_ok-specs.ensures.ok) (shaped_tree (stages_view c.as_slice.result.now) c.as_slice.ensures.is_tree)
+
+pub returns-clause-chain : goal.returns-clause-chain
+returns-clause-chain c =
+    let stages = stages_view c.as_slice.result.now in
+    let built = subst (λ ss. IsTrue (are_built ss)) (sym c.as_slice.ensures.stages) c.requires in
+    subst IsChain (sym (c.new.ensures ∙ c.in_ok-specs.ensures.ok)) (chained stages c.as_slice.ensures.is_tree built)

@@ -1,8 +1,0 @@
-use Rattle.std.proofs.Common.{◌∙◌, ap}
-use Rattle.serde_json.specs.View.{members_view}
-use Rattle.pipeline_trees.specs.Stages.{without_own}
-use Rattle.pipeline_trees.proofs.Members.{options_kept, cloned_members}
-use Rattle.pipeline_trees.proofs.elements.options_in.Goals as goal
-
-pub returns : goal.returns
-returns c = ap members_view c.retain_options.ensures ∙ options_kept c.in_ok-options.options.entries ∙ ap without_own (cloned_members _ _ c.in_ok-options.ensures.cases)

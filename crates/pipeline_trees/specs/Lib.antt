@@ -1,5 +1,0 @@
-pub mod Lists
-pub mod Stages
-pub mod Trees
-pub mod Shown
-pub mod TreeShown

@@ -1,0 +1,25 @@
+use Rattle.std.proofs.Common.{◌≡◌, ◌++◌, ◌∙◌, ℕ, List, ap, sym, codes, decimal, append_assoc}
+use Rattle.run_report.specs.Faults.{at_stage}
+use Rattle.run_report.proofs.faults.pipe_fault_line.Goals as goal
+
+pub returns-in-OptionUnknown : goal.returns-in-OptionUnknown
+returns-in-OptionUnknown c = rw c.in-OptionUnknown.is c.named_line.ensures
+
+pub returns-in-OptionMissing : goal.returns-in-OptionMissing
+returns-in-OptionMissing c = rw c.in-OptionMissing.is c.named_line-in-OptionMissing.ensures
+
+pub returns-in-OptionValue : goal.returns-in-OptionValue
+returns-in-OptionValue c = rw c.in-OptionValue.is c.named_line-in-OptionValue.ensures
+
+pub returns-in-DimUnknown : goal.returns-in-DimUnknown
+returns-in-DimUnknown c = rw c.in-DimUnknown.is c.named_line-in-DimUnknown.ensures
+
+-- what stands behind a name belongs to the text of the stage
+behind_name : (i : ℕ) (named after end : List ℕ) → at_stage i named ++ (after ++ end) ≡ at_stage i (named ++ after) ++ end
+behind_name i named after end =
+    sym (append_assoc (at_stage i named) after end) ∙ ap (λ text. text ++ end) (append_assoc (codes "stage " ++ decimal i ++ codes ": ") named after)
+
+pub returns-in-DimNotNumeric : goal.returns-in-DimNotNumeric
+returns-in-DimNotNumeric c =
+    rw c.in-DimNotNumeric.is (c.named_line-in-DimNotNumeric.ensures
+    ∙ ap (λ text. codes "lasline: pipeline: " ++ text) (behind_name c.in-DimNotNumeric.i (codes "dimension " ++ c.in-DimNotNumeric.name) (codes " is not numeric") (codes "\n")))
