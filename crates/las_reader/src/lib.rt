@@ -8,3 +8,6 @@ mod records;
 
 pub use opening::OpenErr;
 pub use reader::{LasReader, Progress};
+
+#[cfg(test)]
+mod tests;

@@ -10,10 +10,3 @@ mod words;
 pub use run_report::{Fault, Place, Refusal, StageCount, fault_text, report_text};
 pub use solo::lasline_solo;
 pub use status::Status;
-
-#[cfg(test)]
-mod pipeline_tests;
-#[cfg(test)]
-mod test_files;
-#[cfg(test)]
-mod tests;
