@@ -1,8 +1,8 @@
 -- The files of a run's stages, given back one after another.
 use Rattle.std.proofs.Common.{◌≡◌, ◌⊎◌, ℕ, zero, suc, ◌+◌, ◌-◌, ◌<◌, ◌≤◌, true, false, List, [], ◌∷◌, ◌++◌, length, take, drop, reverse, slice_get, Option, Some, Result, Ok, Err, IfOk, IfErr, OnErr, IsOk, refl, ap, subst, sym, ◌∙◌, inl, inr, arith, add-one}
-use Rattle.std.proofs.lemmas.List.{reverse-append, take_all, length-map}
+use Rattle.std.proofs.lemmas.List.{reverse-append, take_all}
 use Rattle.std.proofs.lemmas.List.Sums.{sum_by_more}
-use Rattle.std.proofs.lemmas.Option.{slice_get-map, slice_get_within, get_or_from_slice_get}
+use Rattle.std.proofs.lemmas.Option.{slice_get_within, get_or_from_slice_get}
 use borrow.Author.Count.{below_more}
 use Rattle.file_devices.specs.Counts.{Rose, saturating}
 use Rattle.file_devices.specs.Named.{Names}
@@ -12,12 +12,10 @@ use Rattle.stage_kinds.specs.declared.kind.Kind.{Kind}
 use Rattle.stage_kinds.specs.declared.kind.Kind.TheVariants.{Reader, Head, Text}
 use Rattle.stage_kinds.specs.Stages.{faults_of, is_text}
 use Rattle.stage_options.specs.declared.stage.StageSpec.{StageSpec}
-use Rattle.network_core.specs.declared.node.Node.{Node}
-use Rattle.network_core.specs.Shown.{work_of}
 use Rattle.run_report.specs.declared.refusal.Refusal.{Refusal}
 use Rattle.run_report.specs.declared.refusal.Refusal.TheVariants.{Memory, Device}
 use Rattle.run_report.specs.declared.refusal.Place.TheVariants.{Stage}
-use Rattle.run_engine.specs.Works.{works_of, kept_one, kept_all, lent_to, all_lent, BrokeOff, IsKept, IsNotKept}
+use Rattle.run_engine.specs.Works.{kept_one, kept_all, lent_to, all_lent, BrokeOff, IsKept, IsNotKept}
 
 -- what is left behind the first so many begins with this one
 drop_begins : {A : Type 0} (all : List A) (i : ℕ) (x : A) (rest : List A) → drop i all ≡ x ∷ rest → (slice_get all i ≡ Some x) × (drop (suc i) all ≡ rest)
@@ -33,18 +31,15 @@ popped all left rest i x e was =
     let b = drop_begins all i x (reverse rest) turned in
     (b.0, rw add-one (sym b.1))
 
-pub work_at : {S K : Type 0} (nodes : List (Node (Kind S K))) (i : ℕ) (n : Node (Kind S K)) (w : Kind S K) → w ≡ work_of n → slice_get nodes i ≡ Some n → slice_get (works_of nodes) i ≡ Some w
-work_at nodes i n w e at = slice_get-map work_of nodes i ∙ rw at (ap Some (sym e))
+-- one work less is left
+pub one_less : (at left rest works stages : ℕ) → at + left ≡ works → rest + 1 ≡ left → works ≤ stages → (at < stages) × (at + 1 + rest ≡ works)
+one_less at left rest works stages e more fit = (omega arith, omega arith)
 
--- one node less is left
-pub one_less : (at left rest nodes stages : ℕ) → at + left ≡ nodes → rest + 1 ≡ left → nodes ≤ stages → (at < stages) × (at + 1 + rest ≡ nodes)
-one_less at left rest nodes stages e more fit = (omega arith, omega arith)
+-- no work is left
+pub all_works : (works at left : ℕ) → at + left ≡ works → left ≡ 0 → works ≤ at
+all_works works at left e none = omega arith
 
--- no node is left
-pub all_works : {S K : Type 0} (nodes : List (Node (Kind S K))) (at left : ℕ) → at + left ≡ length nodes → left ≡ 0 → length (works_of nodes) ≤ at
-all_works nodes at left e none = omega (arith, length-map nodes work_of)
-
-the_text : {S K : Type 0} (w : Kind S K) → is_text w ≡ true → (v : TextWriter K) × (w ≡ Text v)
+pub the_text : {S K : Type 0} (w : Kind S K) → is_text w ≡ true → (v : TextWriter K) × (w ≡ Text v)
 the_text (Reader r) e = cc
 the_text (Head h) e = cc
 the_text (Text v) e = (v, refl)

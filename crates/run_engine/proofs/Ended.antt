@@ -46,6 +46,7 @@ use Rattle.run_engine.specs.Cause.{Because, Blamed, AtTurns}
 use Rattle.run_engine.specs.Outcomes.{NoFault, NoDevice, DeviceAt, PointFaultAt, IsOutcome, counted_from, op_at}
 use Rattle.run_engine.specs.Works.{as_works, works_of, IsLined, IsFor, IsAtStart, AreAtStart, AreFor, HoldsOf, AllHold}
 use Rattle.run_engine.proofs.Behaving.{new_fault}
+use Rattle.run_engine.proofs.Kept.{fitting_length}
 use Rattle.run_engine.proofs.Behind.{value_at, AllBehave, all-behave, fit-all, failed-at, streams-on, AllTook, sound-all, hold-all, one_count, counted-all}
 
 -- there is none beyond the end
@@ -89,14 +90,8 @@ module _ {S K : Type 0} (s : source.Ghosts S) (k : sink.Ghosts K) where
   starts_for (t ∷ ts) [] h = absurd h
   starts_for (t ∷ ts) (w ∷ ws) h = (start_for t.options w h.0, starts_for ts ws h.1)
 
-  pub for_length : (ts : List StageSpec) (ws : List (Kind S K)) → AreFor ts ws → length ws ≡ length ts
-  for_length [] [] h = refl
-  for_length [] (w ∷ ws) h = absurd h
-  for_length (t ∷ ts) [] h = absurd h
-  for_length (t ∷ ts) (w ∷ ws) h = ap suc (for_length ts ws h.1)
-
   pub start_length : (ts : List StageSpec) (ws : List (Kind S K)) → AreAtStart k.bytes ts ws → length ws ≡ length ts
-  start_length ts ws h = for_length ts ws (starts_for ts ws h)
+  start_length ts ws h = fitting_length ts ws (starts_for ts ws h)
 
   -- the works of new nodes
   pub new_works : (chunk inputs : ℕ) (ws : List (Kind S K)) (ns : List (Node (Kind S K))) → AreNew (as_works s k) chunk inputs ws ns → works_of ns ≡ ws

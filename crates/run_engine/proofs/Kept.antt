@@ -1,5 +1,5 @@
 -- The files of writers that hold what they took are the outputs of a run.
-use Rattle.std.proofs.Common.{◌≡◌, ℕ, zero, suc, ◌+◌, ◌≤◌, ◌<◌, true, false, List, [], ◌∷◌, ◌++◌, take, Option, Some, None, refl, ap, subst, sym, ◌∙◌, arith}
+use Rattle.std.proofs.Common.{◌≡◌, ℕ, zero, suc, ◌+◌, ◌≤◌, ◌<◌, true, false, List, [], ◌∷◌, ◌++◌, length, take, Option, Some, None, refl, ap, subst, sym, ◌∙◌, arith}
 use Rattle.std.specs.Prelude.{slice_get, nat_lt}
 use Rattle.std.proofs.lemmas.Bool.{lt-ltb, le-ltb}
 use Rattle.std.proofs.lemmas.List.Elements.{filter-append}
@@ -98,6 +98,13 @@ module _ {S K : Type 0} (bytes : K → Option (List ℕ)) where
       subst (λ os. IsAsTold (kept_all bytes old (t ∷ ts) (w ∷ take j ws)) (Some (put_all m os))) (sym e)
       (subst (λ x. IsAsTold (kept_all bytes old (t ∷ ts) (w ∷ take j ws)) (Some x)) (sym (put_append m (output_of i t.options flow) (outputs_before (i + 1 + j) (outputs_from (i + 1) (passed t.options flow) ts))))
       (first_told j (i + 1) ts ws (passed t.options flow) (put_all m (output_of i t.options flow)) (kept_one bytes old t.options w) are.1 hold.1 (one_told i t.options w flow m old are.0 hold.0 told)))
+
+-- as many works as stages
+pub fitting_length : {S K : Type 0} (ts : List StageSpec) (ws : List (Kind S K)) → AreFor ts ws → length ws ≡ length ts
+fitting_length [] [] h = refl
+fitting_length [] (w ∷ ws) h = absurd h
+fitting_length (t ∷ ts) [] h = absurd h
+fitting_length (t ∷ ts) (w ∷ ws) h = ap suc (fitting_length ts ws h.1)
 
 -- a text writer is the work of a writer
 writer_for : (S : Type 0) {K : Type 0} (o : Options) (w : TextWriter K) → IsFor {S = S} o (Text w) → writes o ≡ true

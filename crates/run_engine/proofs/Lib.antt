@@ -7,3 +7,4 @@ pub mod Ended
 pub mod Lined
 pub mod Kept
 pub mod Ran
+pub mod Finishing

@@ -5,3 +5,4 @@ pub mod Cause
 pub mod Works
 pub mod Outcomes
 pub mod Opened
+pub mod Finishing

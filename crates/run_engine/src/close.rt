@@ -5,10 +5,9 @@ ghost use Rattle.file_devices.specs.Counts.{Rose, saturating};
 ghost use Rattle.file_devices.specs.Named.{kept};
 ghost use Rattle.stage_kinds.specs.declared.kind.Kind as kind_type;
 ghost use Rattle.stage_kinds.specs.Stages.{faults_of, is_text};
-ghost use Rattle.run_engine.specs.Works.{target_of, works_of, kept_one, kept_all, lent_to, all_lent, IsKept, IsNotKept};
+ghost use Rattle.run_engine.specs.Works.{target_of, kept_one, kept_all, lent_to, all_lent, IsKept, IsNotKept};
 
 use file_devices::{DeviceErr, Files, Op};
-use network_core::Node;
 use run_report::{Place, Refusal, Report};
 use stage_kinds::Kind;
 use stage_options::{Options, StageSpec};
@@ -81,26 +80,26 @@ fn close_work<F: Files>(
 /// one that is tried.
 pub(crate) fn close<F: Files>(
     files: &mut F,
-    nodes: Vec<Node<Kind<F::In, F::Out>>>,
+    works: Vec<Kind<F::In, F::Out>>,
     stages: &[StageSpec],
     outcome: Result<Report, Refusal>,
 ) -> Result<Report, Refusal>
-    requires fit { length nodes.items ≤ length stages.now }
+    requires fit { length works.items ≤ length stages.now }
     requires few { length stages.now ≤ 64 }
-    ensures ok { IfOk result (λ report. (outcome ≡ Ok report) × (F.map files.new ≡ kept_all F.Out.bytes (F.map files.old) stages.now (works_of nodes.items))) }
-    ensures err { IfErr result (IsNotKept F.Out.bytes outcome (Rose (F.faults files.old) (F.faults files.new)) (F.map files.old) (F.map files.new) stages.now (works_of nodes.items)) }
-    ensures lent { F.lent files.new ≡ F.lent files.old - all_lent (works_of nodes.items) }
+    ensures ok { IfOk result (λ report. (outcome ≡ Ok report) × (F.map files.new ≡ kept_all F.Out.bytes (F.map files.old) stages.now works.items)) }
+    ensures err { IfErr result (IsNotKept F.Out.bytes outcome (Rose (F.faults files.old) (F.faults files.new)) (F.map files.old) (F.map files.new) stages.now works.items) }
+    ensures lent { F.lent files.new ≡ F.lent files.old - all_lent works.items }
     ensures later { F.faults files.old ≤ F.faults files.new }
-    ensures counted { (i : ℕ) (w : kind_type.Kind F.In F.Out) → slice_get (works_of nodes.items) i ≡ Some w → saturating (F.faults files.old) (faults_of F.In.faults F.Out.faults w) ≤ F.faults files.new }
+    ensures counted { (i : ℕ) (w : kind_type.Kind F.In F.Out) → slice_get works.items i ≡ Some w → saturating (F.faults files.old) (faults_of F.In.faults F.Out.faults w) ≤ F.faults files.new }
 {
-    let mut nodes = nodes;
-    nodes.reverse();
+    let mut works = works;
+    works.reverse();
     let mut outcome = outcome;
     let mut at = 0;
-    while let Some(node) = nodes.pop() {
-        outcome = close_work(files, node.into_work(), &stages[at], at as u32, outcome);
+    while let Some(work) = works.pop() {
+        outcome = close_work(files, work, &stages[at], at as u32, outcome);
         at += 1;
     }
-    nodes.destroy_empty();
+    works.destroy_empty();
     outcome
 }

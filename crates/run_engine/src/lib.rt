@@ -2,6 +2,7 @@
 #![tactic(auto)]
 
 mod close;
+mod finish;
 mod line;
 mod open;
 mod outcome;

@@ -8,10 +8,11 @@ ghost use Rattle.run_engine.specs.Runs.{las_at, run_of, source_of};
 ghost use Rattle.run_engine.specs.Cause.{Because, Risen, IsInside, AtReader, AtWriter, AtStages, IsRun, IsLeft};
 
 use crate::close::close;
+use crate::finish::{Ran, works_in};
 use crate::line::line_up;
 use crate::open::open_reader;
 use crate::shape::Shape;
-use crate::turns::{Ran, take_turns};
+use crate::turns::take_turns;
 use file_devices::Files;
 use run_report::{Refusal, Report};
 use stage_options::{Options, StageSpec};
@@ -57,21 +58,26 @@ pub fn run_pipeline<F: Files>(
     ensures lent { F.lent files.new ≡ F.lent files.old }
     ensures later { F.faults files.old ≤ F.faults files.new }
 {
-    let Ok(room) = Vec::with_capacity(alloc, stages.len()) else {
+    let Ok(nodes) = Vec::with_capacity(alloc, stages.len()) else {
+        return Err(Refusal::Memory);
+    };
+    let Ok(works) = Vec::with_capacity(alloc, stages.len()) else {
+        nodes.destroy_empty();
         return Err(Refusal::Memory);
     };
     let reader = match open_reader(alloc, files, source_of(stages)) {
         Ok(reader) => reader,
         Err(refusal) => {
-            room.destroy_empty();
+            nodes.destroy_empty();
+            works.destroy_empty();
             return Err(refusal);
         }
     };
-    match line_up(files, room, reader, stages, shape.chunk()) {
+    match line_up(files, nodes, reader, stages, shape.chunk()) {
         Ok(nodes) => {
-            let Ran { nodes, outcome } = take_turns(alloc, nodes, stages, shape.queue());
-            close(files, nodes, stages, outcome)
+            let Ran { works, outcome } = take_turns(alloc, nodes, works, stages, shape.queue());
+            close(files, works, stages, outcome)
         }
-        Err((nodes, refusal)) => close(files, nodes, stages, Err(refusal)),
+        Err((nodes, refusal)) => close(files, works_in(nodes, works), stages, Err(refusal)),
     }
 }

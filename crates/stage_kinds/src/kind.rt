@@ -2,7 +2,7 @@
 
 use crate::Head;
 use cloud_points::{Make, Spread, StageFault, Work};
-use file_devices::{Op, Sink, Source};
+use file_devices::{Failed, Op, Sink, Source};
 use las_reader::LasReader;
 use text_writer::TextWriter;
 
@@ -102,5 +102,26 @@ impl<S: Source, K: Sink> Work for Kind<S, K> {
 
     fn on_end(&mut self, _cut: bool) -> bool {
         false
+    }
+}
+
+impl<S: Source, K: Sink> Kind<S, K> {
+    ghost use Rattle.std.specs.Prelude.{◌≡◌, true, OnErr};
+    ghost use Rattle.file_devices.specs.Counts.{HasCause};
+    ghost use Rattle.stage_kinds.specs.Finished.{IsFinished};
+    ghost use Rattle.stage_kinds.specs.Stages.{faults_of, is_text};
+
+    /// Has a writer's sink write what it holds back; any other stage does nothing. What the sink tells stays.
+    ///
+    /// It is `Failed` only at a writer, and only where its sink failed.
+    pub fn finish(&mut self) -> Result<(), Failed>
+        ensures finished { IsFinished K.bytes self.old self.new }
+        ensures writer { OnErr result (is_text self.old ≡ true) }
+        ensures cause { HasCause (faults_of S.faults K.faults self.old) (faults_of S.faults K.faults self.new) result }
+    {
+        match self {
+            Kind::Text(writer) => writer.finish(),
+            Kind::Reader(_) | Kind::Head(_) => Ok(()),
+        }
     }
 }

@@ -30,11 +30,12 @@ pub struct TextWriter<K> {
 impl<K: Sink> TextWriter<K> {
     /// A writer onto a sink to which nothing was appended; it appends the line with the names of the columns.
     ///
-    /// A refusal gives the sink back, and comes only where the sink failed.
+    /// A refusal gives the sink back, and comes only where the sink failed. A beginning of the line was appended then.
     pub fn begin(sink: K) -> Result<TextWriter<K>, (K, Failed)>
         ensures ok { IfOk result (λ w. Appends (K.bytes sink) header_line (K.bytes w.sink)) }
         ensures holds { IfOk result (λ w. IsAsTold (K.bytes sink) (Some []) → holds_text (K.bytes w.sink) [] ≡ true) }
         ensures later { IfOk result (λ w. K.faults sink ≤ K.faults w.sink) }
+        ensures part { IfErr result (λ e. AppendsPart (K.bytes sink) header_line (K.bytes e.0)) }
         ensures failed { IfErr result (λ e. Rose (K.faults sink) (K.faults e.0)) }
         ensures count { IfErr result (λ e. K.faults sink ≤ K.faults e.0) }
     {
@@ -57,6 +58,16 @@ impl<K: Sink> TextWriter<K> {
         put_points(points, &mut self.sink)
     }
 
+    /// Has the sink write what it holds back, by appending nothing. What it tells stays.
+    ///
+    /// It is `Failed` only where the sink failed.
+    pub fn finish(&mut self) -> Result<(), Failed>
+        ensures same { IsAsTold (K.bytes self.new.sink) (K.bytes self.old.sink) }
+        ensures cause { HasCause (K.faults self.old.sink) (K.faults self.new.sink) result }
+    {
+        self.sink.append(&[])
+    }
+
     /// The sink, with the writer ended.
     pub fn release(self) -> K
         ensures { result ≡ self.sink }
@@ -69,6 +80,7 @@ impl<K: Sink> TextWriter<K> {
 /// Appends the names of the columns.
 fn put_header<K: Sink>(sink: &mut K) -> Result<(), Failed>
     ensures ok { OnOk result (Appends (K.bytes sink.old) header_line (K.bytes sink.new)) }
+    ensures part { OnErr result (AppendsPart (K.bytes sink.old) header_line (K.bytes sink.new)) }
     ensures cause { HasCause (K.faults sink.old) (K.faults sink.new) result }
 {
     sink.append(HEADER_LINE)
