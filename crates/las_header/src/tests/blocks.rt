@@ -163,6 +163,7 @@ pub(super) const BLOCKS: [(Option<HeaderFault>, &[Edits]); 17] = [
     (
         Some(VersionNotRead),
         &[
+            &[(MINOR, 3)],
             &[(MAJOR, 2), (MINOR, 3), (HEADER_SIZE, 227)],
             &[(MINOR, 5), (FORMAT, 8), (LENGTH, 38)],
             &[(MAJOR, 2), (FORMAT, 8), (LENGTH, 19), (Z_SCALE, ONE_512TH)],
