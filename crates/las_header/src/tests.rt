@@ -1,10 +1,10 @@
 //! Headers that are read, and the first fault of each kind.
 
-use super::*;
-use std::test::Fail;
+mod blocks;
 
-/// The binary64 word nearest to 0.01.
-const CENT: u64 = 0x3F84_7AE1_47AE_147B;
+use super::*;
+use blocks::{BLOCKS, CENT, FRONTS, Field};
+use std::test::Fail;
 
 fn set(bytes: &mut [u8; 375], at: usize, new: &[u8]) {
     for (i, byte) in new.iter().enumerate() {
@@ -14,8 +14,8 @@ fn set(bytes: &mut [u8; 375], at: usize, new: &[u8]) {
     }
 }
 
-/// The header block of a file with two points of format 0, and no more.
-fn two_points() -> [u8; 375] {
+/// The header block of a file of format 0 without points, and no more.
+fn no_points() -> [u8; 375] {
     let mut bytes = [0; 375];
     set(&mut bytes, 0, b"LASF");
     set(&mut bytes, 24, &[1, 4]);
@@ -25,13 +25,13 @@ fn two_points() -> [u8; 375] {
     set(&mut bytes, 131, &CENT.to_le_bytes());
     set(&mut bytes, 139, &CENT.to_le_bytes());
     set(&mut bytes, 147, &CENT.to_le_bytes());
-    set(&mut bytes, 247, &2u64.to_le_bytes());
     bytes
 }
 
 #[test]
 fn a_header_of_two_points_is_read(rt: HostRuntime) -> Result<(), Fail> {
-    let mut bytes = two_points();
+    let mut bytes = no_points();
+    set(&mut bytes, 247, &[2]);
     set(&mut bytes, 155, &0x3FD5_5555_5555_5555u64.to_le_bytes());
     set(&mut bytes, 107, &[7]);
     set(&mut bytes, 90, &[45, 1, 0xE8, 7]);
@@ -58,105 +58,95 @@ fn a_header_of_two_points_is_read(rt: HostRuntime) -> Result<(), Fail> {
     Ok(())
 }
 
-/// The fault where these bytes stand at this place of the header of two points.
-fn fault_with(at: usize, new: &[u8]) -> Option<HeaderFault> {
-    let mut bytes = two_points();
-    set(&mut bytes, at, new);
-    read_header(&bytes).err()
-}
-
-#[test]
-fn each_fault_is_told(rt: HostRuntime) -> Result<(), Fail> {
-    let word_behind = 0x3F84_7AE1_47AE_147Cu64.to_le_bytes();
-    let below_zero = 0xBF84_7AE1_47AE_147Bu64.to_le_bytes();
-    let billion = 0x41CD_CD65_0000_0000u64.to_le_bytes();
-    let infinite = 0x7FF0_0000_0000_0000u64.to_le_bytes();
-    assert_eq!(rt; fault_with(3, b"f"), Some(HeaderFault::NotLas));
-    assert_eq!(rt; fault_with(25, &[3]), Some(HeaderFault::VersionNotRead));
-    assert_eq!(rt; fault_with(94, &[0x76]), Some(HeaderFault::HeaderSize));
-    assert_eq!(rt; fault_with(104, &[131]), Some(HeaderFault::Compressed));
-    assert_eq!(rt; fault_with(104, &[4]), Some(HeaderFault::FormatNotRead));
-    assert_eq!(rt; fault_with(105, &[19]), Some(HeaderFault::RecordTooShort));
-    assert_eq!(rt; fault_with(96, &[0x76]), Some(HeaderFault::PointsInHeader));
-    assert_eq!(rt;
-        fault_with(139, &[0; 8]),
-        Some(HeaderFault::ScaleNotPositive(Axis::Y))
-    );
-    assert_eq!(rt;
-        fault_with(147, &below_zero),
-        Some(HeaderFault::ScaleNotPositive(Axis::Z))
-    );
-    assert_eq!(rt;
-        fault_with(131, &word_behind),
-        Some(HeaderFault::ScaleNotDecimal(Axis::X))
-    );
-    assert_eq!(rt;
-        fault_with(163, &billion),
-        Some(HeaderFault::OffsetOutOfRange(Axis::Y))
-    );
-    assert_eq!(rt;
-        fault_with(171, &infinite),
-        Some(HeaderFault::OffsetOutOfRange(Axis::Z))
-    );
-    Ok(())
-}
-
-/// The fault of the first bytes of a file.
-fn fault_of_front(bytes: &[u8; 375], end: usize) -> Option<HeaderFault> {
-    if end < 375 {
-        read_header(&bytes[..end]).err()
+/// The first fault in the front of a file whose header block has these numbers in the place of those of a file without
+/// points.
+fn first_fault(length: usize, edits: &[(Field, u64)]) -> Option<HeaderFault> {
+    let mut bytes = no_points();
+    for &(field, number) in edits {
+        for (i, byte) in number.to_le_bytes().iter().enumerate() {
+            if i < field.bytes && field.at < 375 && i < 375 - field.at {
+                bytes[field.at + i] = *byte;
+            }
+        }
+    }
+    if length < 375 {
+        read_header(&bytes[..length]).err()
     } else {
-        read_header(bytes).err()
+        read_header(&bytes).err()
     }
 }
 
 #[test]
-fn a_short_file_has_no_header(rt: HostRuntime) -> Result<(), Fail> {
-    let mut bytes = two_points();
-    assert_eq!(rt; fault_of_front(&bytes, 3), Some(HeaderFault::NotLas));
-    assert_eq!(rt; fault_of_front(&bytes, 25), Some(HeaderFault::HeaderSize));
-    assert_eq!(rt; fault_of_front(&bytes, 374), Some(HeaderFault::HeaderSize));
-    set(&mut bytes, 24, &[2]);
-    assert_eq!(rt; fault_of_front(&bytes, 25), Some(HeaderFault::HeaderSize));
-    assert_eq!(rt;
-        fault_of_front(&bytes, 26),
-        Some(HeaderFault::VersionNotRead)
-    );
+fn the_first_fault_is_told(rt: HostRuntime) -> Result<(), Fail> {
+    for &(fault, blocks) in &BLOCKS {
+        for (row, edits) in blocks.iter().enumerate() {
+            assert_eq!(rt; first_fault(375, edits), fault, "block {row}");
+        }
+    }
+    for &(length, edits, fault) in &FRONTS {
+        assert_eq!(rt; first_fault(length, edits), Some(fault));
+    }
     Ok(())
 }
 
+/// Words and the scales that they stand for in nanounits, from an independent reading of the standard.
+const SCALES: [(u64, Result<i64, ScaleFault>); 42] = [
+    (0, Err(ScaleFault::NotPositive)),
+    (0x8000_0000_0000_0001, Err(ScaleFault::NotPositive)),
+    (0xBEDD_3640_0000_0000, Err(ScaleFault::NotPositive)),
+    (0xBFEF_BE76_C8B4_3958, Err(ScaleFault::NotPositive)),
+    (0xC023_610A_4FDC_839B, Err(ScaleFault::NotPositive)),
+    (0xC130_0000_2F29_0000, Err(ScaleFault::NotPositive)),
+    (0xE483_9CAD_10B8_6300, Err(ScaleFault::NotPositive)),
+    (0xFFF0_0000_0000_0000, Err(ScaleFault::NotPositive)),
+    (0x3F45_4C98_5F06_F694, Ok(650_000)),
+    (0x3F46_F006_8DB8_BAC7, Ok(700_000)),
+    (0x3F50_624D_D2F1_A9FC, Ok(1_000_000)),
+    (0x3F68_7A4A_48F9_6E16, Ok(2_988_000)),
+    (0x3F84_7AE1_47AE_147B, Ok(10_000_000)),
+    (0x3FAB_2BA7_F983_BA09, Ok(53_067_445)),
+    (0x3FB1_EAE3_F98F_229D, Ok(69_990_395)),
+    (0x3FC0_D973_36B6_FEE3, Ok(131_636_049)),
+    (0x3FCD_9235_8A84_0591, Ok(231_024_449)),
+    (0x3FD0_DF40_7123_1CA9, Ok(263_626_204)),
+    (0x3FDA_483D_A25E_1F81, Ok(410_659_226)),
+    (0x3FE0_0D34_92C8_88DF, Ok(501_611_983)),
+    (0x3FE5_9507_F2F9_C361, Ok(674_442_267)),
+    (0x3FEB_6E21_4903_87A8, Ok(857_193_606)),
+    (0x3FEE_7FDE_77F8_92AC, Ok(953_109_011)),
+    (0x01E2_7800_2181_0070, Err(ScaleFault::NotDecimal)),
+    (0x076D_779A_A1E8_A87D, Err(ScaleFault::NotDecimal)),
+    (0x3DB7_4991_F200_0000, Err(ScaleFault::NotDecimal)),
+    (0x3E00_4324_0000_0000, Err(ScaleFault::NotDecimal)),
+    (0x3F08_A43B_B40B_34E8, Err(ScaleFault::NotDecimal)),
+    (0x3F50_0000_0000_0000, Err(ScaleFault::NotDecimal)),
+    (0x3F4B_8597_8415_A3D7, Err(ScaleFault::NotDecimal)),
+    (0x3F70_624D_D2F1_A9FB, Err(ScaleFault::NotDecimal)),
+    (0x3F77_7B7C_7820_A30D, Err(ScaleFault::NotDecimal)),
+    (0x3FAE_5C91_D14E_3BCC, Err(ScaleFault::NotDecimal)),
+    (0x3FCF_8C0C_0BEB_B55E, Err(ScaleFault::NotDecimal)),
+    (0x3FEA_8F5C_28F5_C290, Err(ScaleFault::NotDecimal)),
+    (0x4000_0000_0000_0000, Err(ScaleFault::NotDecimal)),
+    (0x4010_8B32_C7D3_68C8, Err(ScaleFault::NotDecimal)),
+    (0x4050_1A3D_70A3_D70A, Err(ScaleFault::NotDecimal)),
+    (0x41CD_CD65_0000_0000, Err(ScaleFault::NotDecimal)),
+    (0x4BC5_63FB_531F_DCD9, Err(ScaleFault::NotDecimal)),
+    (0x7FF0_0000_0000_0000, Err(ScaleFault::NotDecimal)),
+    (0x7FF8_0000_0000_0000, Err(ScaleFault::NotDecimal)),
+];
+
 #[test]
-fn the_first_fault_is_told(rt: HostRuntime) -> Result<(), Fail> {
-    let mut bytes = two_points();
-    set(&mut bytes, 163, &0x41CD_CD65_0000_0000u64.to_le_bytes());
-    set(&mut bytes, 147, &[0; 8]);
-    assert_eq!(rt;
-        read_header(&bytes),
-        Err(HeaderFault::ScaleNotPositive(Axis::Z))
-    );
-    set(&mut bytes, 131, &0x3F84_7AE1_47AE_147Cu64.to_le_bytes());
-    assert_eq!(rt;
-        read_header(&bytes),
-        Err(HeaderFault::ScaleNotDecimal(Axis::X))
-    );
-    set(&mut bytes, 96, &[0x76]);
-    assert_eq!(rt; read_header(&bytes), Err(HeaderFault::PointsInHeader));
-    set(&mut bytes, 105, &[19]);
-    assert_eq!(rt; read_header(&bytes), Err(HeaderFault::RecordTooShort));
-    set(&mut bytes, 104, &[5]);
-    assert_eq!(rt; read_header(&bytes), Err(HeaderFault::FormatNotRead));
-    set(&mut bytes, 104, &[128]);
-    assert_eq!(rt; read_header(&bytes), Err(HeaderFault::Compressed));
-    set(&mut bytes, 94, &[0x76]);
-    assert_eq!(rt; read_header(&bytes), Err(HeaderFault::HeaderSize));
-    set(&mut bytes, 25, &[5]);
-    assert_eq!(rt; read_header(&bytes), Err(HeaderFault::VersionNotRead));
+fn a_scale_is_the_decimal_of_its_word(rt: HostRuntime) -> Result<(), Fail> {
+    for &(word, nano) in &SCALES {
+        let scale = scale_of_word(word);
+        assert_eq!(rt; scale.map(|scale| scale.nano()), nano);
+    }
     Ok(())
 }
 
 #[test]
 fn a_written_header_is_read_again(rt: HostRuntime) -> Result<(), Fail> {
-    let mut bytes = two_points();
+    let mut bytes = no_points();
     set(&mut bytes, 4, &[1, 2, 3, 4, 5, 6, 7]);
     set(&mut bytes, 58, b"by hand");
     set(&mut bytes, 90, &[45, 1, 0xE8, 7]);

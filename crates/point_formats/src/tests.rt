@@ -1,79 +1,154 @@
 //! Records and the points that they stand for.
 
+ghost use Rattle.std.specs.Prelude.{IfOk};
+ghost use Rattle.las_header.specs.Offsets.{IsOffset};
+ghost use Rattle.point_formats.specs.Grids.{IsNear};
+
+mod rows;
+
 use super::*;
-use cloud_points::{Dim, Point};
+use arrayvec::ArrayVec;
+use cloud_points::Point;
 use decimal_coords::Scale;
-use las_header::Format;
+use rows::{DECODED, ENCODED, Row};
+use std::str::{FromStr, SplitWhitespace};
 use std::test::Fail;
 
-/// A record of format 6.
-const NEW: [u8; 30] = [
-    0x64, 0, 0, 0, 0xC8, 0, 0, 0, 0x2C, 1, 0, 0, 5, 0, 0x99, 0x60, 2, 7, 0xC4, 9, 1, 0, 0, 0, 0, 0,
-    0, 0, 0xF0, 0x3F,
-];
-
-/// A record of format 3.
-const COLOURED: [u8; 34] = [
-    0x37, 0, 0, 0, 0x30, 0, 0, 0, 0x1F, 0x28, 0, 0, 0x57, 0x6C, 0x22, 9, 0xE5, 0, 1, 0, 0, 0, 0, 0,
-    0, 0, 0, 0, 0x57, 0x6C, 0x3F, 0xC4, 0xB1, 0xBE,
-];
-
-/// Two records of format 0, and their coordinates.
-const OLD: [([u8; 20], [i64; 3]); 2] = [
-    (
-        [
-            0x64, 0, 0, 0, 0xC8, 0, 0, 0, 0x2C, 1, 0, 0, 0, 0, 9, 2, 0, 0, 0, 0,
-        ],
-        [1_000_000_000, 2_000_000_000, 3_000_000_000],
-    ),
-    (
-        [
-            0xFF, 0xFF, 0xFF, 0xFF, 0, 0, 0, 0, 5, 0, 0, 0, 0, 0, 9, 2, 0, 0, 0, 0,
-        ],
-        [-10_000_000, 0, 50_000_000],
-    ),
-];
-
-fn new_point() -> Point {
-    let mut point = Point::zero();
-    (point.x, point.y, point.z) = (1_000_000_000, 2_000_000_000, 3_000_000_000);
-    point.intensity = 5;
-    (point.return_number, point.number_of_returns) = (9, 9);
-    (point.scan_channel, point.scan_direction_flag) = (2, 1);
-    (point.classification, point.user_data) = (2, 7);
-    point.scan_angle_rank = 15_000_000_000;
-    point.point_source_id = 1;
-    point.gps_time = 0x3FF0_0000_0000_0000;
-    point
+/// The next number of a row.
+fn number<T: FromStr>(words: &mut SplitWhitespace) -> Result<T, Fail>
+where
+    T::Err: std::fmt::Debug + Drop,
+{
+    Ok(words.next().ok_or("no word")?.parse::<T>()?)
 }
 
-fn coloured_point() -> Point {
-    let mut point = Point::zero();
-    (point.x, point.y, point.z) = (550_000_000, 480_000_000, 102_710_000_000);
-    point.intensity = 27_735;
-    (point.return_number, point.number_of_returns) = (2, 4);
-    point.classification = 9;
-    point.scan_angle_rank = -27_000_000_000;
-    point.point_source_id = 1;
-    (point.red, point.green, point.blue) = (27_735, 50_239, 48_817);
-    point
+fn scale(words: &mut SplitWhitespace) -> Result<Scale, Fail> {
+    Ok(Scale::new(number(words)?).ok_or("no scale")?)
+}
+
+fn offset(words: &mut SplitWhitespace) -> Result<i64, Fail>
+    ensures { IfOk result IsOffset }
+{
+    let nano = number::<i64>(words)?;
+    if nano.unsigned_abs() > 1_000_000_000_000_000_000 {
+        return Err(Fail::from("an offset is far"));
+    }
+    Ok(nano)
+}
+
+fn grid_of(text: &str) -> Result<Grid, Fail>
+    ensures { IfOk result IsNear }
+{
+    let mut words = text.split_whitespace();
+    let scale = [scale(&mut words)?, scale(&mut words)?, scale(&mut words)?];
+    let offset = [
+        offset(&mut words)?,
+        offset(&mut words)?,
+        offset(&mut words)?,
+    ];
+    Ok(Grid { scale, offset })
+}
+
+fn point_of(text: &str) -> Result<Point, Fail> {
+    let mut words = text.split_whitespace();
+    Ok(Point {
+        x: number(&mut words)?,
+        y: number(&mut words)?,
+        z: number(&mut words)?,
+        intensity: number(&mut words)?,
+        return_number: number(&mut words)?,
+        number_of_returns: number(&mut words)?,
+        scan_direction_flag: number(&mut words)?,
+        edge_of_flight_line: number(&mut words)?,
+        classification: number(&mut words)?,
+        synthetic: number(&mut words)?,
+        key_point: number(&mut words)?,
+        withheld: number(&mut words)?,
+        overlap: number(&mut words)?,
+        scan_channel: number(&mut words)?,
+        scan_angle_rank: number(&mut words)?,
+        user_data: number(&mut words)?,
+        point_source_id: number(&mut words)?,
+        gps_time: number(&mut words)?,
+        red: number(&mut words)?,
+        green: number(&mut words)?,
+        blue: number(&mut words)?,
+        infrared: number(&mut words)?,
+    })
+}
+
+fn digit(letter: u8) -> u8 {
+    match letter {
+        b'0'..=b'9' => letter - b'0',
+        b'a'..=b'f' => letter - b'a' + 10,
+        _ => 0,
+    }
+}
+
+/// The bytes that hexadecimal digits stand for.
+fn bytes_of(digits: &str) -> ArrayVec<u8, 38> {
+    let mut bytes = ArrayVec::new();
+    for pair in digits.as_bytes().chunks(2) {
+        if let [high, low] = pair {
+            let _ = bytes.try_push(digit(*high) << 4 | digit(*low));
+        }
+    }
+    bytes
+}
+
+/// The point that `decode` reads from the record of a row.
+fn point_read(row: &Row) -> Result<Point, Fail> {
+    let record = bytes_of(row.record.ok().ok_or("no record")?);
+    if record.len() < row.format.size() as usize {
+        return Err(Fail::from("a short record"));
+    }
+    Ok(decode(row.format, &record, &grid_of(row.grid)?))
+}
+
+/// What `encode` answers for the point of a row, and the bytes that it leaves, of 7s before.
+fn written(row: &Row) -> Result<(Result<usize, EncodeFault>, [u8; 39]), Fail> {
+    let mut out = [7; 39];
+    let point = point_of(row.point)?;
+    let answer = encode(row.format, &point, &grid_of(row.grid)?, &mut out);
+    Ok((answer, out))
+}
+
+/// What it is to answer, and the bytes that it is to leave.
+fn wanted(row: &Row) -> (Result<usize, EncodeFault>, [u8; 39]) {
+    let mut out = [7; 39];
+    let record = match row.record {
+        Ok(digits) => bytes_of(digits),
+        Err(fault) => return (Err(fault), out),
+    };
+    for (place, byte) in out.iter_mut().zip(record.iter()) {
+        *place = *byte;
+    }
+    (Ok(record.len()), out)
+}
+
+/// The number of the first row whose record `decode` reads otherwise.
+fn wrongly_read(rows: &[Row]) -> Result<Option<usize>, Fail> {
+    for (number, row) in rows.iter().enumerate() {
+        if point_read(row)? != point_of(row.point)? {
+            return Ok(Some(number));
+        }
+    }
+    Ok(None)
+}
+
+/// The number of the first row whose point `encode` writes otherwise.
+fn wrongly_written(rows: &[Row]) -> Result<Option<usize>, Fail> {
+    for (number, row) in rows.iter().enumerate() {
+        if written(row)? != wanted(row) {
+            return Ok(Some(number));
+        }
+    }
+    Ok(None)
 }
 
 #[test]
 fn records_stand_for_points(rt: HostRuntime) -> Result<(), Fail> {
-    let hundredth = Scale::new(10_000_000).ok_or("no scale")?;
-    let grid = Grid {
-        scale: [hundredth; 3],
-        offset: [0; 3],
-    };
-    assert_eq!(rt; decode(Format::F6, &NEW, &grid), new_point());
-    assert_eq!(rt; decode(Format::F3, &COLOURED, &grid), coloured_point());
-    for (record, place) in OLD {
-        let point = decode(Format::F0, &record, &grid);
-        assert_eq!(rt; [point.x, point.y, point.z], place);
-        assert_eq!(rt; (point.return_number, point.number_of_returns), (1, 1));
-        assert_eq!(rt; (point.classification, point.gps_time), (2, 0));
-    }
+    assert_eq!(rt; wrongly_read(&DECODED)?, None);
     numbers_return();
     records_are_whole();
     Ok(())
@@ -81,53 +156,6 @@ fn records_stand_for_points(rt: HostRuntime) -> Result<(), Fail> {
 
 #[test]
 fn points_are_written_as_records(rt: HostRuntime) -> Result<(), Fail> {
-    let hundredth = Scale::new(10_000_000).ok_or("no scale")?;
-    let grid = Grid {
-        scale: [hundredth; 3],
-        offset: [0; 3],
-    };
-    let mut out = [7; 35];
-    assert_eq!(rt; encode(Format::F6, &new_point(), &grid, &mut out), Ok(30));
-    assert!(rt; out.starts_with(&NEW));
-    assert_eq!(rt;
-        encode(Format::F3, &coloured_point(), &grid, &mut out),
-        Ok(34)
-    );
-    assert!(rt; out.starts_with(&COLOURED));
-    assert_eq!(rt; out[34], 7);
-    Ok(())
-}
-
-#[test]
-fn the_first_field_that_is_too_small_is_told(rt: HostRuntime) -> Result<(), Fail> {
-    let hundredth = Scale::new(10_000_000).ok_or("no scale")?;
-    let grid = Grid {
-        scale: [hundredth; 3],
-        offset: [0; 3],
-    };
-    let mut out = [7; 34];
-    let mut point = new_point();
-    point.classification = 32;
-    let number = EncodeFault::ValueOutOfRange(Dim::ReturnNumber);
-    assert_eq!(rt; encode(Format::F3, &point, &grid, &mut out), Err(number));
-    point.scan_angle_rank = 127_500_000_000;
-    point.return_number = 1;
-    point.number_of_returns = 1;
-    let class = EncodeFault::ValueOutOfRange(Dim::Classification);
-    assert_eq!(rt; encode(Format::F1, &point, &grid, &mut out), Err(class));
-    point.classification = 31;
-    let angle = EncodeFault::ValueOutOfRange(Dim::ScanAngleRank);
-    assert_eq!(rt; encode(Format::F0, &point, &grid, &mut out), Err(angle));
-    (point.x, point.z) = (i64::MIN, 21_474_836_475_000_000);
-    assert_eq!(rt;
-        encode(Format::F0, &point, &grid, &mut out),
-        Err(EncodeFault::NotHeld(Dim::X))
-    );
-    point.x = 0;
-    assert_eq!(rt;
-        encode(Format::F0, &point, &grid, &mut out),
-        Err(EncodeFault::NotHeld(Dim::Z))
-    );
-    assert_eq!(rt; out, [7; 34]);
+    assert_eq!(rt; wrongly_written(&ENCODED)?, None);
     Ok(())
 }
