@@ -197,15 +197,11 @@ fn a_file_that_was_not_written_is_not_kept(rt: HostRuntime) -> Result<(), Fail> 
     let alloc = rt.alloc();
     let mut files = RealFiles::new(&rt, alloc);
     // A file that is opened for reading alone refuses each write, and this device can't be synced.
-    for (device, writes, pieces) in [
-        (
-            "late.txt.lasline-part",
-            false,
-            [b"abc".as_slice(), b""].as_slice(),
-        ),
-        ("late.txt.lasline-part", false, &[b"abc", b"abc"]),
-        ("/dev/null", true, &[b"abc", b""]),
-        ("/dev/null", true, &[b"", b"abc"]),
+    for (device, writes, first, second) in [
+        ("late.txt.lasline-part", false, "abc", ""),
+        ("late.txt.lasline-part", false, "abc", "abc"),
+        ("/dev/null", true, "abc", ""),
+        ("/dev/null", true, "", "abc"),
     ] {
         fs::write(&rt, "late.txt.lasline-part", "")?;
         let mut how = OpenOptions::new();
@@ -213,13 +209,10 @@ fn a_file_that_was_not_written_is_not_kept(rt: HostRuntime) -> Result<(), Fail> 
         let file = how.open(&rt, device)?;
         let part = String::from_str(alloc, "late.txt.lasline-part")?;
         let mut sink = RealOut::new(file, part, Vec::with_capacity(alloc, 4)?, 4);
-        let mut failed = 0u8;
-        for piece in pieces {
-            if sink.append(piece).is_err() {
-                failed = failed.saturating_add(1);
-            }
-        }
-        assert!(rt; failed > 0, "{device}");
+        let early = sink.append(first.as_bytes());
+        let late = sink.append(second.as_bytes());
+        assert_eq!(rt; early.is_err(), first.is_empty(), "{device}");
+        assert!(rt; late.is_err(), "{device}");
         assert_eq!(rt;
             files.keep("late.txt", sink),
             Err(DeviceErr::Failed),
