@@ -1,5 +1,5 @@
 //! The store of the system's files.
-ghost use Rattle.std.specs.Prelude.{◌≡◌, ◌+◌, ◌-◌, ◌^◌, ◌<◌, ◌≤◌, [], None, IfOk, OnOk, OnErr, IsErrOf, ◌++◌, codes, string_bytes, true, false};
+ghost use Rattle.std.specs.Prelude.{◌≡◌, ◌+◌, ◌-◌, ◌^◌, ◌<◌, ◌≤◌, [], None, IfOk, IsErrOf, ◌++◌, codes, string_bytes, true, false};
 ghost use Rattle.file_devices.specs.Counts.{Rose, saturating};
 ghost use Rattle.file_devices.specs.declared.devices.DeviceErr.TheVariants.{Absent, Failed as DeviceFailed};
 
