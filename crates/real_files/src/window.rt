@@ -3,8 +3,11 @@ ghost use Rattle.std.specs.Prelude.{◌≡◌, ◌+◌, ◌-◌, ◌^◌, ◌<�
 
 use file_devices::Failed;
 use std::alloc::{AllocError, Global};
-use std::fs::File;
+use std::io::ErrorKind;
 use std::os::unix::fs::FileExt;
+
+// How often a read is tried that signals interrupt.
+const MOST_TRIES: u32 = 16;
 
 // The first `held` bytes of the block are those of the file from place `start` on.
 #[derive(Drop)]
@@ -27,13 +30,27 @@ fn copy(bytes: &[u8], into: &mut [u8]) -> usize
     count
 }
 
+// Reads into a block, and once more where a signal interrupts it.
+fn read_patiently<F: FileExt>(file: &F, at: u64, block: &mut [u8]) -> Result<usize, Failed>
+    ensures within { IfOk result (λ n. n ≤ length block.old) }
+{
+    for _ in 0..MOST_TRIES {
+        match file.read_at(block, at) {
+            Ok(count) => return Ok(count),
+            Err(e) if e.kind() == ErrorKind::Interrupted => {}
+            Err(_) => return Err(Failed),
+        }
+    }
+    Err(Failed)
+}
+
 // Reads into a block, which is of the reader's own since a read of std doesn't say that it leaves the
 // rest of its buffer alone.
-fn read_block(file: &File, at: u64, block: &mut [u8]) -> Result<usize, Failed>
+fn read_block<F: FileExt>(file: &F, at: u64, block: &mut [u8]) -> Result<usize, Failed>
     ensures within { IfOk result (λ n. n ≤ length block.old) }
     ensures small { IfOk result (λ n. at + n < 2 ^ 64) }
 {
-    let count = file.read_at(block, at).or(Err(Failed))?;
+    let count = read_patiently(file, at, block)?;
     at.checked_add(count as u64).ok_or(Failed)?;
     Ok(count)
 }
@@ -70,7 +87,7 @@ impl Window {
     }
 
     // Takes the block of the file at a place. After a failure it holds nothing.
-    pub(crate) fn refill(&mut self, file: &File, at: u64) -> Result<(), Failed>
+    pub(crate) fn refill<F: FileExt>(&mut self, file: &F, at: u64) -> Result<(), Failed>
         ensures start { OnOk result (self.new.start ≡ at) }
         ensures err { OnErr result (self.new.held ≡ 0) }
     {

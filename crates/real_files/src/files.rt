@@ -1,12 +1,15 @@
 //! The store of the system's files.
-ghost use Rattle.std.specs.Prelude.{◌≡◌, ◌+◌, ◌-◌, ◌^◌, ◌<◌, ◌≤◌, [], None, IfOk, ◌++◌, codes, string_bytes, false};
-ghost use Rattle.file_devices.specs.Counts.{saturating};
+ghost use Rattle.std.specs.Prelude.{◌≡◌, ◌+◌, ◌-◌, ◌^◌, ◌<◌, ◌≤◌, [], None, IfOk, IsErrOf, ◌++◌, codes, string_bytes, true, false};
+ghost use Rattle.file_devices.specs.Counts.{Rose, saturating};
+ghost use Rattle.file_devices.specs.declared.devices.DeviceErr.TheVariants.{Absent, Failed as DeviceFailed};
 
-use crate::real_files::window::Window;
-use crate::real_files::{RealIn, RealOut};
+use crate::target::{Target, target_of};
+use crate::window::Window;
+use crate::{RealIn, RealOut};
 use file_devices::{DeviceErr, Files};
 use std::alloc::{AllocError, Global};
-use std::fs::{File, OpenOptions};
+use std::fs::{File, OpenOptions, Permissions};
+use std::os::unix::fs::{OpenOptionsExt, PermissionsExt};
 use std::{fs, io};
 
 // How many bytes are read and written together.
@@ -16,7 +19,8 @@ const BLOCK: usize = 65_536;
 ///
 /// A file NAME is written as the new file `NAME.lasline-part`, which gets its name when it is kept and is
 /// removed where it isn't. Where a file of that other name is there already, it stays as it is, and
-/// creating fails.
+/// creating fails. It fails too where NAME is there and is no regular file. Where NAME is a link, the file
+/// that it names stands for it. A file that is replaced leaves its mode to the new one.
 #[derive(Drop)]
 pub struct RealFiles<'a, R: std::rt::Files<File = File>> {
     rt: &'a R,
@@ -70,19 +74,78 @@ impl<'a, R: std::rt::Files<File = File>> RealFiles<'a, R> {
         self.faults = self.faults.saturating_add(faults);
     }
 
-    // Makes a file that isn't there yet.
-    fn create_new(&self, path: &str) -> io::Result<File> {
-        let mut how = OpenOptions::new();
-        how.write(true).create_new(true);
-        how.open(self.rt, path)
+    // Counts a fault of its own.
+    fn fail(&mut self) -> DeviceErr
+        ensures failed { result ≡ DeviceFailed }
+        ensures rose { self.new.faults ≡ saturating self.old.faults 1 }
+        ensures later { self.old.faults ≤ self.new.faults }
+        ensures lent { self.new.lent ≡ self.old.lent }
+    {
+        self.faults = self.faults.saturating_add(1);
+        DeviceErr::Failed
     }
 
-    // Gives the file of a sink its name. All its bytes have gone to the system.
-    fn rename(&self, out: &RealOut, name: &str) -> io::Result<()>
+    // Where the output of this name goes.
+    fn target(&mut self, name: &str) -> Result<Target, DeviceErr>
+        ensures not_absent { IsErrOf result Absent → ⊥ }
+        ensures failed { IsErrOf result DeviceFailed → Rose self.old.faults self.new.faults }
+        ensures later { self.old.faults ≤ self.new.faults }
+        ensures lent { self.new.lent ≡ self.old.lent }
+    {
+        match target_of(self.rt, self.alloc, name) {
+            Ok(target) => Ok(target),
+            Err(e) if e.kind() == io::ErrorKind::OutOfMemory => Err(DeviceErr::Memory),
+            Err(_) => Err(self.fail()),
+        }
+    }
+
+    // Makes a file that isn't there yet. It never lets anyone do what this mode forbids.
+    fn create_new(&self, path: &str, mode: Option<u32>) -> io::Result<File> {
+        let mut how = OpenOptions::new();
+        how.write(true).create_new(true);
+        let Some(mode) = mode else {
+            return how.open(self.rt, path);
+        };
+        how.mode(mode);
+        let file = how.open(self.rt, path)?;
+        // The system takes the process's mask off the mode of a new file.
+        match file.set_permissions(Permissions::from_mode(mode)) {
+            Ok(()) => Ok(file),
+            Err(e) => {
+                fs::remove_file(self.rt, path)?;
+                Err(e)
+            }
+        }
+    }
+
+    // Gives the file of a sink its name. All its bytes have gone to the device.
+    fn rename(&self, out: &RealOut, target: &Target) -> io::Result<()>
         requires none_waits { out.now.waiting.items ≡ [] }
         requires whole { out.now.broken ≡ false }
+        requires synced { out.now.synced ≡ true }
     {
-        fs::rename(self.rt, out.part(), name)
+        if let Some(mode) = target.mode {
+            out.set_mode(mode)?;
+        }
+        fs::rename(self.rt, out.part(), target.path.as_str())
+    }
+
+    // Looks at a name once more, and gives it to the file of a sink. What comes to stand there between
+    // the two is replaced.
+    fn put(&mut self, out: &RealOut, name: &str) -> Result<(), DeviceErr>
+        requires none_waits { out.now.waiting.items ≡ [] }
+        requires whole { out.now.broken ≡ false }
+        requires synced { out.now.synced ≡ true }
+        ensures not_absent { IsErrOf result Absent → ⊥ }
+        ensures failed { IsErrOf result DeviceFailed → Rose self.old.faults self.new.faults }
+        ensures later { self.old.faults ≤ self.new.faults }
+        ensures lent { self.new.lent ≡ self.old.lent }
+    {
+        let target = self.target(name)?;
+        match self.rename(out, &target) {
+            Ok(()) => Ok(()),
+            Err(_) => Err(self.fail()),
+        }
     }
 
     // Removes the file that a sink was written to.
@@ -119,10 +182,7 @@ impl<'a, R: std::rt::Files<File = File>> Files for RealFiles<'a, R> {
                 self.lent += 1;
                 Ok(RealIn::new(file, window))
             }
-            Err(_) => {
-                self.faults = self.faults.saturating_add(1);
-                Err(DeviceErr::Failed)
-            }
+            Err(_) => Err(self.fail()),
         }
     }
 
@@ -130,29 +190,29 @@ impl<'a, R: std::rt::Files<File = File>> Files for RealFiles<'a, R> {
         if self.lent == u64::MAX {
             return Err(DeviceErr::Memory);
         }
-        let part = part_of(self.alloc, name)?;
+        let target = self.target(name)?;
+        let part = part_of(self.alloc, target.path.as_str())?;
         let buffer = Vec::with_capacity(self.alloc, BLOCK)?;
-        match self.create_new(part.as_str()) {
+        match self.create_new(part.as_str(), target.mode) {
             Ok(file) => {
                 self.lent += 1;
                 Ok(RealOut::new(file, part, buffer, BLOCK))
             }
-            Err(_) => {
-                self.faults = self.faults.saturating_add(1);
-                Err(DeviceErr::Failed)
-            }
+            Err(_) => Err(self.fail()),
         }
     }
 
     fn keep(&mut self, name: &str, mut out: RealOut) -> Result<(), DeviceErr> {
-        let written = out.flush();
+        let finished = out.finish();
         self.take_back(out.faults());
-        if written.is_ok() && self.rename(&out, name).is_ok() {
-            return Ok(());
+        let kept = match finished {
+            Ok(()) => self.put(&out, name),
+            Err(_) => Err(self.fail()),
+        };
+        if kept.is_err() {
+            self.remove(&out);
         }
-        self.faults = self.faults.saturating_add(1);
-        self.remove(&out);
-        Err(DeviceErr::Failed)
+        kept
     }
 
     fn done_in(&mut self, source: RealIn) {

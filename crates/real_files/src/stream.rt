@@ -2,7 +2,7 @@
 ghost use Rattle.std.specs.Prelude.{◌≡◌, ◌-◌, ◌^◌, length, min};
 ghost use Rattle.std.specs.Option.{option_map_or};
 ghost use Rattle.std.proofs.Common.{ap};
-ghost use Rattle.lasline.specs.Untold.{untold};
+ghost use Rattle.real_files.specs.Untold.{untold};
 
 use file_devices::{Failed, Sink};
 use std::io::Write;

@@ -2,9 +2,9 @@
 ghost use Rattle.std.specs.Prelude.{◌≡◌, ◌+◌, ◌-◌, ◌^◌, ◌<◌, ◌≤◌, ℕ, List, length, take, max, None, IfOk, IfSome, OnErr, slice_range};
 ghost use Rattle.file_devices.specs.Counts.{HasCause};
 ghost use Rattle.file_devices.specs.Content.{ReadsAt};
-ghost use Rattle.lasline.specs.Untold.{untold};
+ghost use Rattle.real_files.specs.Untold.{untold};
 
-use crate::real_files::window::Window;
+use crate::window::Window;
 use file_devices::{Failed, Source};
 use std::fs::File;
 
@@ -82,7 +82,7 @@ impl Source for RealIn {
         Ok(count)
     }
 
-    ghost use Rattle.lasline.specs.Untold.{untold_is_short};
+    ghost use Rattle.real_files.specs.Untold.{untold_is_short};
 
     ghost small = { λ s b e. untold_is_short b e };
 }

@@ -4,18 +4,19 @@ ghost use Rattle.std.specs.Option.{option_map_or};
 ghost use Rattle.std.proofs.Common.{ap};
 ghost use Rattle.file_devices.specs.Counts.{HasCause, Rose, saturating};
 ghost use Rattle.file_devices.specs.Content.{Appends, AppendsPart, Patches, PatchesSomehow};
-ghost use Rattle.lasline.specs.Untold.{untold};
-ghost use Rattle.lasline.specs.Waiting.{waiting_after};
+ghost use Rattle.real_files.specs.Untold.{untold};
+ghost use Rattle.real_files.specs.Waiting.{waiting_after};
 
 use file_devices::{Failed, FileSink, Sink};
-use std::fs::File;
-use std::os::unix::fs::FileExt;
+use std::fs::{File, Permissions};
+use std::io;
+use std::os::unix::fs::{FileExt, PermissionsExt};
 
 /// A file that is written under another name until it is kept.
 ///
 /// Pieces wait in a buffer and are written together, so a write that fails may be answered by a later
-/// call. After a failed write every further call fails, and the file can't be kept. Its bytes aren't
-/// told.
+/// call. An empty piece writes what waits and hands all of it to the device. After a failed write every
+/// further call fails, and the file can't be kept. Its bytes aren't told.
 #[derive(Drop)]
 pub struct RealOut {
     file: File,
@@ -23,6 +24,8 @@ pub struct RealOut {
     waiting: Vec<u8>,
     room: usize,
     start: u64,
+    // Nothing was written since all was handed to the device.
+    synced: bool,
     broken: bool,
     faults: u64,
     ghost within: { vec_len waiting ≤ room },
@@ -38,6 +41,7 @@ impl RealOut {
         ensures appended { ⟦<RealOut as Sink>⟧.appended result ≡ 0 }
         ensures faults { ⟦<RealOut as Sink>⟧.faults result ≡ 0 }
         ensures whole { result.broken ≡ false }
+        ensures unsynced { result.synced ≡ false }
     {
         RealOut {
             file,
@@ -45,6 +49,7 @@ impl RealOut {
             waiting: buffer,
             room,
             start: 0,
+            synced: false,
             broken: false,
             faults: 0,
         }
@@ -61,6 +66,11 @@ impl RealOut {
         ensures { result.now ≡ string_bytes self.now.part }
     {
         self.part.as_str()
+    }
+
+    // Lets those and no others read, write and run it whom this mode lets.
+    pub(crate) fn set_mode(&self, mode: u32) -> io::Result<()> {
+        self.file.set_permissions(Permissions::from_mode(mode))
     }
 
     // Counts a failed write, after which the file isn't whole.
@@ -81,27 +91,57 @@ impl RealOut {
         requires room { vec_len self.old.waiting + length piece.now ≤ self.old.room }
         requires small { self.old.start + (vec_len self.old.waiting + length piece.now) < 2 ^ 64 }
         ensures waiting { self.new.waiting.items ≡ self.old.waiting.items ++ piece.now }
-        ensures same { (self.new.start ≡ self.old.start) × (self.new.broken ≡ self.old.broken)
-            × (self.new.faults ≡ self.old.faults) }
+        ensures same { (self.new.start ≡ self.old.start) × (self.new.synced ≡ self.old.synced)
+            × (self.new.broken ≡ self.old.broken) × (self.new.faults ≡ self.old.faults) }
     {
         self.waiting.extend_from_slice(piece).unwrap();
     }
 
     // Writes what waits. It fails where this or an earlier write failed, so after Ok all bytes that were
     // appended have gone to the system.
-    pub(crate) fn flush(&mut self) -> Result<(), Failed>
+    fn flush(&mut self) -> Result<(), Failed>
         ensures none_waits { OnOk result (self.new.waiting.items ≡ []) }
         ensures whole { OnOk result (self.new.broken ≡ false) }
         ensures broken { OnErr result (self.new.broken ≡ true) }
         ensures appended { self.new.start + vec_len self.new.waiting ≡ self.old.start + vec_len self.old.waiting }
+        ensures unsynced { OnOk result (self.new.synced ≡ true
+            → (self.new.start ≡ self.old.start) × (self.old.synced ≡ true)) }
         ensures room { self.new.room ≡ self.old.room }
         ensures cause { HasCause self.old.faults self.new.faults result }
     {
-        if self.broken || self.file.write_all_at(&self.waiting, self.start).is_err() {
+        if self.broken {
+            return Err(self.fail());
+        }
+        if self.waiting.is_empty() {
+            return Ok(());
+        }
+        self.synced = false;
+        if self.file.write_all_at(&self.waiting, self.start).is_err() {
             return Err(self.fail());
         }
         self.start += self.waiting.len() as u64;
         self.waiting.clear();
+        Ok(())
+    }
+
+    // Writes what waits and hands all that was written to the device, which may tell only then that a
+    // write failed.
+    pub(crate) fn finish(&mut self) -> Result<(), Failed>
+        ensures none_waits { OnOk result (self.new.waiting.items ≡ []) }
+        ensures synced { OnOk result (self.new.synced ≡ true) }
+        ensures whole { OnOk result (self.new.broken ≡ false) }
+        ensures broken { OnErr result (self.new.broken ≡ true) }
+        ensures appended { self.new.start + vec_len self.new.waiting ≡ self.old.start + vec_len self.old.waiting }
+        ensures cause { HasCause self.old.faults self.new.faults result }
+    {
+        self.flush()?;
+        if self.synced {
+            return Ok(());
+        }
+        if self.file.sync_data().is_err() {
+            return Err(self.fail());
+        }
+        self.synced = true;
         Ok(())
     }
 }
@@ -124,11 +164,20 @@ impl Sink for RealOut {
         ensures cause { HasCause self.old.faults self.new.faults result }
 
         // Nothing is lost on the way to the system, and nothing is written after a failure.
-        ensures waiting { OnOk result (self.new.waiting.items
+        ensures waiting { 0 < length piece.now → OnOk result (self.new.waiting.items
             ≡ waiting_after self.old.room self.old.waiting.items piece.now) }
+        ensures unsynced { 0 < length piece.now → OnOk result (self.new.synced ≡ true
+            → (self.new.start ≡ self.old.start) × (self.old.synced ≡ true)) }
         ensures whole { OnOk result (self.new.broken ≡ false) }
         ensures broken { OnErr result (self.new.broken ≡ true) }
+
+        // An empty piece sends all that waits to the device.
+        ensures none_waits { length piece.now ≡ 0 → OnOk result (self.new.waiting.items ≡ []) }
+        ensures synced { length piece.now ≡ 0 → OnOk result (self.new.synced ≡ true) }
     {
+        if piece.is_empty() {
+            return self.finish();
+        }
         let end = self.start + self.waiting.len() as u64;
         if self.broken || end.checked_add(piece.len() as u64).is_none() {
             return Err(self.fail());
@@ -142,6 +191,7 @@ impl Sink for RealOut {
             self.wait(piece);
             return Ok(());
         }
+        self.synced = false;
         if self.file.write_all_at(piece, self.start).is_err() {
             return Err(self.fail());
         }
@@ -163,10 +213,12 @@ impl FileSink for RealOut {
 
         // What waited was written before it, and nothing is written after a failure.
         ensures none_waits { OnOk result (self.new.waiting.items ≡ []) }
+        ensures unsynced { OnOk result (self.new.synced ≡ false) }
         ensures whole { OnOk result (self.new.broken ≡ false) }
         ensures broken { OnErr result (self.new.broken ≡ true) }
     {
         self.flush()?;
+        self.synced = false;
         if self.file.write_all_at(piece, at).is_err() {
             return Err(self.fail());
         }
