@@ -7,3 +7,5 @@ pub mod Ended
 pub mod Lined
 pub mod Kept
 pub mod Ran
+pub mod Linked
+pub mod RanChain

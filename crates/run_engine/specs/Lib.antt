@@ -5,3 +5,5 @@ pub mod Cause
 pub mod Works
 pub mod Outcomes
 pub mod Opened
+pub mod Linked
+pub mod RanChain
