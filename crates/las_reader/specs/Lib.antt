@@ -1,6 +1,7 @@
 pub mod Frames
 pub mod Records
 pub mod Files
+pub mod Flows
 pub mod Pieces
 pub mod Reading
 pub mod Opening

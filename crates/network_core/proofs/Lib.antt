@@ -3,10 +3,5 @@ pub mod Events
 pub mod Lent
 pub mod Holds
 pub mod Edges
-pub mod Steps
+pub mod Stepped
 pub mod Opened
-pub mod Running
-pub mod Turning
-pub mod Chains
-pub mod Ran
-pub mod Prefixes

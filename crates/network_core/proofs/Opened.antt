@@ -1,7 +1,7 @@
--- A new net is one at its start.
-use Rattle.std.proofs.Common.{◌≡◌, ℕ, zero, suc, ◌-◌, ◌^◌, ◌≤◌, ◌<◌, List, [], ◌∷◌, length, Some, refl, ap, subst, sym, ◌∙◌, inl, inr, arith, replicate}
+-- A new node is fresh, and a new net is one at its start.
+use Rattle.std.proofs.Common.{◌≡◌, ℕ, zero, suc, ◌-◌, ◌^◌, ◌≤◌, ◌<◌, true, false, List, [], ◌∷◌, length, Some, refl, ap, subst, sym, ◌∙◌, inl, inr, arith, replicate, true≢false}
 use Rattle.std.proofs.Math.Path.{fun_ext}
-use Rattle.std.specs.Prelude.{slice_index_or, slice_get}
+use Rattle.std.specs.Prelude.{◌↔◌, slice_index_or, slice_get}
 use Rattle.std.proofs.lemmas.Option.{slice_get_past}
 use Rattle.circular_buffer.specs.Buffer.{Buffer, buffer}
 use Rattle.cloud_points.specs.declared.point.Point.{Point}
@@ -16,9 +16,34 @@ use Rattle.network_theory.specs.Opening.{IsFresh, IsSpent, IsOpening}
 use Rattle.network_theory.proofs.Openings.{inside}
 use Rattle.network_theory.proofs.Forests.{forest-tree}
 use Rattle.network_core.specs.declared.node.Node.{Node}
-use Rattle.network_core.specs.Shown.{shown}
+use Rattle.network_core.specs.Shown.{shown, new_node}
 use Rattle.network_core.specs.Wires.{queue_at, IsWired}
 use Rattle.network_core.specs.Nets.{shown_or, net_with}
+
+no_ins : (xs : List ℕ) → length xs ≡ 0 → xs ≡ []
+no_ins [] h = refl
+no_ins (x ∷ xs) h = absurd (omega arith)
+
+-- a node as `Node::new` makes it
+pub new-fresh : {W S : Type 0} (g : Ghosts W S) (ins : List ℕ) (work : W) (inputs chunk : ℕ) → (g.leaf work ≡ true) ↔ (inputs ≡ 0) → length ins ≡ inputs → IsFresh (new_node g ins work inputs chunk)
+new-fresh {W} {S} g ins work inputs chunk leaf same = record {
+  inputs = sym same;
+  leaf = λ h. no_ins ins (same ∙ leaf.0 h);
+  inner = λ h. by_inputs inputs refl h;
+  ended = refl;
+  cut = refl;
+  fault = refl;
+  hand = refl;
+  ending = refl;
+  done = refl;
+  sent = refl;
+  views = refl;
+  points = refl;
+}
+  where
+    by_inputs : (n : ℕ) → inputs ≡ n → g.leaf work ≡ false → 0 < inputs
+    by_inputs zero e h = absurd (true≢false (sym (leaf.1 e) ∙ h))
+    by_inputs (suc n) e h = omega arith
 
 pub some_at : {A : Type 0} (xs : List A) (k : ℕ) → k < length xs → (x : A) × (slice_get xs k ≡ Some x)
 some_at [] k h = absurd (omega arith)

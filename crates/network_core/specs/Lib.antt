@@ -6,7 +6,3 @@ pub mod Begun
 pub mod Queues
 pub mod Wires
 pub mod Nets
-pub mod Runs
-pub mod Chains
-pub mod Ran
-pub mod ToyMeaning

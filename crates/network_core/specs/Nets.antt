@@ -1,5 +1,5 @@
 -- A net of the code as a net of the definitions.
-use Rattle.std.specs.Prelude.{◌≡◌, ◌≢◌, ℕ, ◌-◌, List, Option, Some, None, length, slice_get}
+use Rattle.std.specs.Prelude.{◌≡◌, ◌≢◌, ℕ, ◌-◌, ◌<◌, List, Option, Some, None, length, slice_get}
 use Rattle.circular_buffer.specs.Buffer.{Buffer}
 use Rattle.cloud_points.specs.declared.point.Point.{Point}
 use Rattle.cloud_points.specs.declared.item.Item as code
@@ -7,8 +7,9 @@ use Rattle.cloud_points.specs.declared.faults.StageFault.{StageFault}
 use Rattle.cloud_points.specs.declared.work.Work.{Ghosts}
 use Rattle.cloud_points.specs.Bodies.{bodies, numbers}
 use Rattle.network_theory.specs.Net as net
-use Rattle.network_theory.specs.Forest.{children}
+use Rattle.network_theory.specs.Forest.{children, IsForest}
 use Rattle.network_theory.specs.History.{points_in_step}
+use Rattle.network_theory.specs.Opening.{IsSpent, IsOpening}
 use Rattle.network_core.specs.declared.node.Node.{Node}
 use Rattle.network_core.specs.declared.net.Net.{Net}
 use Rattle.network_core.specs.Wires.{queue_at}
@@ -45,6 +46,12 @@ net_with g beyond nodes ins queues = record {
 
 abbrev pub net_of : {W S : Type 0} (g : Ghosts W S) → net.Node S Point StageFault → Net W → net.Net S Point StageFault
 net_of g beyond n = net_with g beyond n.nodes.items n.ins n.edges.items
+
+-- a net at its start, with room on its queues
+pub record IsNewNet {W S : Type 0} (g : Ghosts W S) (n : Net W) : Type 0 where
+  pub forest : IsForest n.ins (root_of n)
+  pub room : 0 < n.capacity
+  pub opening : (beyond : net.Node S Point StageFault) → IsSpent beyond → IsOpening (net_of g beyond n) (root_of n)
 
 -- the event of a turn of node i, by the net before and after
 abbrev pub choice_of : {W S : Type 0} (g : Ghosts W S) → Option (Node W) → Option (Node W) → net.Choice S Point StageFault

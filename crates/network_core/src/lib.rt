@@ -2,20 +2,15 @@
 #![tactic(auto)]
 
 mod among;
-mod chain;
 mod lists;
 mod net;
 mod node;
 mod parts;
-mod run;
+mod steps;
 mod turned;
 
-pub use chain::run_chain;
 pub use lists::{InsList, NodeList};
 pub use net::Net;
 pub use node::Node;
-pub use run::{run_to_end, works_hold_prefixes};
+pub use steps::Steps;
 pub use turned::{Turned, Why};
-
-#[cfg(test)]
-mod tests;

@@ -1,7 +1,6 @@
 //! Lists that a net is made of.
 
 use crate::node::Node;
-use std::alloc::{AllocError, Global};
 use std::marker::Model;
 
 /// The nodes of a net, in the order of their numbers. A clause sees the list of them.
@@ -53,29 +52,14 @@ impl Model for InsList {
 }
 
 impl InsList {
-    ghost use Rattle.std.specs.Prelude.{◌≡◌, ◌<◌, ◌-◌, IfOk, length, map, slice_index_or};
+    ghost use Rattle.std.specs.Prelude.{◌≡◌, ◌<◌, length, map, slice_index_or};
     ghost use Rattle.network_theory.specs.Forest.{children};
-    ghost use Rattle.network_core.specs.Chains.{chain};
 
     /// The list of these lists.
     pub fn new(lists: Vec<Vec<u32>>) -> InsList
         ensures { result ≡ map (λ v. v.items) lists.items }
     {
         InsList { lists }
-    }
-
-    /// The children of a chain of so many nodes: the first has none, and each other one has the one before it as its only
-    /// child. Refuses where memory is wanting.
-    pub fn chain(alloc: Global, count: u32) -> Result<InsList, AllocError>
-        requires { 0 < count }
-        ensures { IfOk result (λ made. made ≡ chain (count - 1)) }
-    {
-        let mut lists = Vec::with_capacity(alloc, count as usize)?;
-        lists.push(Vec::new(alloc))?;
-        for child in 0..count - 1 {
-            lists.push(vec![in alloc; child]?)?;
-        }
-        Ok(InsList { lists })
     }
 
     /// The child of a node at an input.

@@ -27,10 +27,10 @@ impl<W: Work> Net<W> {
     ghost use Rattle.cloud_points.specs.declared.faults.StageFault.{StageFault};
     ghost use Rattle.network_theory.specs.Net as net;
     ghost use Rattle.network_theory.specs.Forest.{IsForest, children};
-    ghost use Rattle.network_theory.specs.Opening.{IsFresh, IsSpent, IsOpening};
+    ghost use Rattle.network_theory.specs.Opening.{IsFresh};
     ghost use Rattle.network_core.specs.declared.node.Node as code;
     ghost use Rattle.network_core.specs.Shown.{shown, turned};
-    ghost use Rattle.network_core.specs.Nets.{nodes_of, ins_of, capacity_of, root_of, net_of, choice_at, ObeysAt, SameShape};
+    ghost use Rattle.network_core.specs.Nets.{nodes_of, ins_of, capacity_of, root_of, net_of, choice_at, ObeysAt, SameShape, IsNewNet};
 
     /// A net of these nodes with nothing on its queues, each of which has room for `capacity` items. `ins` has the numbers
     /// of each node's children in the order of its inputs, and the last node is the root. Where memory is wanting the nodes
@@ -43,12 +43,14 @@ impl<W: Work> Net<W> {
     ) -> Result<Net<W>, (NodeList<W>, AllocError)>
         requires some { 0 < length nodes }
         requires most { length nodes < 2 ^ 32 }
-        requires fresh { (k : ℕ) (n : code.Node W) → slice_get nodes k ≡ Some n → IsFresh (shown W.Work (children ins k) n) }
+        requires fresh { (k : ℕ) (n : code.Node W) → slice_get nodes k ≡ Some n
+            → IsFresh (shown W.Work (children ins k) n) }
         requires forest { IsForest ins (length nodes - 1) }
         requires room { 0 < capacity }
         requires small { capacity ≤ 64 }
-        ensures nodes { IfOk result (λ made. (nodes_of made ≡ nodes) × (ins_of made ≡ ins) × (capacity_of made ≡ capacity)) }
-        ensures opening { IfOk result (λ made. (beyond : net.Node W.State Point StageFault) → IsSpent beyond → IsOpening (net_of W.Work beyond made) (root_of made)) }
+        ensures nodes { IfOk result (λ made. (nodes_of made ≡ nodes) × (ins_of made ≡ ins)
+            × (capacity_of made ≡ capacity)) }
+        ensures new { IfOk result (λ made. IsNewNet W.Work made) }
         ensures refused { IfErr result (λ e. e.0 ≡ nodes) }
     {
         let count = nodes.nodes.as_slice().len();
@@ -98,7 +100,7 @@ impl<W: Work> Net<W> {
     }
 
     /// How many nodes it has.
-    pub(crate) fn count(&self) -> u32
+    pub fn count(&self) -> u32
         ensures count { result ≡ length (nodes_of self.now) }
         ensures root { root_of self.now + 1 ≡ result }
     {

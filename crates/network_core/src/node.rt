@@ -49,6 +49,7 @@ impl<W: Work> Node<W> {
     ghost use Rattle.cloud_points.specs.Marks as marks;
     ghost use Rattle.chunk_queue.specs.Slots.{brings_points};
     ghost use Rattle.network_theory.specs.Net as net;
+    ghost use Rattle.network_theory.specs.Opening.{IsFresh};
     ghost use Rattle.network_theory.specs.History.{points_taken, item_points};
     ghost use Rattle.network_core.specs.Hands.{kind_item, seen_hand};
     ghost use Rattle.network_core.specs.Shown.{shown, new_node, work_of, current_of, chosen, choice, made_choice, new_fault, left, turned};
@@ -64,6 +65,7 @@ impl<W: Work> Node<W> {
         requires most { chunk ≤ 64 }
         ensures shown { (ins : List ℕ) → shown W.Work ins result ≡ new_node W.Work ins work inputs chunk }
         ensures work { work_of result ≡ work }
+        ensures fresh { (ins : List ℕ) → length ins ≡ inputs → IsFresh (shown W.Work ins result) }
     {
         Node {
             work,

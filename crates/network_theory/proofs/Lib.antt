@@ -21,4 +21,6 @@ pub mod Chain
 pub mod CarriedTurn
 pub mod JoinTree
 pub mod Brought
-pub mod Chained
+pub mod WholeFlows
+pub mod Tapes
+pub mod Streaming

@@ -11,6 +11,8 @@ use Rattle.network_theory.specs.Opening.{IsOpening}
 use Rattle.network_theory.specs.Due.{IsBelow, due, total}
 use Rattle.network_theory.specs.Flight.{in_flight}
 use Rattle.network_theory.specs.History.{number_of, ends_all, held, given_by, taken_from, mark_points, points_taken_by, brings}
+use Rattle.cloud_points.specs.Flows.{Flow}
+use Rattle.network_theory.specs.Streaming.{IsStreaming, StreamsAt}
 use Rattle.network_theory.specs.Schedule.{run_schedule, IsSchedule, IsAllowedRun, IsQuietRun, KeepsLaws, IsFinal, end_of}
 
 -- each edge keeps the rule of a queue for what was given to it and taken from it, and a node is done exactly where it gave its End
@@ -77,3 +79,7 @@ TurnsCarry S P F = (root : Bool) (cap : ℕ) (ch : Choice S P F) (n : Node S P F
     (n.leaf ≡ false → n.done ≡ false → n.ending ≡ false → n.hand ≡ None → n.machine.ended < n.machine.inputs) → IsQuiet ch n →
     (a : List (Item P)) × (b : List (Item P)) × (input ≡ a ++ (turn root cap ch n input out).input) × (root ≡ false → (turn root cap ch n input out).out ≡ out ++ b)
     × Carried n (turn root cap ch n input out).node (only_input n.machine.ended a) (all_marks b)
+
+-- where each leaf of a net at its start tells a flow and each other node makes one of those of its children, all take, give and end so
+abbrev pub FlowsAreStreamed : Type 0 → Type 0 → Type 0 → Type 0
+FlowsAreStreamed S P F = (net : Net S P F) (root : ℕ) (value : ℕ → Flow P) → IsOpening net root → IsStreaming net root value → (k : ℕ) → k ≤ root → StreamsAt net value k

@@ -11,4 +11,4 @@ pub mod Depth
 pub mod Flight
 pub mod Laws
 pub mod Carried
-pub mod Chained
+pub mod Streaming

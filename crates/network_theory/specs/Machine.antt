@@ -1,7 +1,8 @@
 -- A work on a flow, one mark after the other.
-use Rattle.std.specs.Prelude.{ℕ, ◌+◌, ◌==◌, Bool, ◌||◌, cond, List, [], ◌∷◌, ◌++◌, map, Option, is_some}
+use Rattle.std.specs.Prelude.{ℕ, ◌+◌, ◌==◌, Bool, false, ◌||◌, cond, List, [], ◌∷◌, ◌++◌, map, Option, None, is_some}
 use Rattle.cloud_points.specs.Meaning.{Meaning}
-use Rattle.cloud_points.specs.Marks.{Mark, At, View_end, End}
+use Rattle.cloud_points.specs.Flows.{Flow}
+use Rattle.cloud_points.specs.Marks.{Mark, At, View_end, End, flow_marks}
 
 pub record Machine (S F : Type 0) : Type 0 where
   -- the state of the work, and the node's first fault
@@ -46,3 +47,17 @@ after_all m c (t ∷ ts) = after_all m (next m c t) ts
 abbrev pub output : {S P F : Type 0} → Meaning S P F → Machine S F → List (Mark P) → List (Mark P)
 output m c [] = []
 output m c (t ∷ ts) = gives m c t ++ output m (next m c t) ts
+
+-- a machine of so many inputs at its start
+abbrev pub at_start : {S F : Type 0} → ℕ → S → Machine S F
+at_start inputs s = record { state = s; fault = None; cut = false; inputs = inputs; ended = 0 }
+
+-- what a work makes of a whole flow from this state on, its fault on that, and its state then
+abbrev pub made_of : {S P F : Type 0} → Meaning S P F → S → Flow P → List (Mark P)
+made_of m s flow = output m (at_start 1 s) (flow_marks flow)
+
+abbrev pub fault_on : {S P F : Type 0} → Meaning S P F → S → Flow P → Option F
+fault_on m s flow = (after_all m (at_start 1 s) (flow_marks flow)).fault
+
+abbrev pub state_after : {S P F : Type 0} → Meaning S P F → S → Flow P → S
+state_after m s flow = (after_all m (at_start 1 s) (flow_marks flow)).state

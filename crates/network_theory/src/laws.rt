@@ -6,7 +6,7 @@ ghost use Rattle.cloud_points.specs.declared.faults.StageFault.{StageFault};
 ghost use Rattle.network_theory.specs.Depth.{depth};
 ghost use Rattle.network_theory.specs.Due.{IsBelow};
 ghost use Rattle.network_theory.specs.Forest.{IsForest, children};
-ghost use Rattle.network_theory.specs.Laws.{QueuesKeepOrder, RestStays, FlightIsBounded, SomeNodeMoves, DueFalls, OpeningOwes, SchedulesAgree, NetsStaySound, PointsComeInOrder, TurnsCarry};
+ghost use Rattle.network_theory.specs.Laws.{QueuesKeepOrder, RestStays, FlightIsBounded, SomeNodeMoves, DueFalls, OpeningOwes, SchedulesAgree, NetsStaySound, PointsComeInOrder, TurnsCarry, FlowsAreStreamed};
 ghost use Rattle.network_theory.specs.Shape.{IsTree};
 
 use cloud_points::Work;
@@ -59,6 +59,12 @@ pub fn nets_stay_sound<W: Work>(_work: &W)
 /// Each turn without an event carries what it took to what it gave.
 pub fn turns_carry<W: Work>(_work: &W)
     ensures { TurnsCarry W.State Point StageFault }
+{}
+
+/// A net at its start whose leaves tell flows, and whose other nodes each make one of the flows of their children, joined in
+/// the order of the inputs, gives these flows, and each node has the fault that its work has on what it takes.
+pub fn flows_are_streamed<W: Work>(_work: &W)
+    ensures { FlowsAreStreamed W.State Point StageFault }
 {}
 
 /// Lists of children in which each node but the last is a child once, below its parent, are a tree.

@@ -24,10 +24,11 @@ use Rattle.stage_options.specs.Chained.{reads}
 use Rattle.network_core.specs.declared.node.Node.{Node}
 use Rattle.network_core.specs.Shown.{shown, work_of}
 use Rattle.network_core.specs.Calm.{Calm}
-use Rattle.network_core.specs.Chains.{IsNewNode}
-use Rattle.network_core.specs.Ran.{Took}
+use Rattle.run_engine.specs.Linked.{IsNewNode}
+use Rattle.run_engine.specs.RanChain.{Took}
 use Rattle.run_engine.specs.Chains.{passed, writes}
-use Rattle.run_engine.specs.Works.{as_works, IsFor, IsAtStart, HoldsOf}
+use Rattle.stage_runs.specs.Works.{as_works, IsAtStart}
+use Rattle.run_engine.specs.Works.{IsFor, HoldsOf}
 
 -- no count that stays at 0 rose
 not_risen : {A : Type 0} → Rose 0 0 → A

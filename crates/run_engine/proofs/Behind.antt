@@ -15,13 +15,15 @@ use Rattle.stage_options.specs.Chained.{AreLinked}
 use Rattle.network_core.specs.declared.node.Node.{Node}
 use Rattle.network_core.specs.Shown.{shown, work_of}
 use Rattle.network_core.specs.Calm.{Calm}
-use Rattle.network_core.specs.Chains.{AreNew}
-use Rattle.network_core.specs.Ran.{Gave, Took}
-use Rattle.network_core.proofs.Running.{same_some}
+use Rattle.run_engine.specs.Linked.{AreNew}
+use Rattle.network_solo.specs.Trees.{Gave}
+use Rattle.run_engine.specs.RanChain.{Took}
+use Rattle.network_solo.proofs.Running.{same_some}
 use Rattle.run_engine.specs.Chains.{passed, counts_from, count_of}
 use Rattle.run_engine.specs.Cause.{FailedAt, WritesAt}
 use Rattle.run_engine.specs.Outcomes.{NoFault, counted_from, count_at}
-use Rattle.run_engine.specs.Works.{as_works, works_of, AreAtStart, AreFor, AllHold}
+use Rattle.stage_runs.specs.Works.{as_works}
+use Rattle.run_engine.specs.Works.{works_of, AreAtStart, AreFor, AllHold}
 use Rattle.run_engine.proofs.Behaving.{Behaves, behaves}
 
 -- what comes to the stage with this number behind a flow: the flow itself, and then what each stage makes of it

@@ -21,7 +21,8 @@ use Rattle.las_reader.specs.declared.reader.Progress.TheVariants.{Records}
 use Rattle.stage_kinds.specs.declared.kind.Kind.{Kind}
 use Rattle.stage_kinds.specs.declared.kind.Kind.TheVariants.{Reader, Head, Text}
 use Rattle.stage_kinds.specs.Stages.{is_reader, faults_of}
-use Rattle.stage_kinds.specs.Reads.{las_flow, cut_fault, fault_with, told_of, tells_of, told_fault_of}
+use Rattle.las_reader.specs.Flows.{las_flow}
+use Rattle.stage_kinds.specs.Reads.{cut_fault, fault_with, told_of, tells_of, told_fault_of}
 use Rattle.stage_kinds.proofs.Telling.{reader_starts}
 use Rattle.stage_kinds.proofs.Variants.{reader_is}
 use Rattle.stage_options.specs.declared.options.Options.{Options}
@@ -31,10 +32,10 @@ use Rattle.stage_options.specs.Chained.{reads, AreLinked, IsChain}
 use Rattle.network_core.specs.declared.node.Node.{Node}
 use Rattle.network_core.specs.Shown.{work_of}
 use Rattle.network_core.specs.Calm.{Calm}
-use Rattle.network_core.specs.Chains.{AreNew, IsLine}
-use Rattle.network_core.specs.Ran.{EndsOver, IsRanChain, IsNewChain}
-use Rattle.network_core.proofs.Running.{same_some}
-use Rattle.network_core.proofs.Chains.{new-length}
+use Rattle.run_engine.specs.Linked.{AreNew, IsLine}
+use Rattle.run_engine.specs.RanChain.{EndsOver, IsRanChain, IsNewChain}
+use Rattle.network_solo.proofs.Running.{same_some}
+use Rattle.run_engine.proofs.Linked.{new-length}
 use Rattle.run_report.specs.declared.report.StageCount.{StageCount}
 use Rattle.run_report.specs.declared.refusal.Place.TheVariants.{PipelineFile, Stage, Out}
 use Rattle.run_report.specs.declared.refusal.Fault.TheVariants as fault
@@ -44,7 +45,8 @@ use Rattle.run_engine.specs.Chains.{passed, counts_from, count_of}
 use Rattle.run_engine.specs.Runs.{whole_flow, to_end}
 use Rattle.run_engine.specs.Cause.{Because, Blamed, AtTurns}
 use Rattle.run_engine.specs.Outcomes.{NoFault, NoDevice, DeviceAt, PointFaultAt, IsOutcome, counted_from, op_at}
-use Rattle.run_engine.specs.Works.{as_works, works_of, IsLined, IsFor, IsAtStart, AreAtStart, AreFor, HoldsOf, AllHold}
+use Rattle.stage_runs.specs.Works.{as_works, IsAtStart}
+use Rattle.run_engine.specs.Works.{works_of, IsLined, IsFor, AreAtStart, AreFor, HoldsOf, AllHold}
 use Rattle.run_engine.proofs.Behaving.{new_fault}
 use Rattle.run_engine.proofs.Kept.{fitting_length}
 use Rattle.run_engine.proofs.Behind.{value_at, AllBehave, all-behave, fit-all, failed-at, streams-on, AllTook, sound-all, hold-all, one_count, counted-all}

@@ -12,7 +12,7 @@ use Rattle.cloud_points.specs.Flows.{Flow, points}
 use Rattle.network_core.specs.declared.node.Node.{Node}
 use Rattle.network_core.specs.Shown.{work_of}
 use Rattle.network_core.specs.Calm.{Calm}
-use Rattle.network_core.specs.Ran.{IsRanChain}
+use Rattle.run_engine.specs.RanChain.{IsRanChain}
 use Rattle.text_writer.specs.TextOutput.{holds_text}
 use Rattle.stage_kinds.specs.declared.kind.Kind.{Kind}
 use Rattle.stage_kinds.specs.declared.kind.Kind.TheVariants.{Reader, Head, Text}
@@ -27,7 +27,8 @@ use Rattle.run_report.specs.declared.refusal.Refusal.{Refusal}
 use Rattle.run_report.specs.declared.refusal.Refusal.TheVariants.{Usage, Pipeline, Data, Device, Memory, NotBuilt}
 use Rattle.run_engine.specs.Chains.{passed}
 use Rattle.run_engine.specs.Cause.{Because, Blamed, AtTurns, FailedAt}
-use Rattle.run_engine.specs.Works.{as_works, works_of, IsFor, AreFor, HoldsOf, AllHold}
+use Rattle.stage_runs.specs.Works.{as_works}
+use Rattle.run_engine.specs.Works.{works_of, IsFor, AreFor, HoldsOf, AllHold}
 use Rattle.run_engine.specs.Finishing.{AreLater, AreFinished, Unfinished}
 use Rattle.run_engine.proofs.Causes.{because_more}
 use Rattle.run_engine.proofs.Closing.{the_text}

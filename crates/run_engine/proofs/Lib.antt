@@ -8,3 +8,5 @@ pub mod Lined
 pub mod Kept
 pub mod Ran
 pub mod Finishing
+pub mod Linked
+pub mod RanChain

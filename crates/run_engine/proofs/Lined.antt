@@ -18,15 +18,16 @@ use Rattle.stage_options.specs.declared.options.Options.TheVariants.{ReadersLas,
 use Rattle.stage_options.specs.declared.stage.StageSpec.{StageSpec}
 use Rattle.stage_options.specs.Chained.{IsChain, AreLinked, reads}
 use Rattle.network_core.specs.declared.node.Node.{Node}
-use Rattle.network_core.specs.Chains.{AreNew, IsNewNode}
+use Rattle.run_engine.specs.Linked.{AreNew, IsNewNode}
 use Rattle.network_core.specs.Shown.{work_of}
-use Rattle.network_core.proofs.Chains.{new-append}
+use Rattle.run_engine.proofs.Linked.{new-append}
 use Rattle.run_report.specs.declared.refusal.Place.{Place}
 use Rattle.run_report.specs.declared.refusal.Place.TheVariants as at
 use Rattle.run_report.specs.declared.refusal.Refusal.{Refusal}
 use Rattle.run_engine.specs.Chains.{writes}
 use Rattle.run_engine.specs.Cause.{OnlyBlamed, AtStages, AtNewFile, AtWriter}
-use Rattle.run_engine.specs.Works.{as_works, works_of, all_lent, lent_to, IsLined, IsAtStart, AreAtStart}
+use Rattle.stage_runs.specs.Works.{as_works, IsAtStart}
+use Rattle.run_engine.specs.Works.{works_of, all_lent, lent_to, IsLined, AreAtStart}
 use Rattle.run_engine.proofs.Causes.{only_more, writer_more}
 
 -- the stage at a place, and the first stages with it

@@ -15,7 +15,7 @@ use Rattle.las_reader.specs.Files.{Las, las_of, las_with}
 use Rattle.las_reader.specs.declared.reader.LasReader.{LasReader}
 use Rattle.stage_kinds.specs.declared.kind.Kind.{Kind}
 use Rattle.stage_kinds.specs.Stages.{faults_of}
-use Rattle.stage_kinds.specs.Reads.{las_flow}
+use Rattle.las_reader.specs.Flows.{las_flow}
 use Rattle.stage_options.specs.declared.stage.StageSpec.{StageSpec}
 use Rattle.run_report.specs.Reports.{report_of}
 use Rattle.run_report.specs.declared.report.StageCount.{StageCount}

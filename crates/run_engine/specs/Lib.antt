@@ -6,3 +6,5 @@ pub mod Works
 pub mod Outcomes
 pub mod Opened
 pub mod Finishing
+pub mod Linked
+pub mod RanChain

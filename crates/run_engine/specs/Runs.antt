@@ -13,7 +13,7 @@ use Rattle.run_report.specs.declared.refusal.Fault.TheVariants as fault
 use Rattle.run_report.specs.declared.refusal.Refusal.{Refusal}
 use Rattle.run_report.specs.declared.refusal.Refusal.TheVariants.{Data, Device}
 use Rattle.run_report.specs.Reports.{report_of}
-use Rattle.stage_kinds.specs.Reads.{las_flow}
+use Rattle.las_reader.specs.Flows.{las_flow}
 use Rattle.stage_options.specs.declared.options.Options.{Options}
 use Rattle.stage_options.specs.declared.options.Options.TheVariants.{ReadersLas, FiltersHead, WritersText}
 use Rattle.stage_options.specs.declared.stage.StageSpec.{StageSpec}

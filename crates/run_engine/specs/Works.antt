@@ -1,47 +1,27 @@
 -- The works of a chain's stages.
-use Rattle.std.specs.Prelude.{◌≡◌, ◌⊎◌, ℕ, ◌+◌, true, false, List, [], ◌∷◌, map, take, slice_get, sum_by, Option, Some, Result, Err, IsOk, ⊤}
+use Rattle.std.specs.Prelude.{◌≡◌, ◌⊎◌, ℕ, ◌+◌, true, List, [], ◌∷◌, map, take, slice_get, sum_by, Option, Some, Result, Err, IsOk, ⊤}
 use Rattle.file_devices.specs.Named.{Names, kept}
 use Rattle.file_devices.specs.declared.devices.Op.TheVariants.{Keep}
 use Rattle.file_devices.specs.declared.devices.Source as source
 use Rattle.file_devices.specs.declared.devices.Sink as sink
 use Rattle.cloud_points.specs.declared.point.Point.{Point}
-use Rattle.cloud_points.specs.declared.work.Work.{Ghosts}
 use Rattle.cloud_points.specs.Flows.{Flow, points}
 use Rattle.las_reader.specs.declared.reader.LasReader.{LasReader}
-use Rattle.las_reader.specs.declared.reader.Progress.TheVariants.{Records}
 use Rattle.text_writer.specs.declared.writer.TextWriter.{TextWriter}
 use Rattle.text_writer.specs.TextOutput.{holds_text}
 use Rattle.stage_kinds.specs.declared.kind.Kind.{Kind}
 use Rattle.stage_kinds.specs.declared.kind.Kind.TheVariants.{Reader, Head, Text}
-use Rattle.stage_kinds.specs.declared.kind.StageState.{StageState}
-use Rattle.stage_kinds.specs.Stages.{state_of, meaning_of, is_reader, faults_of, holds_of}
-use Rattle.stage_kinds.specs.Reads.{tells_of, told_of, told_fault_of, points_left_of, views_left_of}
 use Rattle.stage_options.specs.declared.options.Options.{Options}
 use Rattle.stage_options.specs.declared.options.Options.TheVariants.{ReadersLas, FiltersHead, WritersText}
 use Rattle.stage_options.specs.declared.stage.StageSpec.{StageSpec}
 use Rattle.network_core.specs.declared.node.Node.{Node}
-use Rattle.network_core.specs.Chains.{AreNew}
+use Rattle.stage_runs.specs.Works.{as_works, IsAtStart}
+use Rattle.run_engine.specs.Linked.{AreNew}
 use Rattle.network_core.specs.Shown.{work_of}
 use Rattle.run_report.specs.declared.refusal.Place.TheVariants.{Stage}
 use Rattle.run_report.specs.declared.refusal.Refusal.{Refusal}
 use Rattle.run_report.specs.declared.refusal.Refusal.TheVariants.{Memory, Device}
 use Rattle.run_engine.specs.Chains.{passed}
-
--- what the stages are as works, by what their sources and sinks tell
-abbrev pub as_works : {S K : Type 0} → source.Ghosts S → sink.Ghosts K → Ghosts (Kind S K) StageState
-as_works source sink = record {
-  state = λ k. state_of k;
-  meaning = λ k. meaning_of k;
-  leaf = λ k. is_reader k;
-  short = λ k. false;
-  faults = λ k. faults_of source.faults sink.faults k;
-  tells = λ k. tells_of source.bytes k;
-  told = λ k. told_of source.bytes k;
-  told_fault = λ k. told_fault_of source.bytes k;
-  points_left = λ k. points_left_of k;
-  views_left = λ k. views_left_of k;
-  holds = λ k points. holds_of sink.bytes k points;
-}
 
 -- the name under which a stage's file is kept
 abbrev pub target_of : Options → List ℕ
@@ -68,18 +48,7 @@ module _ {S K : Type 0} where
   AreFor (s ∷ later) [] = ⊥
   AreFor (s ∷ later) (w ∷ works) = IsFor s.options w × AreFor later works
 
-  -- it does so and had no turn yet; `bytes` is what a sink tells
-  abbrev pub IsAtStart : (K → Option (List ℕ)) → Options → Kind S K → Type 0
-  IsAtStart bytes (ReadersLas filename) (Reader r) = r.progress ≡ Records 0
-  IsAtStart bytes (ReadersLas filename) (Head h) = ⊥
-  IsAtStart bytes (ReadersLas filename) (Text w) = ⊥
-  IsAtStart bytes (FiltersHead count only) (Reader r) = ⊥
-  IsAtStart bytes (FiltersHead count only) (Head h) = h ≡ record { limit = count; left = count }
-  IsAtStart bytes (FiltersHead count only) (Text w) = ⊥
-  IsAtStart bytes (WritersText filename order precision delimiter quote_header write_header only) (Reader r) = ⊥
-  IsAtStart bytes (WritersText filename order precision delimiter quote_header write_header only) (Head h) = ⊥
-  IsAtStart bytes (WritersText filename order precision delimiter quote_header write_header only) (Text w) = holds_text (bytes w.sink) [] ≡ true
-
+  -- they do so and had no turn yet; `bytes` is what a sink tells
   abbrev pub AreAtStart : (K → Option (List ℕ)) → List StageSpec → List (Kind S K) → Type 0
   AreAtStart bytes [] [] = ⊤
   AreAtStart bytes [] (w ∷ works) = ⊥

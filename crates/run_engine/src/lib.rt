@@ -1,6 +1,7 @@
 //! Runs pipelines: opens their files, lets their stages take turns, and keeps their outputs.
 #![tactic(auto)]
 
+mod chain;
 mod close;
 mod finish;
 mod line;

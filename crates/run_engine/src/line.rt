@@ -6,7 +6,8 @@ ghost use Rattle.las_reader.specs.declared.reader.Progress.TheVariants.{Records}
 ghost use Rattle.stage_options.specs.Chained.{IsChain, reads};
 ghost use Rattle.run_engine.specs.Chains.{writes};
 ghost use Rattle.run_engine.specs.Cause.{OnlyBlamed, AtStages, AtWriter, AtNewFile};
-ghost use Rattle.run_engine.specs.Works.{works_of, all_lent, lent_to, IsLined, IsAtStart};
+ghost use Rattle.stage_runs.specs.Works.{IsAtStart};
+ghost use Rattle.run_engine.specs.Works.{works_of, all_lent, lent_to, IsLined};
 
 use crate::open::open_writer;
 use file_devices::{Files, Sink, Source};

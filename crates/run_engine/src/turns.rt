@@ -3,7 +3,7 @@
 ghost use Rattle.std.specs.Prelude.{◌≡◌, ◌≤◌, ◌<◌, List, [], ℕ, length, vec_capacity, Some, Ok, IfOk, IfErr};
 ghost use Rattle.las_reader.specs.Files.{las_with};
 ghost use Rattle.las_reader.specs.declared.reader.LasReader as reader_type;
-ghost use Rattle.stage_kinds.specs.Reads.{las_flow};
+ghost use Rattle.las_reader.specs.Flows.{las_flow};
 ghost use Rattle.stage_kinds.specs.Stages.{faults_of};
 ghost use Rattle.stage_options.specs.Chained.{IsChain};
 ghost use Rattle.run_engine.specs.Chains.{counts_from};
@@ -12,10 +12,11 @@ ghost use Rattle.run_engine.specs.Cause.{Because, Blamed, AtTurns};
 ghost use Rattle.run_engine.specs.Works.{works_of, IsLined, AreFor, AllHold};
 ghost use Rattle.run_engine.specs.Finishing.{AreLater};
 
+use crate::chain::run_chain;
 use crate::finish::{Ran, finish, works_in};
 use crate::outcome::outcome;
 use file_devices::{Sink, Source};
-use network_core::{Node, NodeList, run_chain};
+use network_core::{Node, NodeList};
 use run_report::{Refusal, Report};
 use stage_kinds::Kind;
 use stage_options::StageSpec;

@@ -17,7 +17,8 @@ use Rattle.las_reader.specs.declared.reader.LasReader.{LasReader}
 use Rattle.las_reader.proofs.Pieces.{length-points_from}
 use Rattle.stage_kinds.specs.declared.kind.Kind.{Kind}
 use Rattle.stage_kinds.specs.declared.kind.Kind.TheVariants.{Reader}
-use Rattle.stage_kinds.specs.Reads.{las_flow, cut_fault, flow_with, end_marks, fault_with, rest_marks, rest_fault, is_within, tells_at, told_at, told_fault_at, tells_of, told_of, told_fault_of}
+use Rattle.las_reader.specs.Flows.{flow_with, las_flow}
+use Rattle.stage_kinds.specs.Reads.{cut_fault, end_marks, fault_with, rest_marks, rest_fault, is_within, tells_at, told_at, told_fault_at, tells_of, told_of, told_fault_of}
 
 -- a call gave the next part of what was told
 pub record GivesTold (bytes0 bytes1 : Option (List ℕ)) (header0 header1 : Header) (before after : Progress) (m : Make) (points : List Point) : Type 0 where

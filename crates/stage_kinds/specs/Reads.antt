@@ -1,10 +1,9 @@
 -- What a reader still gives of its file.
-use Rattle.std.specs.Prelude.{ℕ, ◌-◌, nat_le, Bool, true, false, List, [], ◌∷◌, ◌++◌, length, map, drop, Option, Some, None}
+use Rattle.std.specs.Prelude.{ℕ, ◌-◌, nat_le, Bool, true, false, List, [], ◌∷◌, ◌++◌, length, map, drop, Option, Some, None, option_map}
 use Rattle.cloud_points.specs.declared.point.Point.{Point}
 use Rattle.cloud_points.specs.declared.faults.StageFault.{StageFault}
 use Rattle.cloud_points.specs.declared.faults.StageFault.TheVariants as stage
 use Rattle.cloud_points.specs.declared.faults.PointFault.TheVariants.{Cut}
-use Rattle.cloud_points.specs.Flows.{Flow}
 use Rattle.cloud_points.specs.Marks.{Mark, At, View_end, End}
 use Rattle.las_header.specs.declared.block.Header.{Header}
 use Rattle.las_header.specs.Counts.{points_in}
@@ -14,19 +13,10 @@ use Rattle.las_reader.specs.declared.reader.Progress.TheVariants.{Records, ViewE
 use Rattle.stage_kinds.specs.declared.kind.Kind.{Kind}
 use Rattle.stage_kinds.specs.declared.kind.Kind.TheVariants.{Reader, Head, Text}
 
-abbrev pub flow_with : List Point → Option ℕ → Flow Point
-flow_with points None = record { views = points ∷ []; open_view = []; cut = false }
-flow_with points (Some k) = record { views = []; open_view = points; cut = true }
-
--- a whole file is one view, and a cut one an open view
-abbrev pub las_flow : Las → Flow Point
-las_flow las = flow_with las.points las.cut
-
+-- the fault of a file as that of a stage, by the number of its first record that isn't whole
 abbrev pub fault_with : Option ℕ → Option StageFault
-fault_with None = None
-fault_with (Some k) = Some (stage.Point (Cut k))
+fault_with cut = option_map stage.Point (option_map Cut cut)
 
--- the fault of a cut file: the number of the first record that isn't whole
 abbrev pub cut_fault : Las → Option StageFault
 cut_fault las = fault_with las.cut
 

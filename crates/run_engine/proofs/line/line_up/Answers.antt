@@ -1,7 +1,7 @@
 use Rattle.std.proofs.Common.{◌∙◌, [], ◌∷◌, ◌++◌, length, ap, subst, sym, arith}
 use Rattle.std.specs.Prelude.{Some}
 use Rattle.stage_options.specs.Chained.{reads}
-use Rattle.run_engine.specs.Works.{IsAtStart}
+use Rattle.stage_runs.specs.Works.{IsAtStart}
 use Rattle.run_engine.proofs.Lined.{no_reader, get_is, one_input, rose_sooner, lining_one, lining_more, lined_up, at_writer}
 use Rattle.run_engine.proofs.line.line_up.Goals as goal
 

@@ -3,7 +3,7 @@ use Rattle.std.proofs.lemmas.List.{length-map}
 use Rattle.std.proofs.lemmas.Result.{IfOk-weaker, IfErr-weaker}
 use Rattle.network_core.specs.Shown.{work_of}
 use Rattle.las_reader.specs.Files.{las_with}
-use Rattle.stage_kinds.specs.Reads.{las_flow}
+use Rattle.las_reader.specs.Flows.{las_flow}
 use Rattle.stage_kinds.specs.Stages.{faults_of}
 use Rattle.run_engine.specs.Works.{works_of}
 use Rattle.run_engine.specs.Finishing.{AreFinished, Unfinished}

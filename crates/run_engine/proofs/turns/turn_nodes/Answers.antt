@@ -1,6 +1,7 @@
 use Rattle.std.proofs.Common.{length, ap, subst, sym, ◌∙◌, arith}
-use Rattle.network_core.specs.Ran.{IsNewChain}
-use Rattle.run_engine.specs.Works.{as_works, works_of, AreFor}
+use Rattle.run_engine.specs.RanChain.{IsNewChain}
+use Rattle.stage_runs.specs.Works.{as_works}
+use Rattle.run_engine.specs.Works.{works_of, AreFor}
 use Rattle.run_engine.proofs.Ended.{new_chain, lined_length, lined_for, ended-as, seen-fit, ok-is, err-is, blamed-is}
 use Rattle.run_engine.proofs.Finishing.{later-as, same-later}
 use Rattle.run_engine.proofs.turns.turn_nodes.Goals as goal

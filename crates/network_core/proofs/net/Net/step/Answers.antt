@@ -8,7 +8,7 @@ use Rattle.network_theory.specs.History.{points_in_step}
 use Rattle.network_core.specs.Holding.{HoldsMore}
 use Rattle.network_core.specs.Nets.{net_with, choice_of}
 use Rattle.network_core.specs.Wires.{queue_at, IsWired}
-use Rattle.network_core.proofs.Steps.{stepped, outcome, taken-is, child-reads, wired-after, obeys-at, holds-at, written}
+use Rattle.network_core.proofs.Stepped.{stepped, outcome, taken-is, child-reads, wired-after, obeys-at, holds-at, written}
 use Rattle.network_core.proofs.net.Net.step.Goals as goal
 
 pub turn_among-requires-clause-more : goal.turn_among-requires-clause-more

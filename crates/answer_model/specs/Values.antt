@@ -1,0 +1,112 @@
+-- What each stage of a tree gives on, and its fault, on whole flows.
+use Rattle.std.specs.Prelude.{◌≡◌, ℕ, ◌+◌, ◌<◌, true, cond, List, [], ◌∷◌, map, flat_map, length, slice_index_or, Option, Some, None, option_map, Result, Ok, Err}
+use Rattle.std.proofs.Common.{zero, suc}
+use Rattle.std.specs.List.{range_with_len}
+use Rattle.cloud_points.specs.declared.point.Point.{Point}
+use Rattle.cloud_points.specs.declared.faults.PointFault.{PointFault}
+use Rattle.cloud_points.specs.Flows.{Flow, points, empty_flow, join_all}
+use Rattle.cloud_points.specs.Queue.{up_to_limit}
+use Rattle.las_reader.specs.Files.{Las}
+use Rattle.las_reader.specs.Flows.{las_flow, las_fault}
+use Rattle.stage_names.specs.declared.kinds.KindName.TheVariants as kind
+use Rattle.pipeline_json.specs.Lists.{has}
+use Rattle.stage_options.specs.declared.options.Options.TheVariants.{ReadersLas}
+use Rattle.stage_options.specs.declared.stage.StageSpec.{StageSpec}
+use Rattle.run_report.specs.declared.report.StageCount.{StageCount}
+use Rattle.answer_model.specs.Rows.{File, Row, row_of, value_on, fault_on}
+
+-- what the readers' files hold, by the reader's number
+abbrev pub Opened : Type 0
+Opened = ℕ → Las
+
+-- stage k; at a number that no stage has stands a reader
+abbrev pub stage_at : List StageSpec → ℕ → StageSpec
+stage_at stages k = slice_index_or stages k (record { kind = kind.ReadersLas; ins = []; options = ReadersLas [] })
+
+-- its row
+abbrev pub row_at : List StageSpec → ℕ → Row
+row_at stages k = row_of ((stage_at stages k).options)
+
+-- what a stage gives on: a reader the flow of its file, another one its value on the flow that it takes
+abbrev pub value_of : Row → Las → Flow Point → Flow Point
+value_of row las flow = cond row.reads (las_flow las) (value_on row flow)
+
+-- what stage k gives on, by the values of the stages below it; the first number is above k
+abbrev pub value_below : List StageSpec → Opened → ℕ → ℕ → Flow Point
+value_below stages opened zero k = empty_flow
+value_below stages opened (suc d) k =
+    value_of (row_at stages k) (opened k) (join_all (map (value_below stages opened d) ((stage_at stages k).ins)))
+
+-- what stage k gives on
+abbrev pub stage_value : List StageSpec → Opened → ℕ → Flow Point
+stage_value stages opened k = value_below stages opened (k + 1) k
+
+-- what it takes: the values of its inputs, joined in their order
+abbrev pub stage_input : List StageSpec → Opened → ℕ → Flow Point
+stage_input stages opened k = join_all (map (stage_value stages opened) ((stage_at stages k).ins))
+
+-- the fault of a stage: of a reader that of its file, of another one that on the flow that it takes
+abbrev pub stage_fault : List StageSpec → Opened → ℕ → Option PointFault
+stage_fault stages opened k =
+    cond (row_at stages k).reads (las_fault (opened k)) (fault_on (row_at stages k) (stage_input stages opened k))
+
+-- the least of so many numbers from k on at which there is one
+abbrev pub or_later : {A : Type 0} → ℕ → Option A → Option (ℕ × A) → Option (ℕ × A)
+or_later k None later = later
+or_later k (Some a) later = Some (k, a)
+
+abbrev pub least_from : {A : Type 0} → (ℕ → Option A) → ℕ → ℕ → Option (ℕ × A)
+least_from f zero k = None
+least_from f (suc left) k = or_later k (f k) (least_from f left (k + 1))
+
+-- the least stage with a fault, and that fault
+abbrev pub least_fault : List StageSpec → Opened → Option (ℕ × PointFault)
+least_fault stages opened = least_from (stage_fault stages opened) (length stages) 0
+
+-- a file that is kept: the number of the stage that writes it, its name and its bytes
+pub record Output : Type 0 where
+  pub stage : ℕ
+  pub name : List ℕ
+  pub bytes : List ℕ
+
+abbrev pub written : ℕ → Flow Point → Option File → List Output
+written k flow None = []
+written k flow (Some f) = record { stage = k; name = f.name; bytes = f.bytes (points flow) } ∷ []
+
+abbrev pub output_at : List StageSpec → Opened → ℕ → List Output
+output_at stages opened k = written k (stage_input stages opened k) (row_at stages k).file
+
+-- how many views and points a stage gave on, and how many points it wrote
+abbrev pub count_at : List StageSpec → Opened → ℕ → StageCount
+count_at stages opened k = record {
+  stage = k;
+  kind = (stage_at stages k).kind;
+  views = up_to_limit (length (stage_value stages opened k).views);
+  points = up_to_limit (length (points (stage_value stages opened k)));
+  wrote = option_map (λ f. up_to_limit (length (points (stage_input stages opened k)))) (row_at stages k).file;
+}
+
+-- those of all stages, in the order of their numbers
+abbrev pub outputs_of : List StageSpec → Opened → List Output
+outputs_of stages opened = flat_map (output_at stages opened) (range_with_len 0 (length stages))
+
+abbrev pub counts_of : List StageSpec → Opened → List StageCount
+counts_of stages opened = map (count_at stages opened) (range_with_len 0 (length stages))
+
+-- what the stages come to
+pub record Ended : Type 0 where
+  pub outputs : List Output
+  pub counts : List StageCount
+
+abbrev pub unless_fault : Option (ℕ × PointFault) → Ended → Result Ended (ℕ × PointFault)
+unless_fault None ended = Ok ended
+unless_fault (Some f) ended = Err f
+
+-- what the stages come to, or the run's fault: that of the least stage that has one
+unfoldable pub evaluated : List StageSpec → Opened → Result Ended (ℕ × PointFault)
+evaluated stages opened = unless_fault (least_fault stages opened)
+    (record { outputs = outputs_of stages opened; counts = counts_of stages opened })
+
+-- each stage takes earlier ones
+abbrev pub IsDown : List StageSpec → Type 0
+IsDown stages = (k j : ℕ) → has ((stage_at stages k).ins) j ≡ true → j < k

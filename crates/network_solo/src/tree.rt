@@ -1,0 +1,55 @@
+//! Trees of nodes that are run to their end.
+
+ghost use Rattle.std.specs.Prelude.{◌≡◌, ◌<◌, ◌≤◌, ◌-◌, ◌^◌, ℕ, Some, IfOk, IfErr, length, slice_get};
+ghost use Rattle.network_theory.specs.Forest.{IsForest, children};
+ghost use Rattle.network_theory.specs.Opening.{IsFresh};
+ghost use Rattle.network_core.specs.declared.node.Node as node_type;
+ghost use Rattle.network_core.specs.Nets.{ins_of, nodes_of, IsNewNet};
+ghost use Rattle.network_core.specs.Shown.{shown};
+ghost use Rattle.network_solo.specs.Trees.{IsRanTree};
+
+use crate::solo::Solo;
+use cloud_points::Work;
+use network_core::{InsList, Net, NodeList, Steps};
+use std::alloc::Global;
+use std::marker::Brand;
+use std::sync::ledger::{Blank, Ledger};
+
+/// A new net that was run to its end.
+fn ran<W: Work, L: Ledger>(net: Net<W>, blank: Blank) -> Net<W>
+    requires new { IsNewNet W.Work net }
+    requires name { blank.name ≡ L.name }
+    requires parts { blank.parts ≡ L.parts }
+    requires some { 0 < blank.parts }
+    ensures { IsRanTree W.Work (ins_of net) (nodes_of net) (nodes_of result) }
+{
+    let mut steps = Steps::<L>::new(blank);
+    let mut solo = Solo::new(net);
+    solo.run(&mut steps);
+    solo.into_net()
+}
+
+/// Lets new nodes take turns until all are done, over queues that have room for `capacity` items each, and hands the nodes
+/// back. `ins` has the numbers of each node's children in the order of its inputs, and the last node is the root. Where memory
+/// is wanting no node takes a turn.
+pub fn run_tree<W: Work>(
+    alloc: Global,
+    nodes: NodeList<W>,
+    ins: InsList,
+    capacity: usize,
+) -> Result<NodeList<W>, NodeList<W>>
+    requires some { 0 < length nodes }
+    requires most { length nodes < 2 ^ 32 }
+    requires fresh { (k : ℕ) (n : node_type.Node W) → slice_get nodes k ≡ Some n
+        → IsFresh (shown W.Work (children ins k) n) }
+    requires forest { IsForest ins (length nodes - 1) }
+    requires room { 0 < capacity }
+    requires small { capacity ≤ 64 }
+    ensures ran { IfOk result (λ ended. IsRanTree W.Work ins nodes ended) }
+    ensures refused { IfErr result (λ back. back ≡ nodes) }
+{
+    match Net::new(alloc, nodes, ins, capacity) {
+        Ok(net) => Ok(ran::<W, Brand>(net, Blank::new(1)).into_nodes()),
+        Err((nodes, _)) => Err(nodes),
+    }
+}

@@ -1,0 +1,65 @@
+-- The works of a tree's stages.
+use Rattle.std.specs.Prelude.{◌≡◌, ℕ, true, false, List, [], length, map, slice_get, Option, Some}
+use Rattle.file_devices.specs.declared.devices.Source as source
+use Rattle.file_devices.specs.declared.devices.Sink as sink
+use Rattle.cloud_points.specs.declared.work.Work.{Ghosts}
+use Rattle.las_reader.specs.Files.{las_with}
+use Rattle.las_reader.specs.declared.reader.LasReader.{LasReader}
+use Rattle.las_reader.specs.declared.reader.Progress.TheVariants.{Records}
+use Rattle.text_writer.specs.TextOutput.{holds_text}
+use Rattle.stage_kinds.specs.declared.kind.Kind.{Kind}
+use Rattle.stage_kinds.specs.declared.kind.Kind.TheVariants.{Reader, Head, Text}
+use Rattle.stage_kinds.specs.declared.kind.StageState.{StageState}
+use Rattle.stage_kinds.specs.Stages.{state_of, meaning_of, is_reader, faults_of, holds_of}
+use Rattle.stage_kinds.specs.Reads.{tells_of, told_of, told_fault_of, points_left_of, views_left_of}
+use Rattle.stage_options.specs.declared.options.Options.{Options}
+use Rattle.stage_options.specs.declared.options.Options.TheVariants.{ReadersLas, FiltersHead, WritersText}
+use Rattle.stage_options.specs.declared.stage.StageSpec.{StageSpec}
+use Rattle.network_theory.specs.Opening.{IsFresh}
+use Rattle.network_core.specs.declared.node.Node.{Node}
+use Rattle.network_core.specs.Shown.{shown, work_of}
+use Rattle.answer_model.specs.Values.{Opened, stage_at}
+
+-- what the stages are as works, by what their sources and sinks tell
+abbrev pub as_works : {S K : Type 0} → source.Ghosts S → sink.Ghosts K → Ghosts (Kind S K) StageState
+as_works source sink = record {
+  state = λ k. state_of k;
+  meaning = λ k. meaning_of k;
+  leaf = λ k. is_reader k;
+  short = λ k. false;
+  faults = λ k. faults_of source.faults sink.faults k;
+  tells = λ k. tells_of source.bytes k;
+  told = λ k. told_of source.bytes k;
+  told_fault = λ k. told_fault_of source.bytes k;
+  points_left = λ k. points_left_of k;
+  views_left = λ k. views_left_of k;
+  holds = λ k points. holds_of sink.bytes k points;
+}
+
+-- a work does what a stage with these options does, and had no turn yet; `bytes` is what a sink tells
+abbrev pub IsAtStart : {S K : Type 0} → (K → Option (List ℕ)) → Options → Kind S K → Type 0
+IsAtStart bytes (ReadersLas filename) (Reader r) = r.progress ≡ Records 0
+IsAtStart bytes (FiltersHead count only) (Head h) = h ≡ record { limit = count; left = count }
+IsAtStart bytes (WritersText filename order precision delimiter quote_header write_header only) (Text w) =
+    holds_text (bytes w.sink) [] ≡ true
+IsAtStart bytes _ _ = ⊥
+
+-- the numbers of the stages that each stage takes
+abbrev pub ins_of : List StageSpec → List (List ℕ)
+ins_of stages = map (λ s. s.ins) stages
+
+-- a new node for each stage, over its work
+pub record AreNewStages {S K : Type 0} (s : source.Ghosts S) (k : sink.Ghosts K) (stages : List StageSpec) (nodes : List (Node (Kind S K))) : Type 0 where
+  pub count : length nodes ≡ length stages
+  pub fresh : (i : ℕ) (n : Node (Kind S K)) → slice_get nodes i ≡ Some n → IsFresh (shown (as_works s k) ((stage_at stages i).ins) n)
+  pub works : (i : ℕ) (n : Node (Kind S K)) → slice_get nodes i ≡ Some n → IsAtStart k.bytes (stage_at stages i).options (work_of n)
+
+-- a reader's source tells a file that holds this
+pub record Tells {S : Type 0} (s : source.Ghosts S) (opened : Opened) (i : ℕ) (r : LasReader S) : Type 0 where
+  pub file : List ℕ
+  pub told : s.bytes r.source ≡ Some file
+  pub holds : opened i ≡ las_with r.header file
+
+-- so do all
+abbrev pub ReadersTell : {S K : Type 0} → source.Ghosts S → List (Node (Kind S K)) → Opened → Type 0
+ReadersTell {S} {K} s nodes opened = (i : ℕ) (n : Node (Kind S K)) (r : LasReader S) → slice_get nodes i ≡ Some n → work_of n ≡ Reader r → Tells s opened i r
