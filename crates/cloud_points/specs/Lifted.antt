@@ -1,5 +1,5 @@
 -- A meaning over one variant of a larger state.
-use Rattle.std.proofs.Common.{◌≡◌, ◌≢◌, ◌≤◌, Bool, false, List, [], ◌++◌, length, Option, Some, None, refl, ap, ◌∙◌, arith}
+use Rattle.std.proofs.Common.{◌≡◌, ◌≢◌, ◌≤◌, Bool, false, List, [], ◌∷◌, ◌++◌, length, Option, Some, None, refl, ap, ◌∙◌, arith}
 use Rattle.cloud_points.specs.Meaning.{Meaning, KeepsCutting}
 
 abbrev pub emit_at : {S P F : Type 0} → Meaning S P F → Option S → List P → List P
@@ -56,6 +56,10 @@ module _ {S T P F : Type 0} (m : Meaning S P F) (law : KeepsCutting m) (project 
   stops_fault a b None h = absurd (h refl)
   stops_fault a b (Some s) h = law.stops_fault s a b h
 
+  holds_back : (p : P) (o : Option S) → fault_at m o (p ∷ []) ≢ None → emit_at m o (p ∷ []) ≡ []
+  holds_back p None h = refl
+  holds_back p (Some s) h = law.holds_back s p h
+
   rests : (t : T) (o : Option S) → project t ≡ o → after_at m inject t o [] ≡ t
   rests t None e = refl
   rests t (Some s) e = ap inject (law.rests s) ∙ back t s e
@@ -76,6 +80,7 @@ module _ {S T P F : Type 0} (m : Meaning S P F) (law : KeepsCutting m) (project 
     stops_emit = λ t a b h. stops_emit a b (project t) h;
     stops_after = λ t a b h. stops_after t a b (project t) h;
     stops_fault = λ t a b h. stops_fault a b (project t) h;
+    holds_back = λ t p h. holds_back p (project t) h;
     rests = λ t. rests t (project t) refl;
     is_sound = λ t. is_sound (project t);
     no_longer = λ t a. no_longer (project t) a;

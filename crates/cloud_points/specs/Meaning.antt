@@ -1,5 +1,5 @@
 -- What a work means: five functions of its state, and the law of cutting.
-use Rattle.std.specs.Prelude.{◌≡◌, ◌≢◌, ◌≤◌, Bool, List, [], ◌++◌, length, Option, None}
+use Rattle.std.specs.Prelude.{◌≡◌, ◌≢◌, ◌≤◌, Bool, List, [], ◌∷◌, ◌++◌, length, Option, None}
 
 pub record Meaning (S P F : Type 0) : Type 0 where
   -- what the work gives for points, its state then, and its fault on them
@@ -19,6 +19,8 @@ pub record KeepsCutting {S P F : Type 0} (m : Meaning S P F) : Type 0 where
   pub stops_emit : (s : S) (a b : List P) → m.fault s a ≢ None → m.emit s (a ++ b) ≡ m.emit s a
   pub stops_after : (s : S) (a b : List P) → m.fault s a ≢ None → m.after s (a ++ b) ≡ m.after s a
   pub stops_fault : (s : S) (a b : List P) → m.fault s a ≢ None → m.fault s (a ++ b) ≡ m.fault s a
+  -- a point at which it has a fault does not go on
+  pub holds_back : (s : S) (p : P) → m.fault s (p ∷ []) ≢ None → m.emit s (p ∷ []) ≡ []
   -- no points change nothing
   pub rests : (s : S) → m.after s [] ≡ s
   pub is_sound : (s : S) → m.fault s [] ≡ None

@@ -1,9 +1,18 @@
-//! The program, in a folder of its own for a stored run that is refused.
+//! The program once more, in a folder of its own for a stored run that is refused.
 #![tactic(auto)]
 
-use real_files::run_program;
+use lasline_top::{Refusal, lasline_solo, refused};
+use real_files::{RealFiles, RealStream, words};
 use std::process::ExitCode;
 
 fn main(rt: HostRuntime) -> ExitCode {
-    ExitCode::from(run_program(&rt, rt.stdout(), rt.stderr()).code())
+    let alloc = rt.alloc();
+    let mut files = RealFiles::new(&rt, alloc);
+    let mut out = RealStream::new(rt.stdout());
+    let mut err = RealStream::new(rt.stderr());
+    let status = match words(&rt) {
+        Ok(words) => lasline_solo(alloc, &words, &mut files, &mut out, &mut err),
+        Err(_) => refused(Refusal::Memory, &mut err),
+    };
+    ExitCode::from(status.code())
 }

@@ -8,5 +8,5 @@ mod status;
 mod words;
 
 pub use run_report::{Fault, Place, Refusal, StageCount, fault_text, report_text};
-pub use solo::lasline_solo;
+pub use solo::{lasline_solo, refused};
 pub use status::Status;

@@ -134,8 +134,8 @@ fn run_command<F: Files, K: Sink>(
     }
 }
 
-/// Tells why a command was refused, and answers its status.
-fn refused<E: Sink>(refusal: Refusal, err: &mut E) -> Status
+/// Appends the line that says why a command was refused, and answers its status.
+pub fn refused<E: Sink>(refusal: Refusal, err: &mut E) -> Status
     ensures status { result ≡ status_for refusal }
     ensures line { ToldWhy (E.bytes err.old) (E.bytes err.new) (E.faults err.old) (E.faults err.new) (fault_line refusal) }
 {

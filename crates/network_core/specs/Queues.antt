@@ -14,6 +14,11 @@ abbrev pub room : Option (MutBor (Buffer code.Item)) → ℕ
 room None = 0
 room (Some q) = q.now.capacity
 
+abbrev pub room_left : (Unit {0}) ⊎ ((MutBor (Buffer code.Item) × Unit {0}) ⊎ ⊥) → ℕ
+room_left (inl u) = 0
+room_left (inr (inl f)) = f.0.now.capacity
+room_left (inr (inr h)) = 0
+
 -- what is left of them
 abbrev pub left_items : (Unit {0}) ⊎ ((MutBor (Buffer code.Item) × Unit {0}) ⊎ ⊥) → List code.Item
 left_items (inl u) = []

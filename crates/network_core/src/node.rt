@@ -56,7 +56,7 @@ impl<W: Work> Node<W> {
     ghost use Rattle.network_core.specs.Calm.{Calm, NoEvent, Told, Obeys};
     ghost use Rattle.network_core.specs.Holding.{KeepsHolding, HoldsMore};
     ghost use Rattle.network_core.specs.Begun.{Begins, IsStill, WillMake, made_by};
-    ghost use Rattle.network_core.specs.Queues.{lent_items, room, left_items};
+    ghost use Rattle.network_core.specs.Queues.{lent_items, room, room_left, left_items};
 
     /// A new node, with no inputs exactly for a leaf. A leaf makes at most `chunk` points at once, from 1 to 64.
     pub fn new(work: W, inputs: u32, chunk: usize) -> Node<W>
@@ -204,6 +204,7 @@ impl<W: Work> Node<W> {
             ≡ net.turn (is_none out.entry) (room out.entry) (choice W.Work self.old self.new) (shown W.Work ins self.old) (bodies (lent_items input.entry)) (bodies (lent_items out.entry)) }
         ensures above { numbers (left_items out.exit) ≡ net.numbers_above (is_none out.entry) (turned result) (numbers (lent_items out.entry)) (shown W.Work [] self.old).sent }
         ensures left { numbers (left_items input.exit) ≡ net.numbers_left (turned result) (numbers (lent_items input.entry)) }
+        ensures rooms { (room_left input.exit ≡ room input.entry) × (room_left out.exit ≡ room out.entry) }
         ensures obeys { Obeys W.Work self.old self.new }
         ensures holds { HoldsMore W.Work self.old self.new (points_taken (turned result) (bodies (lent_items input.entry))) }
     {

@@ -1,16 +1,16 @@
-//! The files and streams of the system behind the device traits, and the program over them. What they hold isn't told.
+//! The files and streams of the system behind the device traits, and the words of the command line. What they hold isn't told.
 #![tactic(auto)]
 
+mod command_line;
 mod files;
-mod program;
 mod sink;
 mod source;
 mod stream;
 mod target;
 mod window;
 
+pub use command_line::words;
 pub use files::RealFiles;
-pub use program::run_program;
 pub use sink::RealOut;
 pub use source::RealIn;
 pub use stream::RealStream;

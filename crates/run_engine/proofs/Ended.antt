@@ -267,7 +267,7 @@ module _ {S K : Type 0} (s : source.Ghosts S) (k : sink.Ghosts K) where
     because (Data i (fault.Point f)) out file told = e.faulty i f out.0 out.1 file told
     because (Device PipelineFile o) out file told = absurd out
     because (Device Out o) out file told = absurd out
-    because (Device (Stage i) o) out file told = inr (subst (AtTurns (faults_of s.faults k.faults) (works_of old) (works_of new) stages (Stage i)) (sym out.1) (e.device i out.0))
+    because (Device (Stage i) o) out file told = inr (subst (AtTurns (faults_of s.faults k.faults) (works_of old) (works_of new) stages (Stage i)) (sym out.2) (e.device i out.0))
 
     pub blamed : (refusal : Refusal) → IsOutcome new refusal → Blamed (AtTurns (faults_of s.faults k.faults) (works_of old) (works_of new) stages) refusal
     blamed Memory out = absurd out
@@ -279,7 +279,7 @@ module _ {S K : Type 0} (s : source.Ghosts S) (k : sink.Ghosts K) where
     blamed (Data i (fault.Point f)) out = tt
     blamed (Device PipelineFile o) out = absurd out
     blamed (Device Out o) out = absurd out
-    blamed (Device (Stage i) o) out = subst (AtTurns (faults_of s.faults k.faults) (works_of old) (works_of new) stages (Stage i)) (sym out.1) (e.device i out.0)
+    blamed (Device (Stage i) o) out = subst (AtTurns (faults_of s.faults k.faults) (works_of old) (works_of new) stages (Stage i)) (sym out.2) (e.device i out.0)
 
   -- what is known of a run by the lists that its calls give on
   module _ (stages : List StageSpec) (nodes listed back final seen : List (Node (Kind S K))) (chain : IsChain stages) (same : listed ≡ nodes) (ran : IsRanChain (as_works s k) listed back) (last : final ≡ back) (lent : seen ≡ final) where

@@ -58,7 +58,7 @@ counted_from i (s ∷ later) (n ∷ nodes) = count_at i s n ∷ counted_from (i 
 abbrev pub op_at : ℕ → Op
 op_at stage = cond (stage == 0) Read Write
 
--- why a run has no outcome: a node's device failed, or none did and a node's points have a fault
+-- why a run has no outcome: this is the first node whose device failed, or none did and this is the first whose points have a fault
 abbrev pub IsOutcome : {W : Type 0} → List (Node W) → Refusal → Type 0
 IsOutcome nodes Memory = ⊥
 IsOutcome nodes (NotBuilt r) = ⊥
@@ -66,7 +66,7 @@ IsOutcome nodes (Usage k) = ⊥
 IsOutcome nodes (Pipeline f) = ⊥
 IsOutcome nodes (Data i (Header f)) = ⊥
 IsOutcome nodes (Data i (Vlr f)) = ⊥
-IsOutcome nodes (Data i (Point f)) = NoDevice nodes (length nodes) × PointFaultAt nodes i f
+IsOutcome nodes (Data i (Point f)) = NoDevice nodes (length nodes) × PointFaultAt nodes i f × NoPointFault nodes i
 IsOutcome nodes (Device PipelineFile o) = ⊥
 IsOutcome nodes (Device Out o) = ⊥
-IsOutcome nodes (Device (Stage i) o) = DeviceAt nodes i × (o ≡ op_at i)
+IsOutcome nodes (Device (Stage i) o) = DeviceAt nodes i × NoDevice nodes i × (o ≡ op_at i)

@@ -20,6 +20,7 @@ fn is_device(fault: Option<StageFault>) -> bool
 /// The first stage whose device failed.
 fn failed_stage<W: Work>(nodes: &[Node<W>]) -> Option<usize>
     ensures some { IfSome result (λ i. DeviceAt nodes.now i) }
+    ensures least { IfSome result (λ i. NoDevice nodes.now i) }
     ensures none { IfNone result (NoDevice nodes.now (length nodes.now)) }
 {
     for i in 0..nodes.len() {
@@ -42,6 +43,7 @@ fn point_fault(fault: Option<StageFault>) -> Option<PointFault>
 /// The first stage whose points have a fault, and that fault.
 fn faulty_stage<W: Work>(nodes: &[Node<W>]) -> Option<(usize, PointFault)>
     ensures some { IfSome result (λ r. PointFaultAt nodes.now r.0 r.1) }
+    ensures least { IfSome result (λ r. NoPointFault nodes.now r.0) }
     ensures none { IfNone result (NoPointFault nodes.now (length nodes.now)) }
 {
     for i in 0..nodes.len() {

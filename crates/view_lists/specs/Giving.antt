@@ -42,6 +42,7 @@ resting_keeps = record {
   stops_emit = λ s a b h. refl;
   stops_after = λ s a b h. refl;
   stops_fault = λ s a b h. refl;
+  holds_back = λ s p h. refl;
   rests = λ s. refl;
   is_sound = λ s. refl;
   no_longer = λ s a. zero-le;

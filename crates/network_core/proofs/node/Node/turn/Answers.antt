@@ -1,4 +1,4 @@
-use Rattle.std.proofs.Common.{[], Some, None}
+use Rattle.std.proofs.Common.{[], Some, None, refl}
 use Rattle.network_core.specs.Shown.{choice, shown}
 use Rattle.network_core.proofs.Lent.{lent_row}
 use Rattle.network_core.proofs.node.Node.turn.Goals as goal
@@ -20,6 +20,15 @@ returns-in_default-input-2-clause-row g c = λ ins. rw (c.in-Some.is, c.in_defau
 
 pub returns-in_default-input-2-clause-above : goal.returns-in_default-input-2-clause-above
 returns-in_default-input-2-clause-above g c = rw (c.in-Some.is) c.turn_leaf.ensures.above
+
+pub returns-clause-rooms : goal.returns-clause-rooms
+returns-clause-rooms g c = rw (c.in-Some.is, c.in-Some-input-2.is) c.turn_inner.ensures.room
+
+pub returns-in_default-clause-rooms : goal.returns-in_default-clause-rooms
+returns-in_default-clause-rooms g c = rw (c.in_default.is, c.in-Some-input.is) (c.turn_root.ensures.room, refl)
+
+pub returns-in_default-input-2-clause-rooms : goal.returns-in_default-input-2-clause-rooms
+returns-in_default-input-2-clause-rooms g c = rw (c.in-Some.is, c.in_default-input-2.is) (refl, c.turn_leaf.ensures.room)
 
 pub returns-clause-row : goal.returns-clause-row
 returns-clause-row g c = λ ins. rw (c.in-Some.is, c.in-Some-input-2.is)
