@@ -1,4 +1,5 @@
-# make          builds the proved program to target/lasline
+# make try      runs the stored example without any proof, in about a minute
+# make          proves everything and builds the program to target/lasline
 # make run      builds it, and runs the stored example in target/example
 # make test     the merge gate: every proof, every edit that must be refused, every test, every program
 # make install  PREFIX=/usr/local
@@ -6,17 +7,23 @@
 
 PREFIX ?= /usr/local
 CRATE = crates/lasline
+DATA = --data p.json=data/p.json --data in.las=data/in.las
+PROVED = /^crate / { name = $$2 } /^logic=proved/ { print "proved", name; fflush() }
 SOURCES = crates.txt HANDLES $(shell find crates -name out -prune -o -type f -print)
 
 all: target/lasline
 
-# The build ends with a run without words, whose answer doesn't count.
+# The build ends with a run without words, whose answer doesn't count. It names each crate once that is proved.
 target/lasline: $(SOURCES)
 	mkdir -p target
 	rm -f $(CRATE)/out/lasline
-	cd $(CRATE) && { rt run > ../../target/build.log 2>&1 || true; }
+	@echo "proving and building: this takes a while the first time; target/build.log tells all"
+	cd $(CRATE) && { rt run 2>&1 || true; } | tee ../../target/build.log | awk '$(PROVED)'
 	@test -x $(CRATE)/out/lasline || { tail -n 20 target/build.log; exit 1; }
 	cp $(CRATE)/out/lasline $@
+
+try:
+	cd $(CRATE) && rt try $(DATA) -- run p.json
 
 run: target/lasline
 	rm -rf target/example
@@ -34,4 +41,4 @@ install: target/lasline
 clean:
 	rm -rf target crates/*/out
 
-.PHONY: all run test install clean
+.PHONY: all try run test install clean

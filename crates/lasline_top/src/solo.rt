@@ -123,6 +123,7 @@ fn run_command<F: Files, K: Sink>(
     ensures out_risen { IfErr result (λ refusal. (o : Op) → refusal ≡ Refusal.Device Place.Out o → (o ≡ Op.Write) × Rose (K.faults out.old) (K.faults out.new)) }
     ensures left { IfErr result (λ refusal. (m : Names) → F.map files.old ≡ Some m → IsLeft refusal (F.map files.old) (F.map files.new) (answer (map string_bytes words.now) m)) }
     ensures page { (text : List ℕ) → task_of (map string_bytes words.now) ≡ Ok (Print text) → OnOk result (Appends (K.bytes out.old) text (K.bytes out.new)) }
+    ensures page_part { (text : List ℕ) → task_of (map string_bytes words.now) ≡ Ok (Print text) → OnErr result (AppendsPart (K.bytes out.old) text (K.bytes out.new)) }
     ensures quiet { IfErr result (λ refusal. (K.bytes out.new ≡ K.bytes out.old) ⊎ ((refusal ≡ Refusal.Device Place.Out Op.Write) × ((m : Names) → F.map files.old ≡ Some m
         → IsOkAnd (answer (map string_bytes words.now) m) (IsPartDone (F.map files.old) (F.map files.new) (K.bytes out.old) (K.bytes out.new))))) }
     ensures lent { F.lent files.new ≡ F.lent files.old }
@@ -173,7 +174,9 @@ pub fn lasline_solo<F: Files, K: Sink, E: Sink>(
     ensures report { result ≡ Status.Ok → (m : Names) → F.map files.old ≡ Some m
         → IsOkAnd (answer (map string_bytes words.now) m) (λ run. Appends (K.bytes out.old) run.report (K.bytes out.new)) }
 
+    // A page is printed whatever the files tell, or a part of it where printing failed.
     ensures page { result ≡ Status.Ok → (text : List ℕ) → task_of (map string_bytes words.now) ≡ Ok (Print text) → Appends (K.bytes out.old) text (K.bytes out.new) }
+    ensures page_part { (result ≡ Status.Ok → ⊥) → (text : List ℕ) → task_of (map string_bytes words.now) ≡ Ok (Print text) → AppendsPart (K.bytes out.old) text (K.bytes out.new) }
 
     // Each other answer has its cause.
     ensures pipeline { (f : PipeFault) → result ≡ Status.Pipeline f → (m : Names) → F.map files.old ≡ Some m
