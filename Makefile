@@ -1,7 +1,7 @@
 # make try      runs the stored example without any proof, in about a minute
 # make          proves everything and builds the program to target/lasline
 # make run      builds it, and runs the stored example in target/example
-# make test     the merge gate: every proof, every edit that must be refused, every test, every program
+# make test     the merge gate: every proof, every edit that must be refused, every test, every program; then docs/ERRORS.md
 # make install  PREFIX=/usr/local
 # make clean    removes target/ and what rt made
 
@@ -33,6 +33,7 @@ run: target/lasline
 
 test:
 	rt ci
+	docs/check-errors.sh
 
 install: target/lasline
 	install -d $(DESTDIR)$(PREFIX)/bin
