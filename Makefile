@@ -1,6 +1,7 @@
 # make try      runs the stored example without any proof, in about a minute
 # make          proves everything and builds the program to target/lasline
 # make run      builds it, and runs the stored example in target/example
+# make examples builds it, and runs the pipelines of examples/ in target/examples
 # make test     the merge gate: every proof, every edit that must be refused, every test, every program; then docs/ERRORS.md
 # make install  PREFIX=/usr/local
 # make clean    removes target/ and what rt made
@@ -31,6 +32,9 @@ run: target/lasline
 	cp $(CRATE)/data/p.json $(CRATE)/data/in.las target/example/
 	cd target/example && ../lasline run p.json && echo && cat o.txt
 
+examples: target/lasline
+	examples/run.sh target/lasline target/examples
+
 test:
 	rt ci
 	docs/check-errors.sh
@@ -42,4 +46,4 @@ install: target/lasline
 clean:
 	rm -rf target crates/*/out
 
-.PHONY: all try run test install clean
+.PHONY: all try run examples test install clean
