@@ -3,7 +3,7 @@
 # make run      builds it, and runs the stored example in target/example
 # make examples builds it, and runs the pipelines of examples/ in target/examples
 # make test     the merge gate: every proof, every edit that must be refused, every test, every program; then docs/ERRORS.md
-# make install  PREFIX=/usr/local
+# make install  PREFIX=/usr/local: the program, its manual page, and completions for bash and zsh
 # make clean    removes target/ and what rt made
 
 PREFIX ?= /usr/local
@@ -42,6 +42,12 @@ test:
 install: target/lasline
 	install -d $(DESTDIR)$(PREFIX)/bin
 	install -m 755 target/lasline $(DESTDIR)$(PREFIX)/bin/lasline
+	install -d $(DESTDIR)$(PREFIX)/share/man/man1
+	install -m 644 man/lasline.1 $(DESTDIR)$(PREFIX)/share/man/man1/lasline.1
+	install -d $(DESTDIR)$(PREFIX)/share/bash-completion/completions
+	install -m 644 completions/lasline.bash $(DESTDIR)$(PREFIX)/share/bash-completion/completions/lasline
+	install -d $(DESTDIR)$(PREFIX)/share/zsh/site-functions
+	install -m 644 completions/_lasline $(DESTDIR)$(PREFIX)/share/zsh/site-functions/_lasline
 
 clean:
 	rm -rf target crates/*/out
