@@ -30,7 +30,8 @@ input_at ins value k = input_of value (children ins k)
 -- each leaf tells the flow of its number, and each other node makes it of the flow that it takes
 pub record Streams {W S : Type 0} (g : Ghosts W S) (ins : List (List ℕ)) (nodes : List (Node W)) (value : ℕ → Flow Point) : Type 0 where
   pub leaf : (k : ℕ) (n : Node W) → slice_get nodes k ≡ Some n → g.leaf (work_of n) ≡ true → g.told (work_of n) ≡ flow_marks (value k)
-  pub inner : (k : ℕ) (n : Node W) → slice_get nodes k ≡ Some n → g.leaf (work_of n) ≡ false → makes_of g (work_of n) (input_at ins value k) ≡ flow_marks (value k)
+  pub inner : (k : ℕ) (n : Node W) → slice_get nodes k ≡ Some n → g.leaf (work_of n) ≡ false
+      → makes_of g (work_of n) (input_at ins value k) ≡ flow_marks (value k)
 
 -- a node gave on this flow
 pub record Gave {W S : Type 0} (g : Ghosts W S) (flow : Flow Point) (n : Node W) : Type 0 where
@@ -46,8 +47,10 @@ pub record Took {W S : Type 0} (g : Ghosts W S) (flow : Flow Point) (old new : N
 -- how the nodes of a tree end over these flows: a leaf has the fault that it told
 pub record EndsOver {W S : Type 0} (g : Ghosts W S) (ins : List (List ℕ)) (old new : List (Node W)) (value : ℕ → Flow Point) : Type 0 where
   pub gave : (k : ℕ) (m : Node W) → slice_get new k ≡ Some m → Gave g (value k) m
-  pub told : (k : ℕ) (n m : Node W) → slice_get old k ≡ Some n → slice_get new k ≡ Some m → g.leaf (work_of n) ≡ true → (shown g [] m).machine.fault ≡ g.told_fault (work_of n)
-  pub took : (k : ℕ) (n m : Node W) → slice_get old k ≡ Some n → slice_get new k ≡ Some m → g.leaf (work_of n) ≡ false → Took g (input_at ins value k) n m
+  pub told : (k : ℕ) (n m : Node W) → slice_get old k ≡ Some n → slice_get new k ≡ Some m → g.leaf (work_of n) ≡ true
+      → (shown g [] m).machine.fault ≡ g.told_fault (work_of n)
+  pub took : (k : ℕ) (n m : Node W) → slice_get old k ≡ Some n → slice_get new k ≡ Some m → g.leaf (work_of n) ≡ false
+      → Took g (input_at ins value k) n m
 
 -- no event came to any node between these two states
 abbrev pub NoneCame : {W S : Type 0} → Ghosts W S → List (Node W) → List (Node W) → Type 0

@@ -23,5 +23,5 @@ returns-in-Err-finish-clause-err g c =
     inr (
       is_ok c.args.outcome c.in-Ok.report c.in-Ok.is,
       finishes_not g.K.Sink.bytes (faults_of g.S.Source.faults g.K.Sink.faults) c.args.works.items c.loop-i.works.items c.loop-i.i c.index_mut.result.now c.finish.new.self c.loop-i.invariant
-    (slice_get_read c.loop-i.works.items (length c.loop-i.works.items) c.loop-i.i c.index_mut.result.now refl lt c.index_mut.ensures.value) c.finish.ensures.finished c.in-Err-finish.ensures.writer c.in-Err-finish.ensures.cause.failed,
+          (slice_get_read c.loop-i.works.items (length c.loop-i.works.items) c.loop-i.i c.index_mut.result.now refl lt c.index_mut.ensures.value) c.finish.ensures.finished c.in-Err-finish.ensures.writer c.in-Err-finish.ensures.cause.failed,
     )

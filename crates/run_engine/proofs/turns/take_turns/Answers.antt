@@ -31,10 +31,13 @@ finish-requires g c =
 pub returns-clause-ok : goal.returns-clause-ok
 returns-clause-ok g c = IfOk-weaker c.finish.result.outcome _ _ (λ report same. λ reader file is told.
     let t = ok_at c.turn_nodes-nodes.result.outcome _ report same c.turn_nodes-nodes.ensures.ok reader file is told in
-    let f = subst (λ ws. AreFinished g.K.Sink.bytes (faults_of g.S.Source.faults g.K.Sink.faults) ws c.finish.result.works.items) c.works_in.ensures c.finish.ensures.finished in
-    (t.0, t.1, held-still g.K.Sink.bytes (faults_of g.S.Source.faults g.K.Sink.faults) c.args.stages.now (works_of c.args.nodes.items) (works_of c.turn_nodes-nodes.result.nodes.items)
-    (lined_for g.S.Source g.K.Sink c.args.stages.now c.requires.lined.0 c.args.nodes.items c.requires.lined.1) c.turn_nodes-nodes.ensures.fit c.turn_nodes-nodes.ensures.later c.finish.result.works.items f
-    (las_flow (las_with reader.header file)) t.2)) c.finish.ensures.ok
+    let f = subst (λ ws. AreFinished g.K.Sink.bytes (faults_of g.S.Source.faults g.K.Sink.faults) ws c.finish.result.works.items) c.works_in.ensures c.finish.ensures.finished in (
+      t.0,
+      t.1,
+      held-still g.K.Sink.bytes (faults_of g.S.Source.faults g.K.Sink.faults) c.args.stages.now (works_of c.args.nodes.items) (works_of c.turn_nodes-nodes.result.nodes.items)
+          (lined_for g.S.Source g.K.Sink c.args.stages.now c.requires.lined.0 c.args.nodes.items c.requires.lined.1) c.turn_nodes-nodes.ensures.fit c.turn_nodes-nodes.ensures.later c.finish.result.works.items f
+          (las_flow (las_with reader.header file)) t.2,
+    )) c.finish.ensures.ok
 
 pub returns-clause-err : goal.returns-clause-err
 returns-clause-err g c = IfErr-weaker c.finish.result.outcome _ _ (λ refusal h. λ reader file is told.

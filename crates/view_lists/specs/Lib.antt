@@ -1,3 +1,0 @@
-pub mod Collecting
-pub mod Giving
-pub mod Shown
