@@ -3,7 +3,7 @@ use crate::{RealFiles, RealOut, RealStream};
 use file_devices::{DeviceErr, FileSink, Files, Sink, Source, fill};
 use std::alloc::{AllocError, Global};
 use std::cell::Cell;
-use std::fs::{OpenOptions, Permissions};
+use std::fs::{File, OpenOptions, Permissions};
 use std::io::Write;
 use std::os::unix::fs::{FileExt, MetadataExt, PermissionsExt, symlink};
 use std::test::Fail;
@@ -97,43 +97,60 @@ fn no_part_file_is_left(rt: HostRuntime) -> Result<(), Fail> {
     Ok(())
 }
 
+/// Whether an output of this name is refused.
+fn is_refused(files: &mut RealFiles<'_, HostRuntime>, name: &str) -> bool {
+    match files.create(name) {
+        Ok(sink) => {
+            files.done_out(sink);
+            false
+        }
+        Err(e) => e == DeviceErr::Failed,
+    }
+}
+
+/// Whether nothing stands at a name, not even a link.
+fn is_absent(rt: &HostRuntime, name: &str) -> bool {
+    fs::symlink_metadata(rt, name).is_err()
+}
+
+fn is_link(rt: &HostRuntime, name: &str) -> bool {
+    fs::symlink_metadata(rt, name).is_ok_and(|found| found.is_symlink())
+}
+
 #[test]
 fn only_a_regular_file_is_replaced(rt: HostRuntime) -> Result<(), Fail> {
-    let alloc = rt.alloc();
-    let mut files = RealFiles::new(&rt, alloc);
+    let mut files = RealFiles::new(&rt, rt.alloc());
     fs::create_dir(&rt, "folder")?;
     symlink(&rt, "folder", "to_folder")?;
     symlink(&rt, "nothing", "to_nothing")?;
     symlink(&rt, "/dev/null", "to_null")?;
     symlink(&rt, "ring", "ring")?;
-    for (faults, name) in [
-        (1u64, "folder"),
-        (2, "folder/"),
-        (3, "to_folder"),
-        (4, "to_nothing"),
-        (5, "to_null"),
-        (6, "ring"),
-        (7, "/dev/null"),
-        (8, "nothing/o.txt"),
+    let mut refused = 0u64;
+    for name in [
+        "folder",
+        "folder/",
+        "to_folder",
+        "to_nothing",
+        "to_null",
+        "ring",
+        "/dev/null",
+        "nothing/o.txt",
     ] {
-        let made = files.create(name).map(|sink| files.done_out(sink));
-        assert_eq!(rt; made, Err(DeviceErr::Failed), "{name}");
-        assert_eq!(rt; files.count(), faults, "{name}");
-        let part = format!(in alloc; "{name}.lasline-part")?;
-        assert!(rt; fs::symlink_metadata(&rt, part.as_str()).is_err(), "{name}");
+        if is_refused(&mut files, name) {
+            refused = refused.wrapping_add(1);
+        }
     }
-    assert!(rt; fs::symlink_metadata(&rt, "to_null")?.is_symlink());
-    assert!(rt; fs::symlink_metadata(&rt, "nothing").is_err());
-
-    // Nor is what comes to stand there later.
-    let sink = files.create("late").or(Err("create"))?;
-    symlink(&rt, "/dev/null", "late")?;
-    assert_eq!(rt; files.keep("late", sink), Err(DeviceErr::Failed));
-    assert!(rt; fs::symlink_metadata(&rt, "late")?.is_symlink());
-    assert!(rt; fs::symlink_metadata(&rt, "late.lasline-part").is_err());
-    assert_eq!(rt; files.count(), 9);
-    assert_eq!(rt; files.lent(), 0);
-    for link in ["to_folder", "to_nothing", "to_null", "ring", "late"] {
+    assert_eq!(rt; refused, 8);
+    assert_eq!(rt; files.count(), 8);
+    for part in [
+        "folder.lasline-part",
+        "to_null.lasline-part",
+        "/dev/null.lasline-part",
+    ] {
+        assert!(rt; is_absent(&rt, part));
+    }
+    assert!(rt; is_link(&rt, "to_null") && is_absent(&rt, "nothing"));
+    for link in ["to_folder", "to_nothing", "to_null", "ring"] {
         fs::remove_file(&rt, link)?;
     }
     fs::remove_dir(&rt, "folder")?;
@@ -141,86 +158,102 @@ fn only_a_regular_file_is_replaced(rt: HostRuntime) -> Result<(), Fail> {
 }
 
 #[test]
-fn links_are_followed_and_modes_kept(rt: HostRuntime) -> Result<(), Fail> {
+fn what_comes_to_stand_at_a_name_stays(rt: HostRuntime) -> Result<(), Fail> {
     let mut files = RealFiles::new(&rt, rt.alloc());
+    let sink = files.create("late").or(Err("create"))?;
+    symlink(&rt, "/dev/null", "late")?;
+    assert_eq!(rt; files.keep("late", sink), Err(DeviceErr::Failed));
+    assert!(rt; is_link(&rt, "late") && is_absent(&rt, "late.lasline-part"));
+    assert_eq!(rt; (files.count(), files.lent()), (1, 0));
+    fs::remove_file(&rt, "late")?;
+    Ok(())
+}
+
+/// Who may read, write and run a file, and its size, where it is there.
+fn mode_and_size(rt: &HostRuntime, name: &str) -> Option<(u32, u64)> {
+    let found = fs::symlink_metadata(rt, name).ok()?;
+    Some((found.mode() & 0o777, found.len()))
+}
+
+/// Puts a text in place of the file of this mode, by the name of a link to it. Answers the mode and size of the part file at
+/// the start and once an empty piece was appended, and those of the file at the end.
+fn replaced(
+    rt: &HostRuntime,
+    name: &str,
+    mode: u32,
+    text: &[u8],
+) -> Result<[Option<(u32, u64)>; 3], Fail> {
+    let mut files = RealFiles::new(rt, rt.alloc());
+    fs::set_permissions(rt, "real/o.txt", Permissions::from_mode(mode))?;
+    let mut sink = files.create(name).or(Err("create"))?;
+    sink.append(text).or(Err("append"))?;
+    let before = mode_and_size(rt, "real/o.txt.lasline-part");
+    sink.append(b"").or(Err("finish"))?;
+    let finished = mode_and_size(rt, "real/o.txt.lasline-part");
+    files.keep(name, sink).or(Err("keep"))?;
+    Ok([before, finished, mode_and_size(rt, "real/o.txt")])
+}
+
+#[test]
+fn links_are_followed_and_modes_kept(rt: HostRuntime) -> Result<(), Fail> {
     fs::create_dir(&rt, "real")?;
     fs::write(&rt, "real/o.txt", "old")?;
     symlink(&rt, "real/o.txt", "link.txt")?;
     symlink(&rt, "link.txt", "link_to_link.txt")?;
-    for (name, mode, text) in [
-        ("real/o.txt", 0o600u32, "a"),
-        ("link.txt", 0o666, "b"),
-        ("link_to_link.txt", 0o444, "c"),
+    for (name, mode) in [
+        ("real/o.txt", 0o600u32),
+        ("link.txt", 0o666),
+        ("link_to_link.txt", 0o444),
     ] {
-        fs::set_permissions(&rt, "real/o.txt", Permissions::from_mode(mode))?;
-        let mut sink = files.create(name).or(Err("create"))?;
-        assert!(rt; sink.append(text.as_bytes()).is_ok(), "{name}");
-        let part = fs::metadata(&rt, "real/o.txt.lasline-part")?;
-        assert_eq!(rt; part.mode() & 0o777, mode, "{name}");
-        assert_eq!(rt; part.len(), 0, "{name}");
-
-        // An empty piece writes what waits.
-        assert!(rt; sink.append(b"").is_ok(), "{name}");
-        assert_eq!(rt;
-            fs::metadata(&rt, "real/o.txt.lasline-part")?.len(),
-            1,
-            "{name}"
-        );
-        assert!(rt; files.keep(name, sink).is_ok(), "{name}");
-        assert_eq!(rt;
-            fs::read_to_string(&rt, "real/o.txt")?.as_str(),
-            text,
-            "{name}"
-        );
-        assert_eq!(rt;
-            fs::metadata(&rt, "real/o.txt")?.mode() & 0o777,
-            mode,
-            "{name}"
-        );
-        assert!(rt;
-            fs::symlink_metadata(&rt, "real/o.txt.lasline-part").is_err(),
-            "{name}"
-        );
+        let came = replaced(&rt, name, mode, b"new text")?;
+        assert_eq!(rt; came, [Some((mode, 0)), Some((mode, 8)), Some((mode, 8))]);
     }
-    for link in ["link.txt", "link_to_link.txt"] {
-        assert!(rt; fs::symlink_metadata(&rt, link)?.is_symlink(), "{link}");
-        fs::remove_file(&rt, link)?;
+    assert!(rt; is_absent(&rt, "real/o.txt.lasline-part"));
+    assert!(rt; is_link(&rt, "link.txt") && is_link(&rt, "link_to_link.txt"));
+    assert_eq!(rt;
+        fs::read_to_string(&rt, "link_to_link.txt")?.as_str(),
+        "new text"
+    );
+    for name in ["link.txt", "link_to_link.txt", "real/o.txt"] {
+        fs::remove_file(&rt, name)?;
     }
-    assert_eq!(rt; files.count(), 0);
-    fs::remove_file(&rt, "real/o.txt")?;
     fs::remove_dir(&rt, "real")?;
     Ok(())
 }
 
+/// Whether the second of two pieces is refused at a sink over this file, which is then not kept, and the first one as well.
+fn refusals(rt: &HostRuntime, file: File, first: &[u8], second: &[u8]) -> Result<[bool; 3], Fail> {
+    let alloc = rt.alloc();
+    fs::write(rt, "late.txt.lasline-part", "")?;
+    let part = String::from_str(alloc, "late.txt.lasline-part")?;
+    let mut sink = RealOut::new(file, part, Vec::with_capacity(alloc, 4)?, 4);
+    let early = sink.append(first).is_err();
+    let late = sink.append(second).is_err();
+    let mut files = RealFiles::new(rt, alloc);
+    Ok([early, late, files.keep("late.txt", sink).is_err()])
+}
+
 #[test]
 fn a_file_that_was_not_written_is_not_kept(rt: HostRuntime) -> Result<(), Fail> {
-    let alloc = rt.alloc();
-    let mut files = RealFiles::new(&rt, alloc);
     // A file that is opened for reading alone refuses each write, and this device can't be synced.
-    for (device, writes, first, second) in [
-        ("late.txt.lasline-part", false, "abc", ""),
-        ("late.txt.lasline-part", false, "abc", "abc"),
-        ("/dev/null", true, "abc", ""),
-        ("/dev/null", true, "", "abc"),
-    ] {
-        fs::write(&rt, "late.txt.lasline-part", "")?;
+    for (first, second) in [("abc", ""), ("abc", "abc"), ("", "abc")] {
         let mut how = OpenOptions::new();
-        how.read(!writes).write(writes);
-        let file = how.open(&rt, device)?;
-        let part = String::from_str(alloc, "late.txt.lasline-part")?;
-        let mut sink = RealOut::new(file, part, Vec::with_capacity(alloc, 4)?, 4);
-        let early = sink.append(first.as_bytes());
-        let late = sink.append(second.as_bytes());
-        assert_eq!(rt; early.is_err(), first.is_empty(), "{device}");
-        assert!(rt; late.is_err(), "{device}");
+        how.write(true);
+        let null = how.open(&rt, "/dev/null")?;
+        let came = refusals(&rt, null, first.as_bytes(), second.as_bytes())?;
         assert_eq!(rt;
-            files.keep("late.txt", sink),
-            Err(DeviceErr::Failed),
-            "{device}"
+            came,
+            [
+                first.is_empty(),
+                first.is_empty() || second.is_empty(),
+                true
+            ]
         );
-        assert!(rt; fs::metadata(&rt, "late.txt").is_err());
-        assert!(rt; fs::metadata(&rt, "late.txt.lasline-part").is_err());
     }
+    fs::write(&rt, "late.txt.lasline-part", "")?;
+    let file = fs::open(&rt, "late.txt.lasline-part")?;
+    assert_eq!(rt; refusals(&rt, file, b"abc", b"abc")?, [false, true, true]);
+    assert!(rt; is_absent(&rt, "late.txt") && is_absent(&rt, "late.txt.lasline-part"));
     Ok(())
 }
 
