@@ -9,7 +9,7 @@
 PREFIX ?= /usr/local
 CRATE = crates/lasline
 DATA = --data p.json=data/p.json --data in.las=data/in.las
-PROVED = /^crate / { name = $$2 } /^logic=proved/ { print "proved", name; fflush() }
+PROVED = /^crate / { name = $$2; sub(":", "", name) } /^logic=proved/ { print "proved", name; fflush() }
 SOURCES = crates.txt HANDLES $(shell find crates -name out -prune -o -type f -print)
 
 all: target/lasline
