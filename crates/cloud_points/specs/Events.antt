@@ -1,5 +1,6 @@
 -- What may come between a call of a work and its meaning.
-use Rattle.std.specs.Prelude.{Bool, true, false, not, ◌&&◌, ◌||◌, Option, Some, None}
+use Rattle.std.specs.Prelude.{◌≡◌, Bool, true, false, not, ◌&&◌, ◌||◌, Option, Some, None, ⊤}
+use Rattle.file_devices.specs.declared.devices.Op.{Op}
 use Rattle.cloud_points.specs.declared.faults.StageFault.{StageFault}
 use Rattle.cloud_points.specs.declared.faults.StageFault.TheVariants.{Point, Device}
 
@@ -7,6 +8,11 @@ abbrev pub is_device : Option StageFault → Bool
 is_device None = false
 is_device (Some (Point fault)) = false
 is_device (Some (Device op)) = true
+
+-- a device's fault names this operation, and there is none without one
+abbrev pub IsOf : Option Op → Option StageFault → Type 0
+IsOf op (Some (Device o)) = op ≡ Some o
+IsOf op _ = ⊤
 
 -- a call noted want of memory
 abbrev pub ran_short : Bool → Bool → Bool

@@ -17,7 +17,8 @@ pub trait Work {
     ghost use Rattle.cloud_points.specs.declared.point.Point.{Point};
     ghost use Rattle.cloud_points.specs.declared.faults.StageFault.{StageFault};
     ghost use Rattle.file_devices.specs.Counts.{Rose};
-    ghost use Rattle.cloud_points.specs.Events.{happened, is_device, ran_short, first_fault};
+    ghost use Rattle.file_devices.specs.declared.devices.Op.{Op};
+    ghost use Rattle.cloud_points.specs.Events.{happened, is_device, ran_short, first_fault, IsOf};
     ghost use Rattle.cloud_points.specs.Marks.{Mark, marks, views_in};
     ghost use Rattle.cloud_points.specs.Makes.{made, made_fault, gives_points, gives_end, ends_cut};
 
@@ -35,6 +36,9 @@ pub trait Work {
 
     /// How often its device failed.
     ghost faults: { Self → ℕ };
+
+    /// What it does with its device, where it has one: the operation that a fault of its device names. No call changes it.
+    ghost op: { Self → Option Op };
 
     /// A leaf whose content is told, and the flow and the fault that it still gives.
     ghost tells: { Self → Bool };
@@ -65,6 +69,7 @@ pub trait Work {
 
         ensures meaning { meaning self.new ≡ meaning self.old }
         ensures leaf { leaf self.new ≡ leaf self.old }
+        ensures op { op self.new ≡ op self.old }
         ensures some { gives_points result ≡ true → 0 < array_vec_len into.new }
         ensures most { array_vec_len into.new ≤ chunk }
         ensures empty { gives_points result ≡ false → into.new.items ≡ [] }
@@ -80,6 +85,7 @@ pub trait Work {
         ensures fewer_points { points_left self.new + array_vec_len into.new ≤ points_left self.old }
         ensures fewer_views { views_left self.new + views_in (made result into.new.items) ≤ views_left self.old }
         ensures cause { is_device (made_fault result) ≡ true → Rose (faults self.old) (faults self.new) }
+        ensures named { IsOf (op self.old) (made_fault result) }
         ensures count { faults self.old ≤ faults self.new }
         ensures holds { (before : List Point) → holds self.old before ≡ true → holds self.new before ≡ true }
         ensures stays_short { short self.new ≡ short self.old };
@@ -92,6 +98,7 @@ pub trait Work {
 
         ensures meaning { meaning self.new ≡ meaning self.old }
         ensures leaf { leaf self.new ≡ leaf self.old }
+        ensures op { op self.new ≡ op self.old }
         ensures state { happened result (short self.old) (short self.new) ≡ false → state self.new ≡ (meaning self.old).after (state self.old) points.old.items }
         ensures points { happened result (short self.old) (short self.new) ≡ false → points.new.items ≡ (meaning self.old).emit (state self.old) points.old.items }
         ensures fault { happened result (short self.old) (short self.new) ≡ false → result ≡ (meaning self.old).fault (state self.old) points.old.items }
@@ -100,6 +107,7 @@ pub trait Work {
         ensures holds { happened result (short self.old) (short self.new) ≡ false → (before : List Point) → holds self.old before ≡ true → holds self.new (before ++ points.old.items) ≡ true }
 
         ensures cause { is_device result ≡ true → Rose (faults self.old) (faults self.new) }
+        ensures named { IsOf (op self.old) result }
         ensures count { faults self.old ≤ faults self.new }
         ensures stays_short { short self.old ≡ true → short self.new ≡ true };
 
@@ -109,6 +117,7 @@ pub trait Work {
 
         ensures meaning { meaning self.new ≡ meaning self.old }
         ensures leaf { leaf self.new ≡ leaf self.old }
+        ensures op { op self.new ≡ op self.old }
         ensures state { ran_short (short self.old) (short self.new) ≡ false → state self.new ≡ ((meaning self.old).at_view (state self.old)).0 }
         ensures goes_on { result ≡ ((meaning self.old).at_view (state self.old)).1 }
         ensures holds { (before : List Point) → holds self.old before ≡ true → holds self.new before ≡ true }
@@ -121,6 +130,7 @@ pub trait Work {
 
         ensures meaning { meaning self.new ≡ meaning self.old }
         ensures leaf { leaf self.new ≡ leaf self.old }
+        ensures op { op self.new ≡ op self.old }
         ensures gives { (meaning self.old).at_end (state self.old) cut ≡ (state self.new, result) }
         ensures holds { (before : List Point) → holds self.old before ≡ true → holds self.new before ≡ true }
         ensures count { faults self.old ≤ faults self.new }

@@ -2,20 +2,23 @@
 use Rattle.std.specs.Prelude.{◌≡◌, ℕ, ◌≤◌, List, None, true, false, is_some}
 use Rattle.cloud_points.specs.declared.work.Work.{Ghosts}
 use Rattle.file_devices.specs.Counts.{Rose}
-use Rattle.cloud_points.specs.Events.{is_device, ran_short}
+use Rattle.cloud_points.specs.Events.{is_device, ran_short, IsOf}
 use Rattle.network_theory.specs.Net.{holds_end, IsAllowed, IsQuiet}
 use Rattle.network_core.specs.declared.node.Node.{Node}
 use Rattle.network_core.specs.Hands.{seen_hand}
 use Rattle.network_core.specs.Shown.{shown, choice}
 
--- counts of faults do not fall, want of memory stays noted, a leaf stays one, a node keeps its inputs and its first fault, and a new fault of a device has its cause
+-- counts of faults do not fall, want of memory stays noted, a leaf stays one, a work keeps its device's operation, a node its inputs
+-- and its first fault, and a new fault of a device has its cause and names that operation
 pub record Calm {W S : Type 0} (g : Ghosts W S) (old new : Node W) : Type 0 where
   pub faults : g.faults old.work ≤ g.faults new.work
   pub short : g.short old.work ≡ true → g.short new.work ≡ true
   pub leaf : g.leaf new.work ≡ g.leaf old.work
+  pub op : g.op new.work ≡ g.op old.work
   pub inputs : new.inputs ≡ old.inputs
   pub stays : is_some old.fault ≡ true → new.fault ≡ old.fault
   pub cause : is_some old.fault ≡ false → is_device new.fault ≡ true → Rose (g.faults old.work) (g.faults new.work)
+  pub named : is_some old.fault ≡ false → IsOf (g.op old.work) new.fault
 
 -- no device's fault stands at the node, and no want of memory was noted in between
 pub record NoEvent {W S : Type 0} (g : Ghosts W S) (old new : Node W) : Type 0 where

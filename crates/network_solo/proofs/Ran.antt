@@ -23,6 +23,7 @@ use Rattle.network_core.specs.declared.node.Node.{Node}
 use Rattle.network_core.specs.declared.net.Net.{Net}
 use Rattle.network_core.specs.Shown.{shown, work_of}
 use Rattle.network_core.specs.Nets.{net_of, root_of, capacity_of, shown_or, IsNewNet}
+use Rattle.network_core.proofs.Holds.{whole-of}
 use Rattle.network_core.proofs.Opened.{some_at}
 use Rattle.network_solo.specs.Runs.{AllTold, HadTurns, IsRunToEnd, EndsInRest}
 use Rattle.network_solo.specs.Trees.{input_at, fault_of, state_left, Streams, Gave, Took, EndsOver, NoneCame, LeavesTell, IsRanTree}
@@ -147,7 +148,8 @@ module _ {W S : Type 0} (g : Ghosts W S) (made : Net W) (new : IsNewNet g made) 
       took k n m e f l = record {
         fault = fault-by k n m e f ∙ ap (λ t. cond t (cond t (g.told_fault n.work) None) (fault_of g n.work (input_at made.ins value k))) l;
         state = state-by k n m e f l;
-        holds = λ sound empty. subst (λ ps. g.holds m.work ps ≡ true) (took-all k n m e f) (had.holds quiet beyond k n m e f sound [] empty);
+        holds = λ sound empty. subst (λ ps. g.holds m.work ps ≡ true) (whole-of g n.fault m.fault m.work _ (had.holds quiet beyond k n m e f [] empty) sound ∙ took-all k n m e f)
+            (had.holds quiet beyond k n m e f [] empty).holds;
       }
 
       pub ends-over : EndsOver g made.ins made.nodes.items now.nodes.items value

@@ -4,8 +4,9 @@ ghost use Rattle.std.specs.Prelude.{◌≡◌, ◌<◌, ◌≤◌, ◌-◌, ◌^
 ghost use Rattle.network_theory.specs.Forest.{IsForest, children};
 ghost use Rattle.network_theory.specs.Opening.{IsFresh};
 ghost use Rattle.network_core.specs.declared.node.Node as node_type;
-ghost use Rattle.network_core.specs.Nets.{ins_of, nodes_of, IsNewNet};
+ghost use Rattle.network_core.specs.Nets.{ins_of, nodes_of, capacity_of, IsNewNet};
 ghost use Rattle.network_core.specs.Shown.{shown};
+ghost use Rattle.network_solo.specs.Runs.{IsRanOver};
 ghost use Rattle.network_solo.specs.Trees.{IsRanTree};
 
 use crate::solo::Solo;
@@ -21,7 +22,8 @@ fn ran<W: Work, L: Ledger>(net: Net<W>, blank: Blank) -> Net<W>
     requires name { blank.name ≡ L.name }
     requires parts { blank.parts ≡ L.parts }
     requires some { 0 < blank.parts }
-    ensures { IsRanTree W.Work (ins_of net) (nodes_of net) (nodes_of result) }
+    ensures ran { IsRanTree W.Work (ins_of net) (nodes_of net) (nodes_of result) }
+    ensures over { IsRanOver W.Work (ins_of net) (capacity_of net) (nodes_of net) (nodes_of result) }
 {
     let mut steps = Steps::<L>::new(blank);
     let mut solo = Solo::new(net);
@@ -46,6 +48,7 @@ pub fn run_tree<W: Work>(
     requires room { 0 < capacity }
     requires small { capacity ≤ 64 }
     ensures ran { IfOk result (λ ended. IsRanTree W.Work ins nodes ended) }
+    ensures over { IfOk result (λ ended. IsRanOver W.Work ins capacity nodes ended) }
     ensures refused { IfErr result (λ back. back ≡ nodes) }
 {
     match Net::new(alloc, nodes, ins, capacity) {
