@@ -10,10 +10,12 @@ use Rattle.las_reader.specs.Files.{Las}
 use Rattle.las_reader.specs.Flows.{las_flow, las_fault}
 use Rattle.stage_names.specs.declared.kinds.KindName.TheVariants as kind
 use Rattle.pipeline_json.specs.Lists.{has}
+use Rattle.stage_options.specs.Roles.{Role, Writes, role_of, is_reading, target_of}
+use Rattle.stage_options.specs.declared.options.Options.{Options}
 use Rattle.stage_options.specs.declared.options.Options.TheVariants.{ReadersLas}
 use Rattle.stage_options.specs.declared.stage.StageSpec.{StageSpec}
 use Rattle.run_report.specs.declared.report.StageCount.{StageCount}
-use Rattle.answer_model.specs.Rows.{File, Row, row_of, value_on, fault_on}
+use Rattle.answer_model.specs.Rows.{Row, row_of, value_on, fault_on}
 
 -- what the readers' files hold, by the reader's number
 abbrev pub Opened : Type 0
@@ -21,21 +23,27 @@ Opened = ℕ → Las
 
 -- stage k; at a number that no stage has stands a reader
 abbrev pub stage_at : List StageSpec → ℕ → StageSpec
-stage_at stages k = slice_index_or stages k (record { kind = kind.ReadersLas; ins = []; options = ReadersLas [] })
+stage_at stages k = slice_index_or stages k (record { kind = kind.ReadersLas; ins = []; options = ReadersLas (record { filename = [] }) })
 
--- its row
+-- its options, what it does with files, and its row
+abbrev pub options_at : List StageSpec → ℕ → Options
+options_at stages k = (stage_at stages k).options
+
+abbrev pub role_at : List StageSpec → ℕ → Role
+role_at stages k = role_of (options_at stages k)
+
 abbrev pub row_at : List StageSpec → ℕ → Row
-row_at stages k = row_of ((stage_at stages k).options)
+row_at stages k = row_of (options_at stages k)
 
 -- what a stage gives on: a reader the flow of its file, another one its value on the flow that it takes
-abbrev pub value_of : Row → Las → Flow Point → Flow Point
-value_of row las flow = cond row.reads (las_flow las) (value_on row flow)
+abbrev pub value_of : Options → Las → Flow Point → Flow Point
+value_of o las flow = cond (is_reading (role_of o)) (las_flow las) (value_on (row_of o) flow)
 
 -- what stage k gives on, by the values of the stages below it; the first number is above k
 abbrev pub value_below : List StageSpec → Opened → ℕ → ℕ → Flow Point
 value_below stages opened zero k = empty_flow
 value_below stages opened (suc d) k =
-    value_of (row_at stages k) (opened k) (join_all (map (value_below stages opened d) ((stage_at stages k).ins)))
+    value_of (options_at stages k) (opened k) (join_all (map (value_below stages opened d) ((stage_at stages k).ins)))
 
 -- what stage k gives on
 abbrev pub stage_value : List StageSpec → Opened → ℕ → Flow Point
@@ -48,7 +56,7 @@ stage_input stages opened k = join_all (map (stage_value stages opened) ((stage_
 -- the fault of a stage: of a reader that of its file, of another one that on the flow that it takes
 abbrev pub stage_fault : List StageSpec → Opened → ℕ → Option PointFault
 stage_fault stages opened k =
-    cond (row_at stages k).reads (las_fault (opened k)) (fault_on (row_at stages k) (stage_input stages opened k))
+    cond (is_reading (role_at stages k)) (las_fault (opened k)) (fault_on (row_at stages k) (stage_input stages opened k))
 
 -- the least of so many numbers from k on at which there is one
 abbrev pub or_later : {A : Type 0} → ℕ → Option A → Option (ℕ × A) → Option (ℕ × A)
@@ -69,12 +77,13 @@ pub record Output : Type 0 where
   pub name : List ℕ
   pub bytes : List ℕ
 
-abbrev pub written : ℕ → Flow Point → Option File → List Output
-written k flow None = []
-written k flow (Some f) = record { stage = k; name = f.name; bytes = f.bytes (points flow) } ∷ []
+-- that of stage k, with these bytes, where the stage writes one
+abbrev pub written : ℕ → Role → List ℕ → List Output
+written k (Writes name) bytes = record { stage = k; name = name; bytes = bytes } ∷ []
+written k _ bytes = []
 
 abbrev pub output_at : List StageSpec → Opened → ℕ → List Output
-output_at stages opened k = written k (stage_input stages opened k) (row_at stages k).file
+output_at stages opened k = written k (role_at stages k) ((row_at stages k).bytes (points (stage_input stages opened k)))
 
 -- how many views and points a stage gave on, and how many points it wrote
 abbrev pub count_at : List StageSpec → Opened → ℕ → StageCount
@@ -83,7 +92,7 @@ count_at stages opened k = record {
   kind = (stage_at stages k).kind;
   views = up_to_limit (length (stage_value stages opened k).views);
   points = up_to_limit (length (points (stage_value stages opened k)));
-  wrote = option_map (λ f. up_to_limit (length (points (stage_input stages opened k)))) (row_at stages k).file;
+  wrote = option_map (λ name. up_to_limit (length (points (stage_input stages opened k)))) (target_of (role_at stages k));
 }
 
 -- those of all stages, in the order of their numbers

@@ -10,7 +10,7 @@ ghost use Rattle.pipeline_json.specs.Trees.{IsTree};
 ghost use Rattle.stage_options.specs.Shapes.{shapes};
 ghost use Rattle.stage_options.specs.declared.stage.StageSpec.{StageSpec};
 ghost use Rattle.answer_model.specs.Laws.{IsLeastFault};
-ghost use Rattle.answer_model.specs.Values.{Opened, IsDown, row_at, value_of, stage_value, stage_input, stage_fault, least_fault};
+ghost use Rattle.answer_model.specs.Values.{Opened, IsDown, options_at, value_of, stage_value, stage_input, stage_fault, least_fault};
 
 pub use examples::{cut_inputs_run_on, inputs_are_joined};
 
@@ -19,7 +19,7 @@ pub use examples::{cut_inputs_run_on, inputs_are_joined};
 pub fn values_follow_inputs()
     ensures trees { (stages : List StageSpec) → IsTree (shapes stages) → IsDown stages }
     ensures values { (stages : List StageSpec) (opened : Opened) → IsDown stages → (k : ℕ)
-        → stage_value stages opened k ≡ value_of (row_at stages k) (opened k) (stage_input stages opened k) }
+        → stage_value stages opened k ≡ value_of (options_at stages k) (opened k) (stage_input stages opened k) }
 {}
 
 /// The fault of a run is that of the least stage that has one, and there is none exactly where no stage has one.

@@ -41,34 +41,9 @@ kind_named name = if bytes_eq name (codes "readers.las") then Some ReadersLas
 
 abbrev pub is_reader : KindName → Bool
 is_reader ReadersLas = true
-is_reader FiltersRange = false
-is_reader FiltersCrop = false
-is_reader FiltersAssign = false
-is_reader FiltersFerry = false
-is_reader FiltersExpression = false
-is_reader FiltersDecimation = false
-is_reader FiltersHead = false
-is_reader FiltersReturns = false
-is_reader FiltersMerge = false
-is_reader FiltersSort = false
-is_reader FiltersTail = false
-is_reader FiltersGroupby = false
-is_reader WritersLas = false
-is_reader WritersText = false
+is_reader _ = false
 
 abbrev pub is_writer : KindName → Bool
-is_writer ReadersLas = false
-is_writer FiltersRange = false
-is_writer FiltersCrop = false
-is_writer FiltersAssign = false
-is_writer FiltersFerry = false
-is_writer FiltersExpression = false
-is_writer FiltersDecimation = false
-is_writer FiltersHead = false
-is_writer FiltersReturns = false
-is_writer FiltersMerge = false
-is_writer FiltersSort = false
-is_writer FiltersTail = false
-is_writer FiltersGroupby = false
 is_writer WritersLas = true
 is_writer WritersText = true
+is_writer _ = false

@@ -3,6 +3,8 @@
 
 mod faults;
 mod kinds;
+mod laws;
 
 pub use faults::{PipeErr, PipeFault};
 pub use kinds::KindName;
+pub use laws::names_are_read_back;

@@ -10,7 +10,8 @@ use Rattle.stage_names.specs.declared.kinds.KindName.TheVariants as kind
 use Rattle.pipeline_json.specs.Lists.{is_empty, has, times}
 use Rattle.pipeline_json.specs.Stages.{Stage, taken}
 use Rattle.pipeline_json.specs.Trees.{IsTree}
-use Rattle.stage_options.specs.Chained.{reads, AreLinked, IsChain}
+use Rattle.stage_options.specs.Chained.{AreLinked, IsChain}
+use Rattle.stage_options.specs.Roles.{role_of, is_reading}
 use Rattle.stage_options.specs.declared.options.Options.TheVariants.{ReadersLas}
 use Rattle.stage_options.specs.Typed.{typed_of, is_built}
 use Rattle.stage_options.specs.TypedTree.{is_stage_built, are_built, specs_of}
@@ -85,7 +86,8 @@ none_or_one p (x ∷ []) ys few low before =
     go false e twice = omega (arith, low x (own x []), ltb-false x p e)
 none_or_one p (x ∷ y ∷ more) ys few low before = absurd (omega (arith, few))
 
-reads_kind : (k : KindName) (filename : Option (List ℕ)) (ms : Members) → IsTrue (is_built k ms) → reads (unwrap_or (typed_of k filename ms) (ReadersLas [])) ≡ is_reader k
+reads_kind : (k : KindName) (filename : Option (List ℕ)) (ms : Members) → IsTrue (is_built k ms)
+    → is_reading (role_of (unwrap_or (typed_of k filename ms) (ReadersLas (record { filename = [] })))) ≡ is_reader k
 reads_kind kind.ReadersLas filename ms h = refl
 reads_kind kind.FiltersHead filename ms h = refl
 reads_kind kind.WritersText filename ms h = refl

@@ -1,6 +1,7 @@
 pub mod Again
 pub mod Chains
 pub mod Keys
+pub mod Own
 pub mod Places
 pub mod Shaped
 pub mod Steps

@@ -1,6 +1,8 @@
 pub mod Chained
 pub mod Faults
+pub mod Kinds
 pub mod Outputs
+pub mod Roles
 pub mod Rules
 pub mod Seen
 pub mod Shapes

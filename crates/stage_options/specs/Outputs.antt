@@ -1,15 +1,13 @@
 -- Writers that name the same file.
 use Rattle.std.specs.Prelude.{ℕ, ◌≡◌, ◌<◌, List, Bool, false, Option, Some, None, option_and_then, bytes_eq, find, length, take}
 use Rattle.std.specs.List.{slice_get, list_any, range_with_len}
+use Rattle.stage_options.specs.Roles.{role_of, target_of}
 use Rattle.stage_options.specs.declared.options.Options.{Options}
-use Rattle.stage_options.specs.declared.options.Options.TheVariants.{ReadersLas, FiltersHead, WritersText}
 use Rattle.stage_options.specs.declared.stage.StageSpec.{StageSpec}
 
 -- the name of the file that a stage writes
 abbrev pub output_of : Options → Option (List ℕ)
-output_of (ReadersLas filename) = None
-output_of (FiltersHead count only) = None
-output_of (WritersText filename order precision delimiter quote_header write_header only) = Some filename
+output_of options = target_of (role_of options)
 
 abbrev pub output_at : List StageSpec → ℕ → Option (List ℕ)
 output_at stages i = option_and_then (λ s. output_of s.options) (slice_get stages i)

@@ -3,7 +3,7 @@ use Rattle.std.specs.Prelude.{ℕ, ◌&&◌, nat_le, Bool, true, false, List, []
 use Rattle.serde_json.specs.Data.{Data}
 use Rattle.serde_json.specs.Find.{as_str}
 use Rattle.stage_names.specs.declared.kinds.KindName.{KindName}
-use Rattle.stage_names.specs.declared.kinds.KindName.TheVariants.{ReadersLas, FiltersRange, FiltersCrop, FiltersAssign, FiltersFerry, FiltersExpression, FiltersDecimation, FiltersHead, FiltersReturns, FiltersMerge, FiltersSort, FiltersTail, FiltersGroupby, WritersLas, WritersText}
+use Rattle.stage_names.specs.declared.kinds.KindName.TheVariants.{ReadersLas, FiltersHead, WritersText}
 use Rattle.stage_options.specs.Values.{whole_of, truth_of, is_source, is_target}
 
 -- what an option may hold
@@ -20,27 +20,15 @@ pub record Rule : Type 0 where
   pub is_required : Bool
   pub form : Form
 
--- the options of a type, in the order in which they are looked at
+-- the options of a type, in the order in which they are looked at; a type that isn't built has none yet
 abbrev pub rules_of : KindName → List Rule
 rules_of ReadersLas =
     (record { name = codes "filename"; is_required = true; form = source }
     ∷ [])
-rules_of FiltersRange = []
-rules_of FiltersCrop = []
-rules_of FiltersAssign = []
-rules_of FiltersFerry = []
-rules_of FiltersExpression = []
-rules_of FiltersDecimation = []
 rules_of FiltersHead =
     (record { name = codes "count"; is_required = false; form = whole 0 4294967295 }
     ∷ record { name = codes "where"; is_required = false; form = text }
     ∷ [])
-rules_of FiltersReturns = []
-rules_of FiltersMerge = []
-rules_of FiltersSort = []
-rules_of FiltersTail = []
-rules_of FiltersGroupby = []
-rules_of WritersLas = []
 rules_of WritersText =
     (record { name = codes "filename"; is_required = true; form = target }
     ∷ record { name = codes "order"; is_required = false; form = text }
@@ -50,6 +38,7 @@ rules_of WritersText =
     ∷ record { name = codes "write_header"; is_required = false; form = truth }
     ∷ record { name = codes "where"; is_required = false; form = text }
     ∷ [])
+rules_of _ = []
 
 abbrev pub is_within : ℕ → ℕ → Option ℕ → Bool
 is_within low high None = false

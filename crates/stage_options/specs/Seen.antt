@@ -7,6 +7,9 @@ use Rattle.stage_options.specs.declared.rules.Form.TheVariants as form
 use Rattle.stage_options.specs.declared.rules.Rule.{Rule}
 use Rattle.stage_options.specs.declared.values.Given.{Given}
 use Rattle.stage_options.specs.declared.values.Given.TheVariants.{Name, Json}
+use Rattle.stage_options.specs.declared.role.Role.{Role}
+use Rattle.stage_options.specs.declared.role.Role.TheVariants as role
+use Rattle.stage_options.specs.Roles as roles
 use Rattle.stage_options.specs.Rules as rules
 
 abbrev pub form_view : Form → rules.Form
@@ -26,3 +29,8 @@ rules_view rs = map rule_view rs
 abbrev pub given_view : Given → Data
 given_view (Name text) = string text.now
 given_view (Json value) = view value.now
+
+abbrev pub role_view : Role → roles.Role
+role_view (role.Reads name) = roles.Reads name.now
+role_view role.Filters = roles.Filters
+role_view (role.Writes name) = roles.Writes name.now

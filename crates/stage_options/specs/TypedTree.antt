@@ -7,6 +7,7 @@ use Rattle.stage_names.specs.declared.faults.PipeFault.TheVariants.{SameOutput}
 use Rattle.stage_names.specs.declared.faults.PipeErr.{PipeErr}
 use Rattle.stage_names.specs.declared.faults.PipeErr.TheVariants.{Fault, Memory}
 use Rattle.pipeline_json.specs.Stages.{Stage}
+use Rattle.stage_options.specs.declared.options.Options.{Options}
 use Rattle.stage_options.specs.declared.options.Options.TheVariants.{ReadersLas}
 use Rattle.stage_options.specs.declared.stage.StageSpec.{StageSpec}
 use Rattle.stage_options.specs.Faults.{first_fault, or_else}
@@ -24,9 +25,13 @@ are_built stages = list_all is_stage_built stages
 abbrev pub stage_fault : ℕ → Stage → Option PipeFault
 stage_fault i s = first_fault i s.kind s.filename s.members
 
--- the stage with its options; each that is built has them
+-- the options of a stage; each that is built has them
+abbrev pub options_of : Stage → Options
+options_of s = unwrap_or (typed_of s.kind s.filename s.members) (ReadersLas (record { filename = [] }))
+
+-- the stage with its options
 abbrev pub spec_of : Stage → StageSpec
-spec_of s = record { kind = s.kind; ins = s.ins; options = unwrap_or (typed_of s.kind s.filename s.members) (ReadersLas []) }
+spec_of s = record { kind = s.kind; ins = s.ins; options = options_of s }
 
 abbrev pub specs_of : List Stage → List StageSpec
 specs_of stages = map spec_of stages

@@ -3,7 +3,7 @@ use Rattle.std.specs.Prelude.{ℕ, ◌&&◌, ◌==◌, nat_le, nat_lt, Bool, tru
 use Rattle.std.specs.List.{list_any, ends_with}
 use Rattle.std.specs.Str.{all_ascii_digits}
 use Rattle.std.specs.Str.Parse.{digits_value}
-use Rattle.serde_json.specs.Data.{Data, null, boolean, number, string, array, object}
+use Rattle.serde_json.specs.Data.{Data, boolean, number, string}
 use Rattle.serde_json.specs.Find.{as_u64}
 
 -- ---- whole numbers below 2 ^ 32
@@ -16,12 +16,9 @@ abbrev pub text_whole : List ℕ → Option ℕ
 text_whole text = if nat_lt 0 (length text) && nat_le (length text) 10 && all_ascii_digits text then small (digits_value 10 text) else None
 
 abbrev pub whole_of : Data → Option ℕ
-whole_of null = None
-whole_of (boolean b) = None
 whole_of (number n) = option_and_then small (as_u64 n)
 whole_of (string text) = text_whole text
-whole_of (array ds) = None
-whole_of (object ms) = None
+whole_of _ = None
 
 -- ---- truth values
 
@@ -29,12 +26,9 @@ abbrev pub text_truth : List ℕ → Option Bool
 text_truth text = if bytes_eq text (codes "true") then Some true else (if bytes_eq text (codes "false") then Some false else None)
 
 abbrev pub truth_of : Data → Option Bool
-truth_of null = None
 truth_of (boolean b) = Some b
-truth_of (number n) = None
 truth_of (string text) = text_truth text
-truth_of (array ds) = None
-truth_of (object ms) = None
+truth_of _ = None
 
 -- ---- names of files
 

@@ -2,8 +2,10 @@
 #![tactic(auto)]
 
 mod built;
+mod names;
 mod options;
 mod outputs;
+mod role;
 mod rules;
 mod stage;
 mod tree;
@@ -13,11 +15,13 @@ mod values;
 mod walks;
 
 pub use built::{is_built, is_kind_built};
-pub use options::Options;
+pub use names::{SourceName, TargetName};
+pub use options::{HeadOptions, LasReaderOptions, Options, TextOptions};
 pub use outputs::first_same_output;
+pub use role::Role;
 pub use stage::StageSpec;
 pub use tree::Tree;
-pub use trees::{is_tree_built, type_stage, type_tree};
+pub use trees::{is_tree_built, type_tree};
 
 #[cfg(test)]
 mod tests;

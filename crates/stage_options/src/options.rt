@@ -1,46 +1,68 @@
-//! The options of a stage, by its type.
+//! The options of a stage, by its type. An option that no run heeds yet has no field here: a stage that has it isn't built.
 
-use file_devices::Name;
+ghost use Rattle.std.specs.Prelude.{◌≡◌};
+ghost use Rattle.stage_options.specs.Kinds.{kind_of};
+ghost use Rattle.stage_options.specs.Roles.{role_of};
+ghost use Rattle.stage_options.specs.Seen.{role_view};
+
+use crate::names::{SourceName, TargetName};
+use crate::role::Role;
+use stage_names::KindName;
 
 /// The options of a stage, with their defaults put in.
 #[derive(Drop)]
 pub enum Options {
     /// Of `readers.las`.
-    ReadersLas {
-        /// The name of the file.
-        filename: Name,
-    },
+    ReadersLas(LasReaderOptions),
 
     /// Of `filters.head`.
-    FiltersHead {
-        /// How many points of a view pass.
-        count: u32,
-
-        /// The text of the option `where`: which points the stage takes.
-        only: Option<Name>,
-    },
+    FiltersHead(HeadOptions),
 
     /// Of `writers.text`.
-    WritersText {
-        /// The name of the file.
-        filename: Name,
+    WritersText(TextOptions),
+}
 
-        /// The columns and their order.
-        order: Name,
+/// The options of `readers.las`.
+#[derive(Drop)]
+pub struct LasReaderOptions {
+    /// The name of the file.
+    pub filename: SourceName,
+}
 
-        /// How many digits stand behind a number's point.
-        precision: u32,
+/// The options of `filters.head`.
+#[derive(Drop)]
+pub struct HeadOptions {
+    /// How many points of a view pass.
+    pub count: u32,
+}
 
-        /// What stands between two columns.
-        delimiter: Name,
+/// The options of `writers.text`.
+#[derive(Drop)]
+pub struct TextOptions {
+    /// The name of the file.
+    pub filename: TargetName,
+}
 
-        /// Whether the names in the first line stand in quotes.
-        quote_header: bool,
+impl Options {
+    /// The type of the stages that have such options.
+    pub fn kind(&self) -> KindName
+        ensures { result ≡ kind_of self.now }
+    {
+        match self {
+            Options::ReadersLas(_) => KindName::ReadersLas,
+            Options::FiltersHead(_) => KindName::FiltersHead,
+            Options::WritersText(_) => KindName::WritersText,
+        }
+    }
 
-        /// Whether the first line names the columns.
-        write_header: bool,
-
-        /// The text of the option `where`: which points the stage takes.
-        only: Option<Name>,
-    },
+    /// What a stage with these options does with files.
+    pub fn role(&self) -> Role<'_>
+        ensures { role_view result ≡ role_of self.now }
+    {
+        match self {
+            Options::ReadersLas(options) => Role::Reads(options.filename.as_str()),
+            Options::FiltersHead(_) => Role::Filters,
+            Options::WritersText(options) => Role::Writes(options.filename.as_str()),
+        }
+    }
 }

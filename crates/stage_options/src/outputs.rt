@@ -10,10 +10,7 @@ use crate::stage::StageSpec;
 fn output_of(options: &Options) -> Option<&str>
     ensures { option_map (λ s. s.now) result ≡ output_of options.now }
 {
-    match options {
-        Options::WritersText { filename, .. } => Some(filename.as_str()),
-        _ => None,
-    }
+    options.role().target()
 }
 
 /// Whether a stage writes the file of this name.

@@ -6,9 +6,9 @@ ghost use Rattle.pipeline_json.specs.Trees.{IsTree};
 ghost use Rattle.pipeline_json.specs.TreeShown.{tree_view};
 ghost use Rattle.stage_options.specs.Chained.{IsChain};
 ghost use Rattle.stage_options.specs.Faults.{IsFaultOf};
+ghost use Rattle.stage_options.specs.Kinds.{HaveOwnOptions};
 ghost use Rattle.stage_options.specs.Shapes.{shapes};
 ghost use Rattle.stage_options.specs.TreeShown.{specs_view};
-ghost use Rattle.stage_options.specs.Typed.{is_kind_built};
 ghost use Rattle.stage_options.specs.TypedTree.{is_stage_built, are_built, stage_fault, spec_of, specs_of, options_fault, typed_tree, IsToldFault};
 
 use crate::built::is_built;
@@ -57,8 +57,8 @@ fn copied(alloc: Global, list: &StageList) -> Result<StageList, AllocError>
 
 /// Stage i with its options typed, or its first fault: `OptionUnknown` with the least name, then `OptionMissing`, then
 /// `OptionValue`. `Memory` comes only where there was none.
-pub fn type_stage(alloc: Global, raw: &RawStage, i: u32) -> Result<StageSpec, PipeErr>
-    requires { IsTrue (is_kind_built raw.now.kind) }
+fn type_stage(alloc: Global, raw: &RawStage, i: u32) -> Result<StageSpec, PipeErr>
+    requires { IsTrue (is_stage_built (stage_view raw.now)) }
     ensures no_fault { OnOk result (stage_fault i (stage_view raw.now) ≡ None) }
     ensures ok { IfOk result (λ s. s ≡ spec_of (stage_view raw.now)) }
     ensures fault { IfErr result (IsFaultOf (stage_fault i (stage_view raw.now))) }
@@ -103,6 +103,7 @@ pub fn type_tree(alloc: Global, raw: &RawTree) -> Result<Tree, PipeErr>
     ensures ok { IfOk result (λ tree. typed_tree (tree_view raw.now) ≡ Ok (specs_view tree)) }
     ensures fault { IfErr result (IsToldFault (typed_tree (tree_view raw.now))) }
     ensures is_tree { IfOk result (λ tree. IsTree (shapes (specs_view tree))) }
+    ensures own { IfOk result (λ tree. HaveOwnOptions (specs_view tree)) }
     ensures chain { IfOk result (λ tree. IsChain (specs_view tree)) }
 {
     let specs = type_stages(alloc, raw.as_slice())?;

@@ -42,14 +42,14 @@ planned text = and_then (piped (tree_of text)) typed
 
 -- stages behind the reader of the LAS file
 abbrev from_las : List StageSpec → List StageSpec
-from_las later = record { kind = kind.ReadersLas; ins = []; options = ReadersLas (codes "in.las") } ∷ later
+from_las later = record { kind = kind.ReadersLas; ins = []; options = ReadersLas (record { filename = codes "in.las" }) } ∷ later
 
 -- a head, and a writer, behind the stage with this number
 abbrev head_after : ℕ → ℕ → StageSpec
-head_after i count = record { kind = kind.FiltersHead; ins = i ∷ []; options = FiltersHead count None }
+head_after i count = record { kind = kind.FiltersHead; ins = i ∷ []; options = FiltersHead (record { count = count }) }
 
 abbrev writer_after : ℕ → List ℕ → StageSpec
-writer_after i name = record { kind = kind.WritersText; ins = i ∷ []; options = WritersText name (codes "X,Y,Z") 3 (codes ",") true true None }
+writer_after i name = record { kind = kind.WritersText; ins = i ∷ []; options = WritersText (record { filename = name }) }
 
 chain_is : planned pipeline_text ≡ Ok (from_las (writer_after 0 (codes "o.txt") ∷ []))
 unfolding is_utf8 chars encode value punctuate lex content

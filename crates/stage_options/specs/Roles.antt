@@ -1,0 +1,33 @@
+-- What stages do with files.
+use Rattle.std.specs.Prelude.{ℕ, Bool, true, false, List, Option, Some, None}
+use Rattle.stage_options.specs.declared.options.Options.{Options}
+use Rattle.stage_options.specs.declared.options.Options.TheVariants.{ReadersLas, FiltersHead, WritersText}
+
+pub data Role : Type 0 where
+  Reads : List ℕ → Role  -- the file of this name
+  Filters : Role
+  Writes : List ℕ → Role  -- the file of this name
+
+-- what a stage with these options does: one row for each type
+abbrev pub role_of : Options → Role
+role_of (ReadersLas o) = Reads o.filename
+role_of (FiltersHead o) = Filters
+role_of (WritersText o) = Writes o.filename
+
+-- the file that is read
+abbrev pub source_of : Role → Option (List ℕ)
+source_of (Reads name) = Some name
+source_of _ = None
+
+-- the file that is written
+abbrev pub target_of : Role → Option (List ℕ)
+target_of (Writes name) = Some name
+target_of _ = None
+
+abbrev pub is_reading : Role → Bool
+is_reading (Reads name) = true
+is_reading _ = false
+
+abbrev pub is_writing : Role → Bool
+is_writing (Writes name) = true
+is_writing _ = false
