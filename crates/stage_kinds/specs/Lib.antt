@@ -1,4 +1,4 @@
 pub mod Stages
 pub mod Reads
 pub mod Keeps
-pub mod Finished
+pub mod Held

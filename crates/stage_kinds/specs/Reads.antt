@@ -11,7 +11,7 @@ use Rattle.las_reader.specs.Files.{Las, las_with}
 use Rattle.las_reader.specs.declared.reader.Progress.{Progress}
 use Rattle.las_reader.specs.declared.reader.Progress.TheVariants.{Records, ViewEnded, Ended}
 use Rattle.stage_kinds.specs.declared.kind.Kind.{Kind}
-use Rattle.stage_kinds.specs.declared.kind.Kind.TheVariants.{Reader, Head, Text}
+use Rattle.stage_kinds.specs.declared.kind.Kind.TheVariants.{Reader}
 
 -- the fault of a file as that of a stage, by the number of its first record that isn't whole
 abbrev pub fault_with : Option ℕ → Option StageFault
@@ -70,25 +70,20 @@ views_left (Ended cut) = 0
 module _ {S K : Type 0} where
   abbrev pub tells_of : (S → Option (List ℕ)) → Kind S K → Bool
   tells_of bytes (Reader r) = tells_at (bytes r.source) r.header r.progress
-  tells_of bytes (Head h) = false
-  tells_of bytes (Text w) = false
+  tells_of bytes _ = false
 
   abbrev pub told_of : (S → Option (List ℕ)) → Kind S K → List (Mark Point)
   told_of bytes (Reader r) = told_at (bytes r.source) r.header r.progress
-  told_of bytes (Head h) = []
-  told_of bytes (Text w) = []
+  told_of bytes _ = []
 
   abbrev pub told_fault_of : (S → Option (List ℕ)) → Kind S K → Option StageFault
   told_fault_of bytes (Reader r) = told_fault_at (bytes r.source) r.header r.progress
-  told_fault_of bytes (Head h) = None
-  told_fault_of bytes (Text w) = None
+  told_fault_of bytes _ = None
 
   abbrev pub points_left_of : Kind S K → ℕ
   points_left_of (Reader r) = points_left (points_in r.header) r.progress
-  points_left_of (Head h) = 0
-  points_left_of (Text w) = 0
+  points_left_of _ = 0
 
   abbrev pub views_left_of : Kind S K → ℕ
   views_left_of (Reader r) = views_left r.progress
-  views_left_of (Head h) = 0
-  views_left_of (Text w) = 0
+  views_left_of _ = 0

@@ -70,30 +70,12 @@ module _ {S K : Type 0} where
 
   abbrev pub is_reader : Kind S K → Bool
   is_reader (Reader r) = true
-  is_reader (Head h) = false
-  is_reader (Text w) = false
-
-  abbrev pub is_head : Kind S K → Bool
-  is_head (Reader r) = false
-  is_head (Head h) = true
-  is_head (Text w) = false
-
-  abbrev pub is_text : Kind S K → Bool
-  is_text (Reader r) = false
-  is_text (Head h) = false
-  is_text (Text w) = true
-
-  -- the faults of its device, by how often a source and a sink failed
-  abbrev pub faults_of : (S → ℕ) → (K → ℕ) → Kind S K → ℕ
-  faults_of source_faults sink_faults (Reader r) = source_faults r.source
-  faults_of source_faults sink_faults (Head h) = 0
-  faults_of source_faults sink_faults (Text w) = sink_faults w.sink
+  is_reader _ = false
 
   -- what its sink holds, by the bytes that a sink tells
   abbrev pub holds_of : (K → Option (List ℕ)) → Kind S K → List Point → Bool
-  holds_of bytes (Reader r) points = true
-  holds_of bytes (Head h) points = true
   holds_of bytes (Text w) points = holds_text (bytes w.sink) points
+  holds_of bytes _ points = true
 
 -- a work with one input, before its first mark
 abbrev pub fresh : StageState → Machine StageState StageFault

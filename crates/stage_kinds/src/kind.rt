@@ -1,6 +1,6 @@
 //! The works of the stages.
 
-use crate::Head;
+use crate::{Head, Held};
 use cloud_points::{Make, Spread, StageFault, Work};
 use file_devices::{Failed, Op, Sink, Source};
 use las_reader::LasReader;
@@ -32,7 +32,8 @@ pub enum Kind<S, K> {
 }
 
 impl<S: Source, K: Sink> Work for Kind<S, K> {
-    ghost use Rattle.stage_kinds.specs.Stages.{state_of, meaning_of, is_reader, faults_of, holds_of};
+    ghost use Rattle.stage_kinds.specs.Stages.{state_of, meaning_of, is_reader, holds_of};
+    ghost use Rattle.stage_kinds.specs.Held.{faults_of, op_of};
     ghost use Rattle.stage_kinds.specs.Reads.{tells_of, told_of, told_fault_of, points_left_of, views_left_of};
     ghost use Rattle.stage_kinds.specs.Keeps.{meaning_keeps};
     ghost use Rattle.std.specs.Prelude.{false};
@@ -48,6 +49,8 @@ impl<S: Source, K: Sink> Work for Kind<S, K> {
     ghost short = { λ _. false };
 
     ghost faults = { λ k. faults_of S.faults K.faults k };
+
+    ghost op = { λ k. op_of k };
 
     ghost tells = { λ k. tells_of S.bytes k };
 
@@ -106,22 +109,39 @@ impl<S: Source, K: Sink> Work for Kind<S, K> {
 }
 
 impl<S: Source, K: Sink> Kind<S, K> {
-    ghost use Rattle.std.specs.Prelude.{◌≡◌, true, OnErr};
+    ghost use Rattle.std.specs.Prelude.{◌≡◌, List, Some, true, OnErr};
+    ghost use Rattle.cloud_points.specs.declared.point.Point as point_type;
     ghost use Rattle.file_devices.specs.Counts.{HasCause};
-    ghost use Rattle.stage_kinds.specs.Finished.{IsFinished};
-    ghost use Rattle.stage_kinds.specs.Stages.{faults_of, is_text};
+    ghost use Rattle.file_devices.specs.Told.{IsAsTold};
+    ghost use Rattle.file_devices.specs.declared.devices.Op as op;
+    ghost use Rattle.stage_kinds.specs.Held.{held_by, op_of, faults_of, told_by};
+    ghost use Rattle.stage_kinds.specs.Stages.{holds_of};
 
-    /// Has a writer's sink write what it holds back; any other stage does nothing. What the sink tells stays.
+    /// Has a writer's sink write what it holds back; any other stage does nothing. What the sink tells stays, unless it stops
+    /// telling, and so does what it holds.
     ///
     /// It is `Failed` only at a writer, and only where its sink failed.
     pub fn finish(&mut self) -> Result<(), Failed>
-        ensures finished { IsFinished K.bytes self.old self.new }
-        ensures writer { OnErr result (is_text self.old ≡ true) }
+        ensures op { op_of self.new ≡ op_of self.old }
+        ensures told { IsAsTold (told_by K.bytes self.new) (told_by K.bytes self.old) }
+        ensures holds { (points : List point_type.Point) → holds_of K.bytes self.old points ≡ true → holds_of K.bytes self.new points ≡ true }
+        ensures writer { OnErr result (op_of self.old ≡ Some op.Op.Write) }
         ensures cause { HasCause (faults_of S.faults K.faults self.old) (faults_of S.faults K.faults self.new) result }
     {
         match self {
             Kind::Text(writer) => writer.finish(),
             Kind::Reader(_) | Kind::Head(_) => Ok(()),
+        }
+    }
+
+    /// The device that it holds, with the stage ended.
+    pub fn release(self) -> Held<S, K>
+        ensures { result ≡ held_by self }
+    {
+        match self {
+            Kind::Reader(reader) => Held::Source(reader.release()),
+            Kind::Head(_) => Held::Nothing,
+            Kind::Text(writer) => Held::Sink(writer.release()),
         }
     }
 }

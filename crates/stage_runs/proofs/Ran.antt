@@ -16,8 +16,9 @@ use Rattle.network_core.proofs.Opened.{some_at}
 use Rattle.network_solo.specs.Trees.{input_at, makes_of, fault_of, Streams, NoneCame, LeavesTell, EndsOver, IsRanTree}
 use Rattle.stage_kinds.specs.declared.kind.Kind.{Kind}
 use Rattle.stage_kinds.specs.Stages.{is_reader, holds_of}
+use Rattle.stage_options.specs.Roles.{is_reading}
 use Rattle.stage_options.specs.declared.stage.StageSpec.{StageSpec}
-use Rattle.answer_model.specs.Values.{Opened, IsDown, stage_at, row_at, stage_value, stage_input, stage_fault}
+use Rattle.answer_model.specs.Values.{Opened, IsDown, options_at, role_at, row_at, stage_value, stage_input, stage_fault}
 use Rattle.answer_model.specs.Rows as rows
 use Rattle.answer_model.proofs.Values.{value-input}
 use Rattle.stage_runs.specs.Works.{as_works, ins_of, AreNewStages, ReadersTell}
@@ -33,17 +34,17 @@ module _ {S K : Type 0} (s : source.Ghosts S) (k : sink.Ghosts K) (stages : List
     input-is : (i : ℕ) → input_at (ins_of stages) (stage_value stages opened) i ≡ stage_input stages opened i
     input-is i = ap (λ ins. join_all (map (stage_value stages opened) ins)) (children-are stages i)
 
-    leaf-at : (i : ℕ) (n : Node (Kind S K)) → slice_get old i ≡ Some n → is_reader n.work ≡ true → IsLeaf s ((stage_at stages i).options) (opened i) n.work
-    leaf-at i n e l = leaf-is s k.bytes ((stage_at stages i).options) opened i n.work (new.works i n e) l (λ r w. tell i n r e w)
+    leaf-at : (i : ℕ) (n : Node (Kind S K)) → slice_get old i ≡ Some n → is_reader n.work ≡ true → IsLeaf s (options_at stages i) (opened i) n.work
+    leaf-at i n e l = leaf-is s k.bytes (options_at stages i) opened i n.work (new.works i n e) l (λ r w. tell i n r e w)
 
-    inner-at : (i : ℕ) (n : Node (Kind S K)) → slice_get old i ≡ Some n → is_reader n.work ≡ false → IsInner ((stage_at stages i).options) n.work
-    inner-at i n e l = inner-is s k.bytes ((stage_at stages i).options) n.work (new.works i n e) l
+    inner-at : (i : ℕ) (n : Node (Kind S K)) → slice_get old i ≡ Some n → is_reader n.work ≡ false → IsInner (options_at stages i) n.work
+    inner-at i n e l = inner-is s k.bytes (options_at stages i) n.work (new.works i n e) l
 
     -- by whether it reads
-    value-leaf : (i : ℕ) → (row_at stages i).reads ≡ true → stage_value stages opened i ≡ las_flow (opened i)
+    value-leaf : (i : ℕ) → is_reading (role_at stages i) ≡ true → stage_value stages opened i ≡ las_flow (opened i)
     value-leaf i reads = value-input stages opened down i ∙ ap (λ b. cond b (las_flow (opened i)) (rows.value_on (row_at stages i) (stage_input stages opened i))) reads
 
-    value-inner : (i : ℕ) → (row_at stages i).reads ≡ false → stage_value stages opened i ≡ rows.value_on (row_at stages i) (stage_input stages opened i)
+    value-inner : (i : ℕ) → is_reading (role_at stages i) ≡ false → stage_value stages opened i ≡ rows.value_on (row_at stages i) (stage_input stages opened i)
     value-inner i reads = value-input stages opened down i ∙ ap (λ b. cond b (las_flow (opened i)) (rows.value_on (row_at stages i) (stage_input stages opened i))) reads
 
     pub streams : Streams (as_works s k) (ins_of stages) old (stage_value stages opened)
@@ -79,14 +80,14 @@ module _ {S K : Type 0} (s : source.Ghosts S) (k : sink.Ghosts K) (stages : List
           fault-is : m.fault ≡ option_map stage.Point (stage_fault stages opened i)
           fault-is = by_leaf (is_reader was.0.work) refl
 
-          holds-so : (row_at stages i).reads ≡ false → m.fault ≡ None → holds_of k.bytes m.work (points (stage_input stages opened i)) ≡ true
+          holds-so : is_reading (role_at stages i) ≡ false → m.fault ≡ None → holds_of k.bytes m.work (points (stage_input stages opened i)) ≡ true
           holds-so reads sound = by_kind (is_reader was.0.work) refl
             where
               by_kind : (b : Bool) → is_reader was.0.work ≡ b → holds_of k.bytes m.work (points (stage_input stages opened i)) ≡ true
               by_kind true l = absurd (true≢false (sym (leaf-at i was.0 was.1 l).reads ∙ reads))
               by_kind false l =
                   ap (λ flow. holds_of k.bytes m.work (points flow)) (sym (input-is i))
-                  ∙ (over.took i was.0 m was.1 f l).holds sound (holds-nothing s k.bytes ((stage_at stages i).options) was.0.work (new.works i was.0 was.1) l)
+                  ∙ (over.took i was.0 m was.1 f l).holds sound (holds-nothing s k.bytes (options_at stages i) was.0.work (new.works i was.0 was.1) l)
 
   pub ran-stages : (now : List (Node (Kind S K))) → IsDown stages → IsRanTree (as_works s k) (ins_of stages) old now → AreRanStages s k stages old now
   ran-stages now down ran = record { tree = ran; ends = λ quiet opened tell i m f. ends-as down opened tell now ran quiet i m f }

@@ -1,5 +1,7 @@
 -- The works of a tree's stages.
-use Rattle.std.specs.Prelude.{◌≡◌, ℕ, true, false, List, [], length, map, slice_get, Option, Some}
+use Rattle.std.specs.Prelude.{◌≡◌, ℕ, true, false, List, [], length, map, slice_get, Option, Some, None}
+use Rattle.file_devices.specs.declared.devices.Op.{Op}
+use Rattle.file_devices.specs.declared.devices.Op.TheVariants.{Read, Write}
 use Rattle.file_devices.specs.declared.devices.Source as source
 use Rattle.file_devices.specs.declared.devices.Sink as sink
 use Rattle.cloud_points.specs.declared.work.Work.{Ghosts}
@@ -10,15 +12,17 @@ use Rattle.text_writer.specs.TextOutput.{holds_text}
 use Rattle.stage_kinds.specs.declared.kind.Kind.{Kind}
 use Rattle.stage_kinds.specs.declared.kind.Kind.TheVariants.{Reader, Head, Text}
 use Rattle.stage_kinds.specs.declared.kind.StageState.{StageState}
-use Rattle.stage_kinds.specs.Stages.{state_of, meaning_of, is_reader, faults_of, holds_of}
+use Rattle.stage_kinds.specs.Held.{op_of, faults_of}
+use Rattle.stage_kinds.specs.Stages.{state_of, meaning_of, is_reader, holds_of}
 use Rattle.stage_kinds.specs.Reads.{tells_of, told_of, told_fault_of, points_left_of, views_left_of}
+use Rattle.stage_options.specs.Roles.{Role, Reads, Filters, Writes}
 use Rattle.stage_options.specs.declared.options.Options.{Options}
 use Rattle.stage_options.specs.declared.options.Options.TheVariants.{ReadersLas, FiltersHead, WritersText}
 use Rattle.stage_options.specs.declared.stage.StageSpec.{StageSpec}
 use Rattle.network_theory.specs.Opening.{IsFresh}
 use Rattle.network_core.specs.declared.node.Node.{Node}
 use Rattle.network_core.specs.Shown.{shown, work_of}
-use Rattle.answer_model.specs.Values.{Opened, stage_at}
+use Rattle.answer_model.specs.Values.{Opened, stage_at, options_at}
 
 -- what the stages are as works, by what their sources and sinks tell
 abbrev pub as_works : {S K : Type 0} → source.Ghosts S → sink.Ghosts K → Ghosts (Kind S K) StageState
@@ -28,6 +32,7 @@ as_works source sink = record {
   leaf = λ k. is_reader k;
   short = λ k. false;
   faults = λ k. faults_of source.faults sink.faults k;
+  op = λ k. op_of k;
   tells = λ k. tells_of source.bytes k;
   told = λ k. told_of source.bytes k;
   told_fault = λ k. told_fault_of source.bytes k;
@@ -38,11 +43,16 @@ as_works source sink = record {
 
 -- a work does what a stage with these options does, and had no turn yet; `bytes` is what a sink tells
 abbrev pub IsAtStart : {S K : Type 0} → (K → Option (List ℕ)) → Options → Kind S K → Type 0
-IsAtStart bytes (ReadersLas filename) (Reader r) = r.progress ≡ Records 0
-IsAtStart bytes (FiltersHead count only) (Head h) = h ≡ record { limit = count; left = count }
-IsAtStart bytes (WritersText filename order precision delimiter quote_header write_header only) (Text w) =
-    holds_text (bytes w.sink) [] ≡ true
+IsAtStart bytes (ReadersLas o) (Reader r) = r.progress ≡ Records 0
+IsAtStart bytes (FiltersHead o) (Head h) = h ≡ record { limit = o.count; left = o.count }
+IsAtStart bytes (WritersText o) (Text w) = holds_text (bytes w.sink) [] ≡ true
 IsAtStart bytes _ _ = ⊥
+
+-- what a stage that does this does with its device while the stages take turns
+abbrev pub op_for : Role → Option Op
+op_for (Reads name) = Some Read
+op_for Filters = None
+op_for (Writes name) = Some Write
 
 -- the numbers of the stages that each stage takes
 abbrev pub ins_of : List StageSpec → List (List ℕ)
@@ -52,7 +62,7 @@ ins_of stages = map (λ s. s.ins) stages
 pub record AreNewStages {S K : Type 0} (s : source.Ghosts S) (k : sink.Ghosts K) (stages : List StageSpec) (nodes : List (Node (Kind S K))) : Type 0 where
   pub count : length nodes ≡ length stages
   pub fresh : (i : ℕ) (n : Node (Kind S K)) → slice_get nodes i ≡ Some n → IsFresh (shown (as_works s k) ((stage_at stages i).ins) n)
-  pub works : (i : ℕ) (n : Node (Kind S K)) → slice_get nodes i ≡ Some n → IsAtStart k.bytes (stage_at stages i).options (work_of n)
+  pub works : (i : ℕ) (n : Node (Kind S K)) → slice_get nodes i ≡ Some n → IsAtStart k.bytes (options_at stages i) (work_of n)
 
 -- a reader's source tells a file that holds this
 pub record Tells {S : Type 0} (s : source.Ghosts S) (opened : Opened) (i : ℕ) (r : LasReader S) : Type 0 where

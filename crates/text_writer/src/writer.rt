@@ -58,11 +58,12 @@ impl<K: Sink> TextWriter<K> {
         put_points(points, &mut self.sink)
     }
 
-    /// Has the sink write what it holds back, by appending nothing. What it tells stays.
+    /// Has the sink write what it holds back, by appending nothing. What it tells stays, unless it stops telling.
     ///
     /// It is `Failed` only where the sink failed.
     pub fn finish(&mut self) -> Result<(), Failed>
         ensures same { IsAsTold (K.bytes self.new.sink) (K.bytes self.old.sink) }
+        ensures holds { (points : List Point) → holds_text (K.bytes self.old.sink) points ≡ true → holds_text (K.bytes self.new.sink) points ≡ true }
         ensures cause { HasCause (K.faults self.old.sink) (K.faults self.new.sink) result }
     {
         self.sink.append(&[])

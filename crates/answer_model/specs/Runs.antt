@@ -1,0 +1,88 @@
+-- What the run of a tree comes to, over the map of the files: its readers' files are opened in the order of the stages, and then
+-- the stages are evaluated.
+use Rattle.std.specs.Prelude.{◌≡◌, ℕ, ◌<◌, List, [], ◌∷◌, length, Option, Some, None, Result, Ok, Err}
+use Rattle.file_devices.specs.Named.{Names, put}
+use Rattle.file_devices.specs.declared.devices.Op.TheVariants.{Open}
+use Rattle.cloud_points.specs.declared.faults.PointFault.{PointFault}
+use Rattle.las_reader.specs.Frames.{LasFault, In_header, In_list}
+use Rattle.las_reader.specs.Files.{Las, las_of}
+use Rattle.stage_options.specs.Roles.{Role, Reads}
+use Rattle.stage_options.specs.declared.stage.StageSpec.{StageSpec}
+use Rattle.run_report.specs.declared.refusal.Place.{Place}
+use Rattle.run_report.specs.declared.refusal.Place.TheVariants.{Stage}
+use Rattle.run_report.specs.declared.refusal.Fault.TheVariants as fault
+use Rattle.run_report.specs.declared.refusal.Refusal.{Refusal}
+use Rattle.run_report.specs.declared.refusal.Refusal.TheVariants.{Data, Device}
+use Rattle.run_report.specs.Reports.{report_of}
+use Rattle.answer_model.specs.Steps.{and_then, why}
+use Rattle.answer_model.specs.Values.{Opened, Output, Ended, role_at, least_from, evaluated}
+
+-- the files that a run keeps, in the order of their stages, and what it reports
+pub record Run : Type 0 where
+  pub outputs : List Output
+  pub report : List ℕ
+
+-- the map with these outputs put under their names
+abbrev pub put_all : Names → List Output → Names
+put_all m [] = m
+put_all m (output ∷ outputs) = put_all (put m output.name output.bytes) outputs
+
+-- ---- what is opened
+
+-- a file of the map
+abbrev pub file_at : Option (List ℕ) → Place → Result (List ℕ) Refusal
+file_at None place = Err (Device place Open)
+file_at (Some bytes) place = Ok bytes
+
+-- what a file holds that stage i reads
+abbrev pub las_read : ℕ → Result Las LasFault → Result Las Refusal
+las_read i (Ok las) = Ok las
+las_read i (Err (In_header f)) = Err (Data i (fault.Header f))
+las_read i (Err (In_list f)) = Err (Data i (fault.Vlr f))
+
+-- the same of a file that may be there
+abbrev pub las_at : ℕ → Option (List ℕ) → Result Las Refusal
+las_at i file = and_then (file_at file (Stage i)) (λ bytes. las_read i (las_of bytes))
+
+-- why the file of stage i, which does this, can't be read; only a reader has one
+abbrev pub unread : Names → ℕ → Role → Option Refusal
+unread m i (Reads name) = why (las_at i (m name))
+unread m i _ = None
+
+abbrev pub unread_at : Names → List StageSpec → ℕ → Option Refusal
+unread_at m stages i = unread m i (role_at stages i)
+
+-- a file without points
+abbrev pub no_las : Las
+no_las = record { points = []; cut = None }
+
+-- what was read, or nothing
+abbrev pub las_or : Result Las Refusal → Las
+las_or (Ok las) = las
+las_or (Err r) = no_las
+
+abbrev pub holds : Names → ℕ → Role → Las
+holds m i (Reads name) = las_or (las_at i (m name))
+holds m i _ = no_las
+
+-- what the readers' files hold
+abbrev pub opened_in : Names → List StageSpec → Opened
+opened_in m stages i = holds m i (role_at stages i)
+
+-- the files of the first so many stages can be read
+abbrev pub AreRead : Names → List StageSpec → ℕ → Type 0
+AreRead m stages count = (i : ℕ) → i < count → unread_at m stages i ≡ None
+
+-- ---- the run
+
+abbrev pub run_with : Result Ended (ℕ × PointFault) → Result Run Refusal
+run_with (Ok ended) = Ok (record { outputs = ended.outputs; report = report_of ended.counts })
+run_with (Err f) = Err (Data f.0 (fault.Point f.1))
+
+abbrev pub unless_unread : Option (ℕ × Refusal) → Result Run Refusal → Result Run Refusal
+unless_unread None run = run
+unless_unread (Some r) run = Err r.1
+
+-- what the run of a tree comes to: the refusal of the first stage whose file can't be read, or else what its stages come to
+abbrev pub run_of : Names → List StageSpec → Result Run Refusal
+run_of m stages = unless_unread (least_from (unread_at m stages) (length stages) 0) (run_with (evaluated stages (opened_in m stages)))
