@@ -1,12 +1,3 @@
-pub mod Faultless
-pub mod Closing
-pub mod Causes
-pub mod Behaving
-pub mod Behind
-pub mod Ended
-pub mod Lined
-pub mod Kept
-pub mod Ran
-pub mod Finishing
-pub mod Linked
-pub mod RanChain
+pub mod Lists
+pub mod Releasing
+pub mod NewNodes

@@ -1,10 +1,5 @@
-pub mod Chains
-pub mod Refusals
-pub mod Runs
 pub mod Cause
-pub mod Works
+pub mod Begun
+pub mod Turns
 pub mod Outcomes
-pub mod Opened
-pub mod Finishing
-pub mod Linked
-pub mod RanChain
+pub mod Keeping

@@ -1,72 +1,61 @@
 -- What the nodes of a run came to.
-use Rattle.std.specs.Prelude.{◌≡◌, ℕ, ◌+◌, ◌<◌, ◌==◌, true, false, cond, List, [], ◌∷◌, length, Option, Some, None, slice_get}
+use Rattle.std.specs.Prelude.{◌≡◌, ℕ, ◌<◌, false, List, length, Option, Some, None, slice_get, option_map, ⊤}
 use Rattle.file_devices.specs.declared.devices.Op.{Op}
-use Rattle.file_devices.specs.declared.devices.Op.TheVariants.{Read, Write}
 use Rattle.cloud_points.specs.declared.faults.PointFault.{PointFault}
 use Rattle.cloud_points.specs.declared.faults.StageFault.{StageFault}
 use Rattle.cloud_points.specs.declared.faults.StageFault.TheVariants as stage
-use Rattle.cloud_points.specs.Events.{is_device}
 use Rattle.cloud_points.specs.Queue.{up_to_limit}
 use Rattle.network_core.specs.declared.node.Node.{Node}
+use Rattle.stage_options.specs.Roles.{role_of, target_of}
 use Rattle.stage_options.specs.declared.stage.StageSpec.{StageSpec}
-use Rattle.run_engine.specs.Chains.{writes}
 use Rattle.run_report.specs.declared.report.StageCount.{StageCount}
-use Rattle.run_report.specs.declared.refusal.Place.TheVariants.{PipelineFile, Stage, Out}
-use Rattle.run_report.specs.declared.refusal.Fault.TheVariants.{Header, Vlr, Point}
+use Rattle.run_report.specs.declared.refusal.Place.TheVariants.{Stage}
+use Rattle.run_report.specs.declared.refusal.Fault.TheVariants.{Point}
 use Rattle.run_report.specs.declared.refusal.Refusal.{Refusal}
-use Rattle.run_report.specs.declared.refusal.Refusal.TheVariants.{Usage, Pipeline, Data, Device, Memory, NotBuilt}
+use Rattle.run_report.specs.declared.refusal.Refusal.TheVariants.{Data, Device}
 
--- no device failed at one of the first so many nodes, and one did at this node
-abbrev pub NoDevice : {W : Type 0} → List (Node W) → ℕ → Type 0
-NoDevice {W} nodes count = (k : ℕ) (n : Node W) → k < count → slice_get nodes k ≡ Some n → is_device n.fault ≡ false
-
-abbrev pub DeviceAt : {W : Type 0} → List (Node W) → ℕ → Type 0
-DeviceAt {W} nodes i = (i < length nodes) × ((n : Node W) → slice_get nodes i ≡ Some n → is_device n.fault ≡ true)
+-- the operation in which a device failed, and the fault of a point
+abbrev pub device_op : Option StageFault → Option Op
+device_op (Some (stage.Device o)) = Some o
+device_op _ = None
 
 abbrev pub point_fault : Option StageFault → Option PointFault
-point_fault None = None
 point_fault (Some (stage.Point f)) = Some f
-point_fault (Some (stage.Device o)) = None
+point_fault _ = None
 
--- none of the first so many nodes has a fault in its points, and this node has this one
-abbrev pub NoPointFault : {W : Type 0} → List (Node W) → ℕ → Type 0
-NoPointFault {W} nodes count = (k : ℕ) (n : Node W) → k < count → slice_get nodes k ≡ Some n → point_fault n.fault ≡ None
+-- none of the first so many nodes has one of these; this node has one
+abbrev pub NoneHas : {W A : Type 0} → (Option StageFault → Option A) → List (Node W) → ℕ → Type 0
+NoneHas {W} f nodes count = (k : ℕ) (n : Node W) → k < count → slice_get nodes k ≡ Some n → f n.fault ≡ None
 
-abbrev pub PointFaultAt : {W : Type 0} → List (Node W) → ℕ → PointFault → Type 0
-PointFaultAt {W} nodes i f = (i < length nodes) × ((n : Node W) → slice_get nodes i ≡ Some n → n.fault ≡ Some (stage.Point f))
+pub record Has {W A : Type 0} (f : Option StageFault → Option A) (nodes : List (Node W)) (i : ℕ) (a : A) : Type 0 where
+  pub node : Node W
+  pub at : slice_get nodes i ≡ Some node
+  pub is : f node.fault ≡ Some a
+
+-- it is the first that has one
+pub record HasFirst {W A : Type 0} (f : Option StageFault → Option A) (nodes : List (Node W)) (i : ℕ) (a : A) : Type 0 where
+  pub here : Has f nodes i a
+  pub least : NoneHas f nodes i
 
 abbrev pub NoFault : {W : Type 0} → List (Node W) → Type 0
 NoFault {W} nodes = (k : ℕ) (n : Node W) → slice_get nodes k ≡ Some n → n.fault ≡ None
 
 -- what a stage's node gave on
-abbrev pub count_at : {W : Type 0} → ℕ → StageSpec → Node W → StageCount
-count_at i s n = record {
+abbrev pub node_count : {W : Type 0} → ℕ → StageSpec → Node W → StageCount
+node_count i s n = record {
   stage = i;
   kind = s.kind;
   views = up_to_limit n.views;
   points = up_to_limit n.points;
-  wrote = cond (writes s.options) (Some (up_to_limit n.points)) None;
+  wrote = option_map (λ name. up_to_limit n.points) (target_of (role_of s.options));
 }
 
--- what the nodes of these stages gave on; the first has this number
-abbrev pub counted_from : {W : Type 0} → ℕ → List StageSpec → List (Node W) → List StageCount
-counted_from i [] nodes = []
-counted_from i (s ∷ later) [] = []
-counted_from i (s ∷ later) (n ∷ nodes) = count_at i s n ∷ counted_from (i + 1) later nodes
+-- what the nodes of these stages gave on, as many as are counted
+abbrev pub AreCounted : {W : Type 0} → List StageSpec → List (Node W) → List StageCount → Type 0
+AreCounted {W} stages nodes counts = (i : ℕ) (s : StageSpec) (n : Node W) → i < length counts → slice_get stages i ≡ Some s → slice_get nodes i ≡ Some n → slice_get counts i ≡ Some (node_count i s n)
 
--- the operation that a stage's device does in turns: the first stage reads, the others write
-abbrev pub op_at : ℕ → Op
-op_at stage = cond (stage == 0) Read Write
-
--- why a run has no outcome: this is the first node whose device failed, or none did and this is the first whose points have a fault
+-- why a run has no outcome: a device failed, at this stage first; or none did, and this is the first whose points have a fault
 abbrev pub IsOutcome : {W : Type 0} → List (Node W) → Refusal → Type 0
-IsOutcome nodes Memory = ⊥
-IsOutcome nodes (NotBuilt r) = ⊥
-IsOutcome nodes (Usage k) = ⊥
-IsOutcome nodes (Pipeline f) = ⊥
-IsOutcome nodes (Data i (Header f)) = ⊥
-IsOutcome nodes (Data i (Vlr f)) = ⊥
-IsOutcome nodes (Data i (Point f)) = NoDevice nodes (length nodes) × PointFaultAt nodes i f × NoPointFault nodes i
-IsOutcome nodes (Device PipelineFile o) = ⊥
-IsOutcome nodes (Device Out o) = ⊥
-IsOutcome nodes (Device (Stage i) o) = DeviceAt nodes i × NoDevice nodes i × (o ≡ op_at i)
+IsOutcome nodes (Device (Stage i) o) = HasFirst device_op nodes i o
+IsOutcome nodes (Data i (Point f)) = NoneHas device_op nodes (length nodes) × HasFirst point_fault nodes i f
+IsOutcome nodes refusal = ⊥

@@ -1,12 +1,13 @@
 //! Runs pipelines: opens their files, lets their stages take turns, and keeps their outputs.
 #![tactic(auto)]
 
-mod chain;
-mod close;
+mod begin;
 mod finish;
-mod line;
+mod keep;
+mod nodes;
 mod open;
 mod outcome;
+mod release;
 mod run;
 mod shape;
 mod turns;

@@ -1,44 +1,39 @@
-//! The files of a chain are opened.
+//! The files of a tree's readers are opened.
 
-ghost use Rattle.std.specs.Prelude.{◌≡◌, ◌≤◌, ◌+◌, [], true, Some, None, Ok, IfOk, IfErr, OnOk, OnErr, ⊤};
+ghost use Rattle.std.specs.Prelude.{◌≡◌, ◌≤◌, ◌+◌, ◌<◌, [], ℕ, length, vec_capacity, None, IfOk, IfErr, OnOk, OnErr};
 ghost use Rattle.file_devices.specs.Counts.{Rose};
-ghost use Rattle.file_devices.specs.Named.{Names};
-ghost use Rattle.las_reader.specs.declared.reader.Progress.TheVariants.{Records};
-ghost use Rattle.text_writer.specs.TextOutput.{holds_text};
-ghost use Rattle.run_engine.specs.Runs.{las_at};
-ghost use Rattle.run_engine.specs.Cause.{Because, Blamed, OnlyBlamed, IsInside, AtOpening, AtNewFile};
-ghost use Rattle.run_engine.specs.Opened.{IsReading, opening_refusal};
+ghost use Rattle.stage_options.specs.Roles.{Reads, role_of};
+ghost use Rattle.run_engine.specs.Begun.{IsReading, IsOpened, AreOpened, there, all_there};
+ghost use Rattle.run_engine.specs.Cause.{IsCause, IsUnopened, opening_refusal};
 
+use crate::release::give_back;
 use file_devices::{DeviceErr, Files, Op};
 use las_reader::{LasReader, OpenErr};
 use run_report::{Fault, Place, Refusal};
+use stage_options::{Role, StageSpec};
 use std::alloc::Global;
-use text_writer::TextWriter;
 
-/// The refusal of a run whose reader can't be opened.
-fn opening_refusal(e: OpenErr) -> Refusal
-    ensures { result ≡ opening_refusal e }
+/// The refusal of a run whose reader, the stage with this number, can't be opened.
+fn opening_refusal(stage: u32, e: OpenErr) -> Refusal
+    ensures { result ≡ opening_refusal stage e }
 {
     match e {
-        OpenErr::Header(fault) => Refusal::Data(0, Fault::Header(fault)),
-        OpenErr::Vlr(fault) => Refusal::Data(0, Fault::Vlr(fault)),
-        OpenErr::ReadFailed => Refusal::Device(Place::Stage(0), Op::Read),
+        OpenErr::Header(fault) => Refusal::Data(stage, Fault::Header(fault)),
+        OpenErr::Vlr(fault) => Refusal::Data(stage, Fault::Vlr(fault)),
+        OpenErr::ReadFailed => Refusal::Device(Place::Stage(stage), Op::Read),
         OpenErr::Memory => Refusal::Memory,
     }
 }
 
-/// Opens a reader on a LAS file. Where it can't be opened, its source is given back.
-pub(crate) fn open_reader<F: Files>(
+/// Opens the LAS file of a reader, the stage with this number. Where it can't be opened, its source is given back.
+fn open_reader<F: Files>(
     alloc: Global,
     files: &mut F,
     name: &str,
+    stage: u32,
 ) -> Result<LasReader<F::In>, Refusal>
-    ensures ok { IfOk result (λ r. (m : Names) → F.map files.old ≡ Some m → IsReading (F.In.bytes r.source) r.header (las_at (m name.now))) }
-    ensures start { IfOk result (λ r. r.progress ≡ Records 0) }
-    ensures err { IfErr result (λ refusal. (m : Names) → F.map files.old ≡ Some m
-        → Because (las_at (m name.now)) (AtOpening (Rose (F.faults files.old) (F.faults files.new))) refusal) }
-    ensures inside { IfErr result IsInside }
-    ensures risen { IfErr result (λ refusal. F.map files.old ≡ None → Blamed (AtOpening (Rose (F.faults files.old) (F.faults files.new))) refusal) }
+    ensures ok { IfOk result (IsReading F.In.Source (F.map files.old) stage (Reads name.now)) }
+    ensures err { IfErr result (IsUnopened (Rose (F.faults files.old) (F.faults files.new)) (F.map files.old) stage (Reads name.now)) }
     ensures map { F.map files.new ≡ F.map files.old }
     ensures lent_ok { OnOk result (F.lent files.new ≡ F.lent files.old + 1) }
     ensures lent_err { OnErr result (F.lent files.new ≡ F.lent files.old) }
@@ -47,41 +42,65 @@ pub(crate) fn open_reader<F: Files>(
     let source = match files.open_in(name) {
         Ok(source) => source,
         Err(DeviceErr::Memory) => return Err(Refusal::Memory),
-        Err(_) => return Err(Refusal::Device(Place::Stage(0), Op::Open)),
+        Err(_) => return Err(Refusal::Device(Place::Stage(stage), Op::Open)),
     };
     match LasReader::begin(alloc, source) {
         Ok(reader) => Ok(reader),
         Err((source, e)) => {
             files.done_in(source);
-            Err(opening_refusal(e))
+            Err(opening_refusal(stage, e))
         }
     }
 }
 
-/// Opens a text writer, the stage with this number, on a new file, and puts the names of the columns. Where the file can't be
-/// created or written, it is given back.
-pub(crate) fn open_writer<F: Files>(
+/// Opens the file of a stage, if it reads one.
+fn open_stage<F: Files>(
+    alloc: Global,
     files: &mut F,
-    name: &str,
-    stage: u32,
-) -> Result<TextWriter<F::Out>, Refusal>
-    ensures holds { IfOk result (λ w. holds_text (F.Out.bytes w.sink) [] ≡ true) }
-    ensures err { IfErr result (OnlyBlamed (AtNewFile (Rose (F.faults files.old) (F.faults files.new)) true stage)) }
+    stage: &StageSpec,
+    number: u32,
+) -> Result<Option<LasReader<F::In>>, Refusal>
+    ensures ok { IfOk result (IsOpened F.In.Source (F.map files.old) number (role_of stage.now.options)) }
+    ensures err { IfErr result (IsUnopened (Rose (F.faults files.old) (F.faults files.new)) (F.map files.old) number (role_of stage.now.options)) }
     ensures map { F.map files.new ≡ F.map files.old }
-    ensures lent_ok { OnOk result (F.lent files.new ≡ F.lent files.old + 1) }
+    ensures lent_ok { IfOk result (λ reader. F.lent files.new ≡ F.lent files.old + there reader) }
     ensures lent_err { OnErr result (F.lent files.new ≡ F.lent files.old) }
     ensures later { F.faults files.old ≤ F.faults files.new }
 {
-    let sink = match files.create(name) {
-        Ok(sink) => sink,
-        Err(DeviceErr::Memory) => return Err(Refusal::Memory),
-        Err(_) => return Err(Refusal::Device(Place::Stage(stage), Op::Create)),
+    match stage.options.role() {
+        Role::Reads(name) => Ok(Some(open_reader(alloc, files, name, number)?)),
+        Role::Filters | Role::Writes(_) => Ok(None),
+    }
+}
+
+/// Opens the files of a tree's readers in the order of the stages, each with its header and its lists before the next; the
+/// first one that can't be opened is the last one that is tried. It answers a place for each stage, in which a reader stands
+/// where the stage reads. Where one can't be opened, all are given back.
+pub(crate) fn open_readers<F: Files>(
+    alloc: Global,
+    files: &mut F,
+    stages: &[StageSpec],
+) -> Result<Vec<Option<LasReader<F::In>>>, Refusal>
+    requires few { length stages.now ≤ 64 }
+    ensures ok { IfOk result (λ readers. AreOpened F.In.Source (F.map files.old) stages.now readers.items) }
+    ensures count { IfOk result (λ readers. length readers.items ≡ length stages.now) }
+    ensures err { IfErr result (IsCause (Rose (F.faults files.old) (F.faults files.new)) (F.map files.old) stages.now) }
+    ensures map { F.map files.new ≡ F.map files.old }
+    ensures lent_ok { IfOk result (λ readers. F.lent files.new ≡ F.lent files.old + all_there readers.items) }
+    ensures lent_err { OnErr result (F.lent files.new ≡ F.lent files.old) }
+    ensures later { F.faults files.old ≤ F.faults files.new }
+{
+    let Ok(mut readers) = Vec::with_capacity(alloc, stages.len()) else {
+        return Err(Refusal::Memory);
     };
-    match TextWriter::begin(sink) {
-        Ok(writer) => Ok(writer),
-        Err((sink, _)) => {
-            files.done_out(sink);
-            Err(Refusal::Device(Place::Stage(stage), Op::Write))
+    for i in 0..stages.len() {
+        match open_stage(alloc, files, &stages[i], i as u32) {
+            Ok(reader) => readers.push_reserved(reader),
+            Err(refusal) => {
+                give_back(files, readers);
+                return Err(refusal);
+            }
         }
     }
+    Ok(readers)
 }

@@ -1,41 +1,31 @@
-//! The run of a chain: the points of a LAS file go through its stages.
+//! The run of a tree: the points of LAS files go through its stages.
 
-ghost use Rattle.std.specs.Prelude.{◌≡◌, ◌≤◌, ℕ, length, Some, None, IsOk, IsOkAnd, IfOk, IfErr};
+ghost use Rattle.std.specs.Prelude.{◌≡◌, ◌≤◌, ℕ, Some, IsOkAnd, IfOk, IfErr};
 ghost use Rattle.file_devices.specs.Counts.{Rose};
 ghost use Rattle.file_devices.specs.Named.{Names};
-ghost use Rattle.stage_options.specs.Chained.{IsChain};
-ghost use Rattle.run_engine.specs.Runs.{las_at, run_of, source_of};
-ghost use Rattle.run_engine.specs.Cause.{Because, Risen, IsInside, AtReader, AtWriter, AtStages, IsRun, IsLeft};
+ghost use Rattle.pipeline_json.specs.Trees.{IsTree};
+ghost use Rattle.stage_options.specs.Kinds.{HaveOwnOptions};
+ghost use Rattle.stage_options.specs.Shapes.{shapes};
+ghost use Rattle.answer_model.specs.Runs.{run_of};
+ghost use Rattle.run_engine.specs.Cause.{IsCause, IsRun, IsLeft};
 
-use crate::close::close;
-use crate::finish::{Ran, works_in};
-use crate::line::line_up;
-use crate::open::open_reader;
+use crate::begin::begin_works;
+use crate::finish::Ran;
+use crate::keep::keep_works;
+use crate::open::open_readers;
+use crate::release::release_works;
 use crate::shape::Shape;
 use crate::turns::take_turns;
 use file_devices::Files;
 use run_report::{Refusal, Report};
-use stage_options::{Options, StageSpec};
+use stage_options::StageSpec;
 use std::alloc::Global;
 
-/// The file that a chain's reader reads.
-fn source_of(stages: &[StageSpec]) -> &str
-    ensures { result.now ≡ source_of stages.now }
-{
-    match stages {
-        [first, ..] => match &first.options {
-            Options::ReadersLas { filename } => filename.as_str(),
-            _ => "",
-        },
-        [] => "",
-    }
-}
-
-/// Runs the stages of a pipeline, each of which takes the one before it: lets the points of the first one's LAS file go through
-/// the others, keeps the files of the writers in the order of the stages, and answers what each stage gave on. Every object
-/// that was handed out is given back.
+/// Runs the stages of a tree: opens the readers' files and then creates those of the writers, both in the order of the stages,
+/// lets the points go through, keeps the files of the writers in the order of the stages, and answers what each stage gave on.
+/// Every object that was handed out is given back.
 ///
-/// `Data` comes only where the file has that fault, `Device` only where the named device failed or the file to read isn't
+/// `Data` comes only where the files have that fault, `Device` only where the named device failed or the file to read isn't
 /// there, and `Memory` where there was none. After a refusal the files are as before; only where the keeping of a file
 /// failed or found no memory are those of the writers before it kept, and that one may be.
 pub fn run_pipeline<F: Files>(
@@ -44,40 +34,26 @@ pub fn run_pipeline<F: Files>(
     stages: &[StageSpec],
     shape: Shape,
 ) -> Result<Report, Refusal>
-    requires chain { IsChain stages.now }
-    requires few { length stages.now ≤ 64 }
+    requires tree { IsTree (shapes stages.now) }
+    requires own { HaveOwnOptions stages.now }
     ensures ok { IfOk result (λ report. (m : Names) → F.map files.old ≡ Some m
         → IsOkAnd (run_of m stages.now) (IsRun (F.map files.old) (F.map files.new) report.items)) }
-    ensures err { IfErr result (λ refusal. (m : Names) → F.map files.old ≡ Some m → Because (run_of m stages.now)
-        (AtStages (AtReader (Rose (F.faults files.old) (F.faults files.new)))
-        (AtWriter (Rose (F.faults files.old) (F.faults files.new)) (IsOk (las_at (m (source_of stages.now)))) (IsOk (run_of m stages.now)))
-        stages.now) refusal) }
-    ensures inside { IfErr result IsInside }
-    ensures risen { IfErr result (λ refusal. F.map files.old ≡ None → Risen (Rose (F.faults files.old) (F.faults files.new)) ⊥ refusal) }
+    ensures err { IfErr result (IsCause (Rose (F.faults files.old) (F.faults files.new)) (F.map files.old) stages.now) }
     ensures left { IfErr result (λ refusal. (m : Names) → F.map files.old ≡ Some m → IsLeft refusal (F.map files.old) (F.map files.new) (run_of m stages.now)) }
     ensures lent { F.lent files.new ≡ F.lent files.old }
     ensures later { F.faults files.old ≤ F.faults files.new }
 {
-    let Ok(nodes) = Vec::with_capacity(alloc, stages.len()) else {
-        return Err(Refusal::Memory);
-    };
-    let Ok(works) = Vec::with_capacity(alloc, stages.len()) else {
-        nodes.destroy_empty();
-        return Err(Refusal::Memory);
-    };
-    let reader = match open_reader(alloc, files, source_of(stages)) {
-        Ok(reader) => reader,
+    let readers = open_readers(alloc, files, stages)?;
+    let works = begin_works(alloc, files, readers, stages)?;
+    let Ran { works, outcome } = take_turns(alloc, works, stages, shape);
+    match outcome {
+        Ok(report) => {
+            keep_works(files, works, stages)?;
+            Ok(report)
+        }
         Err(refusal) => {
-            nodes.destroy_empty();
-            works.destroy_empty();
-            return Err(refusal);
+            release_works(files, works);
+            Err(refusal)
         }
-    };
-    match line_up(files, nodes, reader, stages, shape.chunk()) {
-        Ok(nodes) => {
-            let Ran { works, outcome } = take_turns(alloc, nodes, works, stages, shape.queue());
-            close(files, works, stages, outcome)
-        }
-        Err((nodes, refusal)) => close(files, works_in(nodes, works), stages, Err(refusal)),
     }
 }

@@ -1,95 +1,95 @@
-//! Stages that take turns until all are done.
+//! The stages of a tree take turns until all are done.
 
-ghost use Rattle.std.specs.Prelude.{◌≡◌, ◌≤◌, ◌<◌, List, [], ℕ, length, vec_capacity, Some, Ok, IfOk, IfErr};
-ghost use Rattle.las_reader.specs.Files.{las_with};
-ghost use Rattle.las_reader.specs.declared.reader.LasReader as reader_type;
-ghost use Rattle.las_reader.specs.Flows.{las_flow};
-ghost use Rattle.stage_kinds.specs.Stages.{faults_of};
-ghost use Rattle.stage_options.specs.Chained.{IsChain};
-ghost use Rattle.run_engine.specs.Chains.{counts_from};
-ghost use Rattle.run_engine.specs.Runs.{whole_flow};
-ghost use Rattle.run_engine.specs.Cause.{Because, Blamed, AtTurns};
-ghost use Rattle.run_engine.specs.Works.{works_of, IsLined, AreFor, AllHold};
-ghost use Rattle.run_engine.specs.Finishing.{AreLater};
+ghost use Rattle.std.specs.Prelude.{◌≡◌, ◌≤◌, ℕ, length, IfOk, IfErr};
+ghost use Rattle.pipeline_json.specs.Trees.{IsTree};
+ghost use Rattle.stage_kinds.specs.Held.{faults_of};
+ghost use Rattle.stage_options.specs.Kinds.{HaveOwnOptions};
+ghost use Rattle.stage_options.specs.Shapes.{shapes};
+ghost use Rattle.answer_model.specs.Values.{Opened};
+ghost use Rattle.run_engine.specs.Begun.{AreStarts};
+ghost use Rattle.run_engine.specs.Turns.{WorksTell, AreLater, CameToEnd, IsTurnsCause};
 
-use crate::chain::run_chain;
-use crate::finish::{Ran, finish, works_in};
+use crate::finish::{Ran, finish};
+use crate::nodes::{nodes_over, works_in};
 use crate::outcome::outcome;
+use crate::shape::Shape;
 use file_devices::{Sink, Source};
-use network_core::{Node, NodeList};
 use run_report::{Refusal, Report};
 use stage_kinds::Kind;
 use stage_options::StageSpec;
+use stage_runs::run_stages;
 use std::alloc::Global;
 
-/// The nodes of a run, and what it came to.
-struct Turned<S, K> {
-    nodes: Vec<Node<Kind<S, K>>>,
-    outcome: Result<Report, Refusal>,
-}
-
-/// Lets the nodes of a chain take turns until all are done, over queues of `queue` items, and hands them back. It answers
-/// what each stage gave on, or the least stage whose device failed, or else the fault of the reader's file.
-fn turn_nodes<S: Source, K: Sink>(
+/// Lets the stages of a tree take turns until all are done. It answers what each stage gave on, or the first stage whose device
+/// failed, or else the fault of the first stage that has one.
+fn turn_works<S: Source, K: Sink>(
     alloc: Global,
-    nodes: Vec<Node<Kind<S, K>>>,
+    works: Vec<Kind<S, K>>,
     stages: &[StageSpec],
-    queue: usize,
-) -> Turned<S, K>
-    requires chain { IsChain stages.now }
+    shape: Shape,
+) -> Ran<S, K, Report>
+    requires tree { IsTree (shapes stages.now) }
+    requires own { HaveOwnOptions stages.now }
     requires few { length stages.now ≤ 64 }
-    requires lined { (reader : reader_type.LasReader S) × IsLined S.Source K.Sink stages.now reader nodes.items }
-    requires some { 0 < queue }
-    requires most { queue ≤ 64 }
-    ensures ok { IfOk result.outcome (λ report. (reader : reader_type.LasReader S) (file : List ℕ) → IsLined S.Source K.Sink stages.now reader nodes.items → S.bytes reader.source ≡ Some file
-        → (whole_flow (las_with reader.header file) ≡ Ok (las_flow (las_with reader.header file)))
-        × (report.items ≡ counts_from 0 (las_flow (las_with reader.header file)) stages.now)
-        × AllHold K.bytes (las_flow (las_with reader.header file)) stages.now (works_of result.nodes.items)) }
-    ensures err { IfErr result.outcome (λ refusal. (reader : reader_type.LasReader S) (file : List ℕ) → IsLined S.Source K.Sink stages.now reader nodes.items → S.bytes reader.source ≡ Some file
-        → Because (whole_flow (las_with reader.header file)) (AtTurns (faults_of S.faults K.faults) (works_of nodes.items) (works_of result.nodes.items) stages.now) refusal) }
-    ensures blamed { IfErr result.outcome (Blamed (AtTurns (faults_of S.faults K.faults) (works_of nodes.items) (works_of result.nodes.items) stages.now)) }
-    ensures fit { AreFor stages.now (works_of result.nodes.items) }
-    ensures later { AreLater (faults_of S.faults K.faults) (works_of nodes.items) (works_of result.nodes.items) }
+    requires starts { AreStarts K.bytes stages.now works.items }
+    requires count { length works.items ≡ length stages.now }
+    ensures later { AreLater (faults_of S.faults K.faults) works.items result.works.items }
+    ensures ok { IfOk result.outcome (λ report. (opened : Opened) → WorksTell S.Source works.items opened
+        → CameToEnd K.bytes stages.now opened result.works.items report.items) }
+    ensures err { IfErr result.outcome (IsTurnsCause S.Source (faults_of S.faults K.faults) stages.now works.items result.works.items) }
 {
-    match run_chain(alloc, NodeList::new(nodes), queue) {
+    let Ok(nodes) = Vec::with_capacity(alloc, stages.len()) else {
+        let outcome = Err(Refusal::Memory);
+        return Ran { works, outcome };
+    };
+    let Ok(room) = Vec::with_capacity(alloc, stages.len()) else {
+        nodes.destroy_empty();
+        let outcome = Err(Refusal::Memory);
+        return Ran { works, outcome };
+    };
+    let nodes = nodes_over(works, stages, shape.chunk(), nodes);
+    match run_stages(alloc, nodes, stages, shape.queue()) {
         Ok(nodes) => {
-            let nodes = nodes.into_vec();
             let outcome = outcome(stages, &nodes);
-            Turned { nodes, outcome }
+            let works = works_in(nodes, room);
+            Ran { works, outcome }
         }
-        Err(nodes) => Turned {
-            nodes: nodes.into_vec(),
-            outcome: Err(Refusal::Memory),
-        },
+        Err(nodes) => {
+            let works = works_in(nodes, room);
+            let outcome = Err(Refusal::Memory);
+            Ran { works, outcome }
+        }
     }
 }
 
-/// Lets the stages of a chain take turns until all are done, over queues of `queue` items; where the run came to its end,
-/// the writers finish. Their works come in `room`. It answers what each stage gave on, or the least stage whose device failed
-/// in turns, or else the fault of the reader's file, or else the first writer that couldn't finish.
+/// Lets the stages of a tree take turns until all are done; where the run came to its end, the writers finish. It answers what
+/// each stage gave on, or the first stage whose device failed in turns, or else the fault of the first stage that has one, or
+/// else the first writer that couldn't finish.
 pub(crate) fn take_turns<S: Source, K: Sink>(
     alloc: Global,
-    nodes: Vec<Node<Kind<S, K>>>,
-    room: Vec<Kind<S, K>>,
+    works: Vec<Kind<S, K>>,
     stages: &[StageSpec],
-    queue: usize,
-) -> Ran<S, K>
-    requires chain { IsChain stages.now }
+    shape: Shape,
+) -> Ran<S, K, Report>
+    requires tree { IsTree (shapes stages.now) }
+    requires own { HaveOwnOptions stages.now }
     requires few { length stages.now ≤ 64 }
-    requires lined { (reader : reader_type.LasReader S) × IsLined S.Source K.Sink stages.now reader nodes.items }
-    requires empty { room.items ≡ [] }
-    requires room { length nodes.items ≤ vec_capacity room }
-    requires some { 0 < queue }
-    requires most { queue ≤ 64 }
-    ensures ok { IfOk result.outcome (λ report. (reader : reader_type.LasReader S) (file : List ℕ) → IsLined S.Source K.Sink stages.now reader nodes.items → S.bytes reader.source ≡ Some file
-        → (whole_flow (las_with reader.header file) ≡ Ok (las_flow (las_with reader.header file)))
-        × (report.items ≡ counts_from 0 (las_flow (las_with reader.header file)) stages.now)
-        × AllHold K.bytes (las_flow (las_with reader.header file)) stages.now result.works.items) }
-    ensures err { IfErr result.outcome (λ refusal. (reader : reader_type.LasReader S) (file : List ℕ) → IsLined S.Source K.Sink stages.now reader nodes.items → S.bytes reader.source ≡ Some file
-        → Because (whole_flow (las_with reader.header file)) (AtTurns (faults_of S.faults K.faults) (works_of nodes.items) result.works.items stages.now) refusal) }
-    ensures blamed { IfErr result.outcome (Blamed (AtTurns (faults_of S.faults K.faults) (works_of nodes.items) result.works.items stages.now)) }
-    ensures fit { AreFor stages.now result.works.items }
+    requires starts { AreStarts K.bytes stages.now works.items }
+    requires count { length works.items ≡ length stages.now }
+    ensures later { AreLater (faults_of S.faults K.faults) works.items result.works.items }
+    ensures ok { IfOk result.outcome (λ report. (opened : Opened) → WorksTell S.Source works.items opened
+        → CameToEnd K.bytes stages.now opened result.works.items report.items) }
+    ensures err { IfErr result.outcome (IsTurnsCause S.Source (faults_of S.faults K.faults) stages.now works.items result.works.items) }
 {
-    let Turned { nodes, outcome } = turn_nodes(alloc, nodes, stages, queue);
-    finish(works_in(nodes, room), outcome)
+    let Ran { works, outcome } = turn_works(alloc, works, stages, shape);
+    let report = match outcome {
+        Ok(report) => report,
+        Err(refusal) => {
+            let outcome = Err(refusal);
+            return Ran { works, outcome };
+        }
+    };
+    let Ran { works, outcome } = finish(works);
+    let outcome = outcome.map(|()| report);
+    Ran { works, outcome }
 }

@@ -1,0 +1,32 @@
+-- Facts that hold at each place of a list.
+use Rattle.std.proofs.Common.{◌≡◌, ℕ, zero, suc, ◌+◌, ◌≤◌, ◌<◌, List, [], ◌∷◌, ◌++◌, length, drop, reverse, slice_get, Option, Some, None, refl, ap, subst, sym, ◌∙◌, arith, add-one}
+use Rattle.std.proofs.lemmas.List.{reverse-append, append_assoc, append-nil}
+
+-- it holds of what is put behind a list
+pub each-push : {A : Type 0} (P : ℕ → A → Type 0) (xs : List A) (y : A) (n : ℕ) → n ≡ length xs → ((i : ℕ) (x : A) → slice_get xs i ≡ Some x → P i x) → P n y → (i : ℕ) (x : A) → slice_get (xs ++ y ∷ []) i ≡ Some x → P i x
+each-push P [] y n l h p zero x e = let same : y ≡ x = cc in subst (P zero) same (subst (λ m. P m y) l p)
+each-push P [] y n l h p (suc i) x e = cc
+each-push P (z ∷ xs) y n l h p zero x e = h zero x e
+each-push P (z ∷ xs) y n l h p (suc i) x e = each-push (λ j. P (suc j)) xs y (length xs) refl (λ j. h (suc j)) (subst (λ m. P m y) (l ∙ (omega arith)) p) i x e
+
+-- what is left behind the first so many begins with this one
+drop_begins : {A : Type 0} (all : List A) (i : ℕ) (x : A) (rest : List A) → drop i all ≡ x ∷ rest → (slice_get all i ≡ Some x) × (drop (suc i) all ≡ rest)
+drop_begins [] zero x rest e = cc
+drop_begins [] (suc i) x rest e = cc
+drop_begins (y ∷ all) zero x rest e = (let p : Some y ≡ Some x = cc in p, let q : all ≡ rest = cc in q)
+drop_begins (y ∷ all) (suc i) x rest e = drop_begins all i x rest e
+
+-- the last of the reversed rest is the first of it
+pub popped : {A : Type 0} (all left rest : List A) (i : ℕ) (x : A) → reverse left ≡ drop i all → left ≡ rest ++ x ∷ [] → (slice_get all i ≡ Some x) × (reverse rest ≡ drop (i + 1) all)
+popped all left rest i x e was =
+    let turned : drop i all ≡ x ∷ reverse rest = sym e ∙ ap reverse was ∙ reverse-append rest (x ∷ []) in
+    let b = drop_begins all i x (reverse rest) turned in
+    (b.0, rw add-one (sym b.1))
+
+-- one less is left
+pub one_less : (at left rest all : ℕ) → at + left ≡ all → rest + 1 ≡ left → (at < all) × (at + 1 + rest ≡ all)
+one_less at left rest all e more = (omega arith, omega arith)
+
+-- nothing is left
+pub none_left : (all at left : ℕ) → at + left ≡ all → left ≡ 0 → at ≡ all
+none_left all at left e none = omega arith

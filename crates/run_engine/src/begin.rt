@@ -1,0 +1,119 @@
+//! The works of a tree's stages at their start.
+
+ghost use Rattle.std.specs.Prelude.{◌≡◌, ◌≤◌, ◌+◌, ℕ, length, Some, true, IfOk, IfErr, OnErr};
+ghost use Rattle.file_devices.specs.Counts.{Rose};
+ghost use Rattle.file_devices.specs.Named.{Names};
+ghost use Rattle.stage_kinds.specs.Held.{op_of};
+ghost use Rattle.stage_options.specs.Roles.{Writes, role_of, is_writing};
+ghost use Rattle.stage_runs.specs.Works.{IsAtStart};
+ghost use Rattle.answer_model.specs.Runs.{AreRead};
+ghost use Rattle.run_engine.specs.Begun.{AreOpened, AreBegun, IsOpened, IsWork, there, all_there, all_held};
+ghost use Rattle.run_engine.specs.Cause.{IsCause, IsUncreated};
+
+use crate::release::{give_back, release_works};
+use file_devices::{DeviceErr, Files, Op};
+use las_reader::LasReader;
+use run_report::{Place, Refusal};
+use stage_kinds::Kind;
+use stage_options::{Options, Role, StageSpec};
+use stage_runs::{filter_work, writer_work};
+use std::alloc::Global;
+
+/// The work of a writer, the stage with this number, on a new file. Where the file can't be created or written, it is given
+/// back.
+fn open_writer<F: Files>(
+    files: &mut F,
+    options: &Options,
+    name: &str,
+    number: u32,
+) -> Result<Kind<F::In, F::Out>, Refusal>
+    requires { role_of options.now ≡ Writes name.now }
+    ensures ok { IfOk result (IsAtStart F.Out.bytes options.now) }
+    ensures err { IfErr result (IsUncreated (Rose (F.faults files.old) (F.faults files.new)) number) }
+    ensures map { F.map files.new ≡ F.map files.old }
+    ensures lent_ok { IfOk result (λ work. F.lent files.new ≡ F.lent files.old + there (op_of work)) }
+    ensures lent_err { OnErr result (F.lent files.new ≡ F.lent files.old) }
+    ensures later { F.faults files.old ≤ F.faults files.new }
+{
+    let sink = match files.create(name) {
+        Ok(sink) => sink,
+        Err(DeviceErr::Memory) => return Err(Refusal::Memory),
+        Err(_) => return Err(Refusal::Device(Place::Stage(number), Op::Create)),
+    };
+    match writer_work(options, sink) {
+        Ok(work) => Ok(work),
+        Err(sink) => {
+            files.done_out(sink);
+            Err(Refusal::Device(Place::Stage(number), Op::Write))
+        }
+    }
+}
+
+/// The work of a stage: its opened reader, or that of a filter, or that of a writer on a new file.
+fn begin_work<F: Files>(
+    files: &mut F,
+    reader: Option<LasReader<F::In>>,
+    stage: &StageSpec,
+    number: u32,
+) -> Result<Kind<F::In, F::Out>, Refusal>
+    requires { IsOpened F.In.Source (F.map files.old) number (role_of stage.now.options) reader }
+    ensures ok { IfOk result (IsWork F.In.Source F.Out.Sink (F.map files.old) number stage.now.options) }
+    ensures writes { OnErr result (is_writing (role_of stage.now.options) ≡ true) }
+    ensures err { IfErr result (IsUncreated (Rose (F.faults files.old) (F.faults files.new)) number) }
+    ensures none { OnErr result (there reader ≡ 0) }
+    ensures map { F.map files.new ≡ F.map files.old }
+    ensures lent_ok { IfOk result (λ work. F.lent files.new + there reader ≡ F.lent files.old + there (op_of work)) }
+    ensures lent_err { OnErr result (F.lent files.new ≡ F.lent files.old) }
+    ensures later { F.faults files.old ≤ F.faults files.new }
+{
+    let Some(reader) = reader else {
+        return match stage.options.role() {
+            Role::Writes(name) => open_writer(files, &stage.options, name, number),
+            Role::Reads(_) | Role::Filters => Ok(filter_work(&stage.options)),
+        };
+    };
+    Ok(Kind::Reader(reader))
+}
+
+/// The works of a tree's stages at their start, over their opened readers: the files of the writers are created in the order of
+/// the stages; the first one that can't be created or written is the last one that is tried. Then all is given back.
+pub(crate) fn begin_works<F: Files>(
+    alloc: Global,
+    files: &mut F,
+    readers: Vec<Option<LasReader<F::In>>>,
+    stages: &[StageSpec],
+) -> Result<Vec<Kind<F::In, F::Out>>, Refusal>
+    requires opened { AreOpened F.In.Source (F.map files.old) stages.now readers.items }
+    requires count { length readers.items ≡ length stages.now }
+    requires few { length stages.now ≤ 64 }
+    requires read { (m : Names) → F.map files.old ≡ Some m → AreRead m stages.now (length stages.now) }
+    ensures ok { IfOk result (λ works. AreBegun F.In.Source F.Out.Sink (F.map files.old) stages.now works.items) }
+    ensures count { IfOk result (λ works. length works.items ≡ length stages.now) }
+    ensures err { IfErr result (IsCause (Rose (F.faults files.old) (F.faults files.new)) (F.map files.old) stages.now) }
+    ensures map { F.map files.new ≡ F.map files.old }
+    ensures lent_ok { IfOk result (λ works. (others : ℕ) → F.lent files.old ≡ others + all_there readers.items
+        → F.lent files.new ≡ others + all_held works.items) }
+    ensures lent_err { OnErr result ((others : ℕ) → F.lent files.old ≡ others + all_there readers.items → F.lent files.new ≡ others) }
+    ensures later { F.faults files.old ≤ F.faults files.new }
+{
+    let Ok(mut works) = Vec::with_capacity(alloc, stages.len()) else {
+        give_back(files, readers);
+        return Err(Refusal::Memory);
+    };
+    let mut readers = readers;
+    readers.reverse();
+    let mut at = 0;
+    while let Some(reader) = readers.pop() {
+        match begin_work(files, reader, &stages[at], at as u32) {
+            Ok(work) => works.push_reserved(work),
+            Err(refusal) => {
+                give_back(files, readers);
+                release_works(files, works);
+                return Err(refusal);
+            }
+        }
+        at += 1;
+    }
+    readers.destroy_empty();
+    Ok(works)
+}
