@@ -12,6 +12,3 @@ pub use elements::member;
 pub use reading::read_pipeline;
 pub use stage::{RawStage, StageList};
 pub use tree::RawTree;
-
-#[cfg(test)]
-mod tests;
