@@ -1,8 +1,8 @@
 //! The options of trees of stages, and their first faults.
 
 use pipeline_json::read_pipeline;
-use stage_names::{KindName, PipeErr, PipeFault};
-use stage_options::{Options, Role, Tree, is_kind_built, is_tree_built, type_tree};
+use stage_names::{PipeErr, PipeFault};
+use stage_options::{Options, Role, Tree, is_tree_built, type_tree};
 use std::alloc::{AllocError, Global};
 use std::test::Fail;
 
@@ -198,7 +198,6 @@ fn options_are_typed(rt: HostRuntime) -> Result<(), Fail> {
     for (text, words) in READERS {
         assert!(rt; answer(alloc, text)?.as_str() == *words, "{text}");
     }
-    assert!(rt; is_kind_built(KindName::FiltersHead) && !is_kind_built(KindName::FiltersTail));
     Ok(())
 }
 

@@ -14,7 +14,7 @@ mod typing;
 mod values;
 mod walks;
 
-pub use built::{is_built, is_kind_built};
+pub use built::is_built;
 pub use names::{SourceName, TargetName};
 pub use options::{HeadOptions, LasReaderOptions, Options, TextOptions};
 pub use outputs::first_same_output;
