@@ -2,6 +2,7 @@
 #![tactic(auto)]
 
 mod built;
+mod laws;
 mod names;
 mod options;
 mod outputs;
@@ -15,6 +16,7 @@ mod values;
 mod walks;
 
 pub use built::is_built;
+pub use laws::roles_follow_types;
 pub use names::{SourceName, TargetName};
 pub use options::{HeadOptions, LasReaderOptions, Options, TextOptions};
 pub use outputs::first_same_output;
