@@ -1,5 +1,6 @@
+pub mod Judged
 pub mod Members
 pub mod Numbers
 pub mod Taken
-pub mod TreeFacts
 pub mod Texts
+pub mod TreeFacts

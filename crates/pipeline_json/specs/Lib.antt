@@ -1,5 +1,6 @@
+pub mod Judged
 pub mod Lists
-pub mod Stages
-pub mod Trees
 pub mod Shown
+pub mod Stages
 pub mod TreeShown
+pub mod Trees

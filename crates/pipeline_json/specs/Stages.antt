@@ -3,7 +3,7 @@ use Rattle.std.specs.Prelude.{ℕ, ◌-◌, nat_le, List, [], ◌∷◌, Bool, t
 use Rattle.std.specs.List.{list_all, range_with_len}
 use Rattle.std.specs.Char.{is_ascii_alphabetic, is_ascii_alphanumeric}
 use Rattle.std.specs.Str.{str_to_ascii_lowercase}
-use Rattle.serde_json.specs.Data.{Data, null, boolean, number, string, array, object, Items, no_items, item, Members, no_members, member}
+use Rattle.serde_json.specs.Data.{Data, string, array, object, Items, no_items, item, Members, no_members, member}
 use Rattle.serde_json.specs.Find.{get_member, as_str}
 use Rattle.stage_names.specs.Kinds.{kind_named, is_reader}
 use Rattle.stage_names.specs.declared.kinds.KindName.{KindName}
@@ -35,12 +35,9 @@ elements (item d ds) = d ∷ elements ds
 
 -- a text is the only input; an array has texts
 abbrev pub inputs_in : Data → Option (List Data)
-inputs_in null = None
-inputs_in (boolean b) = None
-inputs_in (number n) = None
 inputs_in (string s) = Some (string s ∷ [])
 inputs_in (array ds) = if list_all (λ d. is_some (as_str d)) (elements ds) then Some (elements ds) else None
-inputs_in (object ms) = None
+inputs_in _ = None
 
 -- a member that stands has to be of its form
 abbrev pub is_malformed : {X : Type 0} → (Data → Option X) → Option Data → Bool
@@ -72,12 +69,9 @@ no_parts = record { type = None; tag = None; inputs = None; filename = None }
 
 -- a text is a file name
 abbrev pub element_parts : Data → Option Parts
-element_parts null = None
-element_parts (boolean b) = None
-element_parts (number n) = None
 element_parts (string s) = Some (record { type = None; tag = None; inputs = None; filename = Some s })
-element_parts (array ds) = None
 element_parts (object ms) = parts_in ms
+element_parts _ = None
 
 abbrev pub is_own : List ℕ → Bool
 is_own name = bytes_eq name (codes "type") || bytes_eq name (codes "tag") || bytes_eq name (codes "inputs") || bytes_eq name (codes "filename")
@@ -88,12 +82,8 @@ without_own no_members = no_members
 without_own (member name d ms) = cond (is_own name) (without_own ms) (member name d (without_own ms))
 
 abbrev pub options_of : Data → Members
-options_of null = no_members
-options_of (boolean b) = no_members
-options_of (number n) = no_members
-options_of (string s) = no_members
-options_of (array ds) = no_members
 options_of (object ms) = without_own ms
+options_of _ = no_members
 
 -- ---- a tag, and a type
 

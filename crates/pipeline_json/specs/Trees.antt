@@ -2,7 +2,7 @@
 use Rattle.std.specs.Prelude.{ℕ, ◌-◌, ◌+◌, ◌<◌, ◌≤◌, ◌≡◌, nat_lt, List, [], ◌∷◌, ◌++◌, Bool, true, not, ◌&&◌, Option, Some, None, option_map, option_and_then, Result, Ok, Err, codes, length, find, slice_get, if◌then◌else◌}
 use Rattle.std.specs.List.{range_with_len}
 use Rattle.std.specs.Str.{is_utf8}
-use Rattle.serde_json.specs.Data.{Data, null, boolean, number, string, array, object}
+use Rattle.serde_json.specs.Data.{Data, array, object}
 use Rattle.serde_json.specs.Find.{get_member, as_array}
 use Rattle.serde_json.specs.Read.{read}
 use Rattle.stage_names.specs.Kinds.{is_reader}
@@ -42,12 +42,9 @@ tree_in (d ∷ ds) = if nat_lt 64 (length (d ∷ ds)) then Err TooManyStages els
 
 -- an array, or the array that an object's member `pipeline` is
 abbrev pub array_in : Data → Option (List Data)
-array_in null = None
-array_in (boolean b) = None
-array_in (number n) = None
-array_in (string s) = None
 array_in (array ds) = Some (elements ds)
 array_in (object ms) = option_map elements (option_and_then as_array (get_member (codes "pipeline") ms))
+array_in _ = None
 
 abbrev pub tree_of_array : Option (List Data) → Outcome
 tree_of_array None = Err NotAPipeline

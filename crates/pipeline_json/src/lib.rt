@@ -3,15 +3,14 @@
 
 mod elements;
 mod kinds;
+mod laws;
 mod reading;
 mod stage;
 mod takes;
 mod tree;
 
 pub use elements::member;
+pub use laws::{piles_are_taken, stages_are_judged};
 pub use reading::read_pipeline;
 pub use stage::{RawStage, StageList};
 pub use tree::RawTree;
-
-#[cfg(test)]
-mod tests;

@@ -24,13 +24,6 @@ typed_of _ filename ms = None
 
 -- ---- what is built
 
--- whether stages of this type are built
-abbrev pub is_kind_built : KindName → Bool
-is_kind_built kind.ReadersLas = true
-is_kind_built kind.FiltersHead = true
-is_kind_built kind.WritersText = true
-is_kind_built _ = false
-
 -- none of these options is there, but for the file name
 abbrev pub has_none_of : List Rule → Members → Bool
 has_none_of rs ms = list_all (λ r. bytes_eq r.name (codes "filename") || is_none (get_member r.name ms)) rs

@@ -1,8 +1,8 @@
 //! Which stages are built.
 
-ghost use Rattle.std.specs.Prelude.{◌≡◌, IsTrue};
+ghost use Rattle.std.specs.Prelude.{◌≡◌};
 ghost use Rattle.serde_json.specs.View.{members_view};
-ghost use Rattle.stage_options.specs.Typed.{has_none_of, is_built, is_kind_built};
+ghost use Rattle.stage_options.specs.Typed.{has_none_of, is_built};
 ghost use Rattle.stage_options.specs.Seen.{rules_view};
 
 use crate::rules::{Rule, rules};
@@ -22,20 +22,9 @@ fn has_none_of(table: &[Rule], options: &Map<String, Value>) -> bool
     true
 }
 
-/// Whether stages of this type are built.
-pub fn is_kind_built(kind: KindName) -> bool
-    ensures { result ≡ is_kind_built kind }
-{
-    matches!(
-        kind,
-        KindName::ReadersLas | KindName::FiltersHead | KindName::WritersText
-    )
-}
-
 /// Whether a stage of this type, with these options beside its file name, is built.
 pub fn is_built(kind: KindName, options: &Map<String, Value>) -> bool
-    ensures value { result ≡ is_built kind (members_view options.now.entries) }
-    ensures kind { IsTrue result → IsTrue (is_kind_built kind) }
+    ensures { result ≡ is_built kind (members_view options.now.entries) }
 {
     match kind {
         KindName::ReadersLas => true,

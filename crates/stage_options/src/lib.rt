@@ -2,6 +2,7 @@
 #![tactic(auto)]
 
 mod built;
+mod laws;
 mod names;
 mod options;
 mod outputs;
@@ -14,7 +15,8 @@ mod typing;
 mod values;
 mod walks;
 
-pub use built::{is_built, is_kind_built};
+pub use built::is_built;
+pub use laws::roles_follow_types;
 pub use names::{SourceName, TargetName};
 pub use options::{HeadOptions, LasReaderOptions, Options, TextOptions};
 pub use outputs::first_same_output;

@@ -96,8 +96,8 @@ fn type_stages(alloc: Global, list: &[RawStage]) -> Result<Vec<StageSpec>, PipeE
 
 /// The tree with its options typed. The first fault is told: of the stages in their order, of each as `type_stage` tells
 /// it, and then `SameOutput` with the least number of a writer whose file an earlier one names. `Memory` comes only where
-/// there was none. Each stage that is built takes one stage at most, so that the stages stand in a line: a reader, and each
-/// other stage takes the one before it.
+/// there was none. Each stage has the options of its type. Each that is built takes one stage at most, so that the stages stand
+/// in a line: a reader, and each other stage takes the one before it.
 pub fn type_tree(alloc: Global, raw: &RawTree) -> Result<Tree, PipeErr>
     requires { IsTrue (are_built (tree_view raw.now)) }
     ensures ok { IfOk result (λ tree. typed_tree (tree_view raw.now) ≡ Ok (specs_view tree)) }

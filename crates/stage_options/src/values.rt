@@ -87,7 +87,7 @@ fn text_truth(text: &str) -> Option<bool>
 }
 
 /// The truth value that a value of JSON is.
-pub(crate) fn json_truth(value: &Value) -> Option<bool>
+fn json_truth(value: &Value) -> Option<bool>
     ensures { result ≡ truth_of (view value.now) }
 {
     match value {

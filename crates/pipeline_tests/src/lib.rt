@@ -1,0 +1,7 @@
+//! Tests of the public calls that make a pipeline's text a tree of stages with options.
+#![tactic(auto)]
+
+#[cfg(test)]
+mod options;
+#[cfg(test)]
+mod trees;

@@ -1,0 +1,253 @@
+//! The options of trees of stages, and their first faults.
+
+use pipeline_json::read_pipeline;
+use stage_names::{PipeErr, PipeFault};
+use stage_options::{Options, Role, Tree, is_tree_built, type_tree};
+use std::alloc::{AllocError, Global};
+use std::test::Fail;
+
+/// Options as words.
+fn shown_options(alloc: Global, options: &Options) -> Result<String, AllocError> {
+    match options {
+        Options::ReadersLas(options) => { format!(in alloc; "read {}", options.filename.as_str()) }
+        Options::FiltersHead(options) => format!(in alloc; "head {}", options.count),
+        Options::WritersText(options) => {
+            format!(in alloc; "write {}", options.filename.as_str())
+        }
+    }
+}
+
+/// A fault as words.
+fn shown_fault(alloc: Global, error: &PipeErr) -> Result<String, AllocError> {
+    match error {
+        PipeErr::Fault(PipeFault::OptionUnknown(i, name)) => {
+            format!(in alloc; "unknown {} {}", *i, name.as_str())
+        }
+        PipeErr::Fault(PipeFault::OptionMissing(i, name)) => {
+            format!(in alloc; "missing {} {}", *i, name.as_str())
+        }
+        PipeErr::Fault(PipeFault::OptionValue(i, name)) => {
+            format!(in alloc; "wrong {} {}", *i, name.as_str())
+        }
+        PipeErr::Fault(PipeFault::SameOutput(i)) => format!(in alloc; "same {}", *i),
+        PipeErr::Fault(_) => String::from_str(alloc, "another fault"),
+        PipeErr::Memory => String::from_str(alloc, "no memory"),
+    }
+}
+
+/// The options of the last stage of a tree, as words.
+fn shown_last(alloc: Global, tree: &Tree) -> Result<String, AllocError> {
+    match tree.as_slice().last() {
+        Some(stage) => shown_options(alloc, &stage.options),
+        None => String::from_str(alloc, "no stage"),
+    }
+}
+
+/// The options of the last stage of a pipeline's text, or the first fault, as words.
+fn answer(alloc: Global, text: &str) -> Result<String, AllocError> {
+    let Ok(raw) = read_pipeline(alloc, text.as_bytes()) else {
+        return String::from_str(alloc, "no tree");
+    };
+    if !is_tree_built(&raw) {
+        return String::from_str(alloc, "not built");
+    }
+    match type_tree(alloc, &raw) {
+        Ok(tree) => shown_last(alloc, &tree),
+        Err(error) => shown_fault(alloc, &error),
+    }
+}
+
+/// Whether stages behind a reader are answered so.
+fn answers(alloc: Global, stages: &str, words: &str) -> Result<bool, AllocError> {
+    let text = format!(in alloc; "[\"a.las\"{stages}]")?;
+    Ok(answer(alloc, text.as_str())?.as_str() == words)
+}
+
+/// Whether a head with this count behind a reader is answered so.
+fn counts(alloc: Global, count: &str, words: &str) -> Result<bool, AllocError> {
+    let stages = format!(in alloc; ",{{\"type\":\"filters.head\",\"count\":{count}}}")?;
+    answers(alloc, stages.as_str(), words)
+}
+
+/// Stages behind a reader, and the options of the last one or the first fault.
+const STAGES: &[(&str, &str)] = &[
+    ("", "read a.las"),
+    (r#",{"type":"filters.head"}"#, "head 10"),
+    (r#",{"type":"filters.head","count":3}"#, "head 3"),
+    (
+        r#",{"type":"writers.text","filename":"a.las"}"#,
+        "write a.las",
+    ),
+    (
+        r#",{"type":"writers.text","filename":"lasline-part"}"#,
+        "write lasline-part",
+    ),
+    (
+        r#",{"type":"filters.head","zz":1},{"type":"filters.head","aa":1}"#,
+        "unknown 1 zz",
+    ),
+    (
+        r#",{"type":"filters.head","filename":"a","g":1,"h":2}"#,
+        "unknown 1 filename",
+    ),
+    (
+        r#",{"type":"filters.head","filename":"a","count":-1,"zz":1,"Z":2,"z":3}"#,
+        "unknown 1 Z",
+    ),
+    (
+        r#",{"type":"filters.head","count":-1},{"type":"filters.head","aa":1}"#,
+        "wrong 1 count",
+    ),
+    (
+        r#",{"type":"writers.text"},{"type":"filters.head","aa":1}"#,
+        "missing 1 filename",
+    ),
+    (
+        r#",{"type":"writers.text","filename":"a#"}"#,
+        "wrong 1 filename",
+    ),
+    (
+        r#",{"type":"writers.text","filename":"a.lasline-part"}"#,
+        "wrong 1 filename",
+    ),
+    (
+        r#",{"type":"writers.text","filename":"o"},{"type":"writers.text","filename":"o"},{"type":"filters.head","count":-1}"#,
+        "wrong 3 count",
+    ),
+    (
+        r#",{"type":"writers.text","filename":"o"},{"type":"writers.text","filename":"p"},{"type":"writers.text","filename":"p"},{"type":"writers.text","filename":"o"}"#,
+        "same 3",
+    ),
+    (
+        r#",{"type":"writers.text","filename":"o"},{"type":"writers.text","filename":"o"},{"type":"writers.text","filename":"o"}"#,
+        "same 2",
+    ),
+    (
+        r#",{"type":"writers.text","filename":"a.las"},{"type":"writers.text","filename":"b"},{"type":"writers.text","filename":"a.las"},{"type":"writers.text","filename":"b"}"#,
+        "same 3",
+    ),
+    (r#",{"type":"filters.tail"}"#, "not built"),
+    (r#",{"type":"filters.head","where":"X > 1"}"#, "not built"),
+    (r#",{"type":"filters.head","where":1}"#, "not built"),
+    (r#",{"type":"filters.head","count":1,"a":2}"#, "unknown 1 a"),
+    (
+        r#",{"type":"writers.text","filename":"o","a":1}"#,
+        "unknown 1 a",
+    ),
+    (
+        r#",{"type":"writers.text","filename":"o","order":"X,Y,Z"}"#,
+        "not built",
+    ),
+    (
+        r#",{"type":"writers.text","filename":"o","where":""}"#,
+        "not built",
+    ),
+    (r#",{"type":"writers.las","filename":"o"}"#, "not built"),
+    (r#","b.las","o.txt""#, "not built"),
+];
+
+/// Counts of a head, and its options or its fault.
+const COUNTS: &[(&str, &str)] = &[
+    ("0", "head 0"),
+    ("4294967295", "head 4294967295"),
+    ("\"0\"", "head 0"),
+    ("\"007\"", "head 7"),
+    ("\"4294967295\"", "head 4294967295"),
+    ("\"0000000000\"", "head 0"),
+    ("4294967296", "wrong 1 count"),
+    ("18446744073709551616", "wrong 1 count"),
+    ("-1", "wrong 1 count"),
+    ("-0", "wrong 1 count"),
+    ("1.0", "wrong 1 count"),
+    ("1e0", "wrong 1 count"),
+    ("null", "wrong 1 count"),
+    ("true", "wrong 1 count"),
+    ("[1]", "wrong 1 count"),
+    ("\"\"", "wrong 1 count"),
+    ("\"+1\"", "wrong 1 count"),
+    ("\"-1\"", "wrong 1 count"),
+    ("\" 1\"", "wrong 1 count"),
+    ("\"4294967296\"", "wrong 1 count"),
+    ("\"00000000001\"", "wrong 1 count"),
+];
+
+/// Readers alone, and their options or the first fault.
+const READERS: &[(&str, &str)] = &[
+    (r#"["a#.las"]"#, "read a#.las"),
+    (r#"[{"type":"readers.las","filename":"a"}]"#, "read a"),
+    (r#"[{"type":"readers.las"}]"#, "missing 0 filename"),
+    (
+        r#"[{"type":"readers.las","filename":".lasline-part"}]"#,
+        "wrong 0 filename",
+    ),
+    (
+        r#"[{"type":"readers.las","filename":"a","a":1}]"#,
+        "unknown 0 a",
+    ),
+];
+
+#[test]
+fn options_are_typed(rt: HostRuntime) -> Result<(), Fail> {
+    let alloc = rt.alloc();
+    for (stages, words) in STAGES {
+        assert!(rt; answers(alloc, stages, words)?, "{stages}");
+    }
+    for (count, words) in COUNTS {
+        assert!(rt; counts(alloc, count, words)?, "{count}");
+    }
+    for (text, words) in READERS {
+        assert!(rt; answer(alloc, text)?.as_str() == *words, "{text}");
+    }
+    Ok(())
+}
+
+/// A stage's type, the stages that it takes and the file that it reads or writes, as words.
+fn shown_stage(alloc: Global, tree: &Tree, i: usize) -> Result<String, AllocError> {
+    let Some(stage) = tree.as_slice().get(i) else {
+        return String::from_str(alloc, "no stage");
+    };
+    let (does, name) = match stage.options.role() {
+        Role::Reads(name) => ("reads", name),
+        Role::Filters => ("filters", ""),
+        Role::Writes(name) => ("writes", name),
+    };
+    let takes = stage.ins.as_slice().len();
+    let first = match stage.ins.as_slice().first() {
+        Some(first) => *first,
+        None => 0,
+    };
+    let kind = stage.options.kind().name();
+    format!(in alloc;
+        "{} {kind} takes {takes} from {first} {does} {name}",
+        stage.kind.name()
+    )
+}
+
+#[test]
+fn stages_keep_their_types_and_inputs(rt: HostRuntime) -> Result<(), Fail> {
+    let alloc = rt.alloc();
+    let text = r#"["a.las",{"type":"filters.head","count":3},"o.txt"]"#;
+    let Ok(raw) = read_pipeline(alloc, text.as_bytes()) else {
+        assert!(rt; false, "no tree");
+        return Ok(());
+    };
+    if !is_tree_built(&raw) {
+        assert!(rt; false, "not built");
+        return Ok(());
+    }
+    let Ok(tree) = type_tree(alloc, &raw) else {
+        assert!(rt; false, "a fault");
+        return Ok(());
+    };
+    let wanted = [
+        "readers.las readers.las takes 0 from 0 reads a.las",
+        "filters.head filters.head takes 1 from 0 filters ",
+        "writers.text writers.text takes 1 from 1 writes o.txt",
+        "no stage",
+    ];
+    for (i, words) in wanted.iter().enumerate() {
+        let found = shown_stage(alloc, &tree, i)?;
+        assert!(rt; found.as_str() == *words, "{found}");
+    }
+    Ok(())
+}
