@@ -9,3 +9,4 @@ pub mod GridPart
 pub mod CountPart
 pub mod Standing
 pub mod ReadBack
+pub mod ScaleLaw

@@ -10,3 +10,4 @@ pub mod Written
 pub mod Sizes
 pub mod WordOffsets
 pub mod Standing
+pub mod ScaleLaw

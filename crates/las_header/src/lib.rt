@@ -14,7 +14,7 @@ pub use block::Header;
 pub use faults::{Axis, HeaderFault, ScaleFault};
 pub use form::Format;
 pub use reading::read_header;
-pub use scales::scale_of_word;
+pub use scales::{scale_of_word, scales_have_their_words};
 pub use writing::write_header;
 
 #[cfg(test)]

@@ -1,8 +1,7 @@
 //! Records and the points that they stand for.
 
 ghost use Rattle.std.specs.Prelude.{IfOk};
-ghost use Rattle.las_header.specs.Offsets.{IsOffset};
-ghost use Rattle.point_formats.specs.Grids.{IsNear};
+ghost use Rattle.point_formats.specs.Grids.{IsNear, IsNearOffset};
 
 mod rows;
 
@@ -27,7 +26,7 @@ fn scale(words: &mut SplitWhitespace) -> Result<Scale, Fail> {
 }
 
 fn offset(words: &mut SplitWhitespace) -> Result<i64, Fail>
-    ensures { IfOk result IsOffset }
+    ensures { IfOk result IsNearOffset }
 {
     let nano = number::<i64>(words)?;
     if nano.unsigned_abs() > 1_000_000_000_000_000_000 {
