@@ -1,4 +1,5 @@
 pub mod Frames
+pub mod Lists
 pub mod Records
 pub mod Files
 pub mod Flows
