@@ -6,3 +6,5 @@ pub mod Flows
 pub mod Pieces
 pub mod Reading
 pub mod Opening
+pub mod Cuts
+pub mod Following
