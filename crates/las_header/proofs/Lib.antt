@@ -1,6 +1,4 @@
 pub mod ScaleLemmas
-pub mod Putting
-pub mod Places
 pub mod FilePart
 pub mod RecordPart
 pub mod ShortWords

@@ -15,7 +15,7 @@ use Rattle.las_header.specs.declared.faults.HeaderFault.{HeaderFault}
 use Rattle.las_header.specs.declared.faults.HeaderFault.TheVariants.{ScaleNotPositive, ScaleNotDecimal}
 use Rattle.las_header.specs.declared.faults.ScaleFault.{ScaleFault}
 use Rattle.las_header.specs.declared.faults.ScaleFault.TheVariants.{NotPositive, NotDecimal}
-use Rattle.las_header.specs.Bytes.{number_at}
+use Rattle.byte_numbers.specs.Bytes.{number_at}
 use Rattle.las_header.specs.Headers.{scale_on, scales_of}
 use Rattle.las_header.specs.ScaleWords.{scale_read, decimal_scale}
 use Rattle.las_header.specs.ScaleLaw.{IsTheScaleOf, ScalesHaveTheirWords}

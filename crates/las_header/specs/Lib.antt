@@ -1,4 +1,3 @@
-pub mod Bytes
 pub mod Formats
 pub mod ScaleWords
 pub mod Steps

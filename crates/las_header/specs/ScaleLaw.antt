@@ -2,7 +2,7 @@
 use Rattle.std.specs.Prelude.{◌≡◌, ◌↔◌, ℕ, ℤ, List, [], ◌∷◌, Ok}
 use Rattle.decimal_coords.specs.declared.grid.Scale.{Scale}
 use Rattle.ieee_words.specs.Scale.{IsScaleOf}
-use Rattle.las_header.specs.Bytes.{number_at}
+use Rattle.byte_numbers.specs.Bytes.{number_at}
 use Rattle.las_header.specs.Headers.{scales_of}
 
 -- nano / 10 ^ 9 is from 10 ^ -9 to 1 and has this nearest word, and no other such decimal has it

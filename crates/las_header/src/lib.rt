@@ -5,7 +5,6 @@
 mod block;
 mod faults;
 mod form;
-mod numbers;
 mod reading;
 mod scales;
 mod writing;

@@ -2,7 +2,7 @@
 
 ghost use Rattle.std.specs.Prelude.{◌≡◌, ◌+◌, ◌≤◌, length, Some, IfOk, OnOk};
 ghost use Rattle.ieee_words.specs.DecimalOfWord.{decimal_of_word};
-ghost use Rattle.las_header.specs.Bytes.{number_at, numbers_at};
+ghost use Rattle.byte_numbers.specs.Bytes.{number_at, numbers_at};
 ghost use Rattle.las_header.specs.Headers.{has_signature, has_version, has_block, holds_fields, has_points_behind, record_format, format_in, scale_on, scales_of, offset_on, offsets_of, header_with, header_of};
 ghost use Rattle.las_header.specs.Formats.{format_of, format_size};
 ghost use Rattle.las_header.specs.Offsets.{IsOffset};
@@ -11,8 +11,8 @@ ghost use Rattle.las_header.specs.Sound.{IsSound};
 ghost use Rattle.las_header.specs.Standing.{Stands};
 ghost use Rattle.std.specs.List.{All};
 
-use crate::numbers::{piece_at, u8_at, u16_at, u32_at, u64_at};
 use crate::{Axis, Format, Header, HeaderFault, ScaleFault, scale_of_word};
+use byte_numbers::{piece_at, u8_at, u16_at, u32_at, u64_at};
 use decimal_coords::Scale;
 use ieee_words::decimal;
 

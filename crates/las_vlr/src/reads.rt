@@ -2,13 +2,14 @@
 
 ghost use Rattle.std.specs.Prelude.{◌≡◌, ◌≢◌, ◌+◌, ◌-◌, ◌^◌, ◌<◌, ◌≤◌, ℕ, List, length, take, drop, max, Some, None, Ok, Err, IfOk, IfErr, OnOk, OnErr, vec_len};
 ghost use Rattle.file_devices.specs.Counts.{Rose};
-ghost use Rattle.las_vlr.specs.Bytes.{number_at, piece};
+ghost use Rattle.byte_numbers.specs.Bytes.{number_at, piece};
 ghost use Rattle.las_vlr.specs.Limits.{IsShort, IsOf, AreHeld, AreHeldVlrs, AreHeldEvlrs};
 ghost use Rattle.las_vlr.specs.Written.{HasSizes};
 ghost use Rattle.las_vlr.specs.Vlrs.{head_size, payload_length, entry_size, entry_of, past, entry_fault, entries, vlrs_of, evlrs_of, IsRefusal, IsFault, IsInFront, MayReach};
 
 use crate::entry::Form;
 use crate::{Vlr, VlrErr, VlrFault, VlrList};
+use byte_numbers::{u16_at, u64_at};
 use file_devices::{Bytes, Source, fill};
 use std::alloc::{AllocError, Global};
 
@@ -29,29 +30,6 @@ fn head_size(form: Form) -> usize
         Form::Plain(_) => 54,
         Form::Extended => 60,
     }
-}
-
-fn u16_at(bytes: &[u8], at: usize) -> u16
-    requires { at + 2 ≤ length bytes.now }
-    ensures { result ≡ number_at at 2 bytes.now }
-{
-    u16::from_le_bytes([bytes[at], bytes[at + 1]])
-}
-
-fn u64_at(bytes: &[u8], at: usize) -> u64
-    requires { at + 8 ≤ length bytes.now }
-    ensures { result ≡ number_at at 8 bytes.now }
-{
-    u64::from_le_bytes([
-        bytes[at],
-        bytes[at + 1],
-        bytes[at + 2],
-        bytes[at + 3],
-        bytes[at + 4],
-        bytes[at + 5],
-        bytes[at + 6],
-        bytes[at + 7],
-    ])
 }
 
 /// The length of the payload that a head announces.

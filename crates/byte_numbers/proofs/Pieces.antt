@@ -4,7 +4,7 @@ use Rattle.std.proofs.Math.Nat.{div-div-eq-div-mul, pow-suc}
 use Rattle.std.proofs.Math.Seq.{take-add}
 use Rattle.std.proofs.lemmas.List.{drop-drop}
 use Rattle.std.specs.Int.{Width, byte_len, bytes_low_first, byte_at, to_le_bytes}
-use Rattle.las_header.specs.Bytes.{number_at, piece}
+use Rattle.byte_numbers.specs.Bytes.{number_at, piece}
 
 abbrev pub AreBytes : List ℕ → Type 0
 AreBytes bytes = (i : ℕ) → get_or bytes i 0 < 2 ^ 8

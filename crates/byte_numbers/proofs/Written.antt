@@ -3,8 +3,8 @@ use Rattle.std.proofs.Common.{◌≡◌, ℕ, zero, suc, ◌+◌, ◌*◌, ◌/�
 use Rattle.std.proofs.Math.Nat.{pow-suc}
 use Rattle.std.proofs.lemmas.List.{get_or-append-add}
 use Rattle.std.specs.Int.{Width, byte_len, byte_at, bytes_low_first, to_le_bytes}
-use Rattle.las_header.specs.Bytes.{number_at}
-use Rattle.point_formats.proofs.Bytes.{byte_is, higher, over_one}
+use Rattle.byte_numbers.specs.Bytes.{number_at}
+use Rattle.byte_numbers.proofs.Pieces.{byte_is, higher, over_one}
 
 -- behind `at` bytes
 number_past : (n k at : ℕ) (xs ys : List ℕ) → length xs ≡ at → number_at (at + k) n (xs ++ ys) ≡ number_at k n ys

@@ -1,7 +1,7 @@
 use Rattle.std.proofs.Common.{refl, ap, ◌∙◌, ◌++◌, arith}
 use Rattle.std.specs.Int.{w32, to_le_bytes}
-use Rattle.las_header.proofs.Putting.{putting_none, putting_more, putting_all}
-use Rattle.las_header.proofs.writing.put_u32s.Goals as goal
+use Rattle.byte_numbers.proofs.Putting.{putting_none, putting_more, putting_all}
+use Rattle.byte_numbers.proofs.appending.put_u32s.Goals as goal
 
 pub loop-number-init : goal.loop-number-init
 loop-number-init g c = putting_none (to_le_bytes w32) 4 c.args.numbers.now c.args.part.now.items

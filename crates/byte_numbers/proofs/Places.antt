@@ -7,7 +7,7 @@ use Rattle.std.proofs.lemmas.List.{drop-drop, get_or-drop}
 use Rattle.std.proofs.lemmas.List.Concat.{flat_map-cons}
 use Rattle.std.proofs.lemmas.List.Elements.{All-head, All-tail}
 use Rattle.std.proofs.lemmas.Nat.{from_le_bytes-to_le_bytes_2, from_le_bytes-to_le_bytes_4, from_le_bytes-to_le_bytes_8}
-use Rattle.las_header.specs.Bytes.{number_at, numbers_at, piece}
+use Rattle.byte_numbers.specs.Bytes.{number_at, numbers_at, piece}
 
 -- a number at a place is the one at the begin of what stands from there on
 number_behind : (n k at : ℕ) (bytes : List ℕ) → number_at (at + k) n bytes ≡ number_at k n (drop at bytes)
