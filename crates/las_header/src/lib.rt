@@ -15,6 +15,3 @@ pub use form::Format;
 pub use reading::read_header;
 pub use scales::{scale_of_word, scales_have_their_words};
 pub use writing::write_header;
-
-#[cfg(test)]
-mod tests;

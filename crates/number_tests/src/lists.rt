@@ -1,7 +1,10 @@
 //! Records that are read and written, and lists that are refused.
 
-use crate::{VlrErr, VlrFault, VlrList, read_evlrs, read_vlrs, write_evlr, write_vlr};
 use file_devices::{MemIn, SureOut};
+use las_vlr::{
+    VlrErr, VlrFault, VlrList, read_evlrs, read_vlrs, write_evlr, write_vlr,
+    written_evlrs_are_read, written_vlrs_are_read,
+};
 use std::alloc::{AllocError, Global};
 use std::test::Fail;
 
@@ -66,6 +69,8 @@ fn records_are_read_and_written_back(rt: HostRuntime) -> Result<(), Fail> {
     assert_eq!(rt; written.len(), 119);
     assert!(rt; written.starts_with(&bytes[10..67]));
     assert!(rt; written.ends_with(&bytes[69..]));
+    written_vlrs_are_read();
+    written_evlrs_are_read();
     Ok(())
 }
 

@@ -1,7 +1,7 @@
 //! Header blocks and their first faults, nearly all from an independent reading of the standard.
 
-use crate::HeaderFault::*;
-use crate::{Axis, HeaderFault};
+use las_header::HeaderFault::*;
+use las_header::{Axis, HeaderFault};
 
 /// A field of the header block: its place and its bytes.
 #[derive(Clone, Copy)]

@@ -2,8 +2,11 @@
 
 mod blocks;
 
-use super::*;
 use blocks::{BLOCKS, CENT, FRONTS, Field};
+use las_header::{
+    Format, HeaderFault, ScaleFault, read_header, scale_of_word, scales_have_their_words,
+    write_header,
+};
 use std::test::Fail;
 
 fn set(bytes: &mut [u8; 375], at: usize, new: &[u8]) {
@@ -135,12 +138,16 @@ const SCALES: [(u64, Result<i64, ScaleFault>); 42] = [
     (0x7FF8_0000_0000_0000, Err(ScaleFault::NotDecimal)),
 ];
 
+fn scale_nano(word: u64) -> Result<i64, ScaleFault> {
+    scale_of_word(word).map(|scale| scale.nano())
+}
+
 #[test]
 fn a_scale_is_the_decimal_of_its_word(rt: HostRuntime) -> Result<(), Fail> {
     for &(word, nano) in &SCALES {
-        let scale = scale_of_word(word);
-        assert_eq!(rt; scale.map(|scale| scale.nano()), nano);
+        assert_eq!(rt; scale_nano(word), nano);
     }
+    scales_have_their_words();
     Ok(())
 }
 

@@ -1,8 +1,8 @@
 //! All places of a coordinate, and the lists of a file.
 
-use crate::LasReader;
 use cloud_points::{Make, Spread};
 use file_devices::MemIn;
+use las_reader::{LasReader, cut_is_the_first, steps_come_to_the_end, steps_give_file};
 use las_vlr::VlrList;
 use std::alloc::{AllocError, Global};
 use std::test::Fail;
@@ -68,6 +68,9 @@ fn an_offset_may_be_a_third(rt: HostRuntime) -> Result<(), Fail> {
         found = found.wrapping_add(1);
     }
     assert_eq!(rt; found, 1);
+    steps_give_file();
+    steps_come_to_the_end();
+    cut_is_the_first();
     Ok(())
 }
 

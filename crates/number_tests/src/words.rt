@@ -1,4 +1,9 @@
-use super::*;
+//! Words and decimals.
+
+use ieee_words::{
+    WordFault, decimal, decimal_is_one, decimal_of_word_is_decimal, near, near_word_is_nearest,
+    nearest_is_one, order_keeps_values, scale_is_one, scale_nano, word_order,
+};
 use std::test::Fail;
 
 // Expected values by exact fractions, those of the last rows of a table by an independent reading of the standard.
@@ -64,11 +69,15 @@ const NEAREST: [(i64, u32, u64); 55] = [
     (4_552_961_318_764_468_278, 9, 0x41F0_F60A_D26C_3B43),
 ];
 
+/// The word of a decimal with places that are taken.
+fn word_of(n: i64, k: u32) -> Option<u64> {
+    if k <= 9 { Some(near(n, k)) } else { None }
+}
+
 #[test]
 fn near_gives_the_nearest_word(rt: HostRuntime) -> Result<(), Fail> {
     for &(n, k, word) in &NEAREST {
-        assert!(rt; k <= 9);
-        assert_eq!(rt; near(n, k), word);
+        assert_eq!(rt; word_of(n, k), Some(word));
     }
     nearest_is_one();
     near_word_is_nearest();
@@ -142,11 +151,14 @@ const DECIMALS: [(u64, Result<(i64, bool), WordFault>); 60] = [
     (0xFC56_8C85_723A_BDB6, Err(WordFault::TooLarge)),
 ];
 
+fn decimal_of(word: u64) -> Result<(i64, bool), WordFault> {
+    decimal(word).map(|dec| (dec.nano, dec.exact))
+}
+
 #[test]
 fn decimal_is_short_where_it_can_be(rt: HostRuntime) -> Result<(), Fail> {
     for &(word, wanted) in &DECIMALS {
-        let found = decimal(word).map(|dec| (dec.nano, dec.exact));
-        assert_eq!(rt; found, wanted);
+        assert_eq!(rt; decimal_of(word), wanted);
     }
     decimal_is_one();
     decimal_of_word_is_decimal();

@@ -1,9 +1,9 @@
 //! Records, points and grids, nearly all from an independent reading of the standard.
 
-use crate::EncodeFault;
-use crate::EncodeFault::{NotHeld, ValueOutOfRange};
 use cloud_points::Dim;
 use las_header::Format;
+use point_formats::EncodeFault;
+use point_formats::EncodeFault::{NotHeld, ValueOutOfRange};
 
 /// A point of a file.
 pub(super) struct Row {

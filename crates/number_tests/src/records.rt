@@ -5,10 +5,10 @@ ghost use Rattle.point_formats.specs.Grids.{IsNear, IsNearOffset};
 
 mod rows;
 
-use super::*;
 use arrayvec::ArrayVec;
 use cloud_points::Point;
 use decimal_coords::Scale;
+use point_formats::{EncodeFault, Grid, decode, encode, numbers_return, records_are_whole};
 use rows::{DECODED, ENCODED, Row};
 use std::str::{FromStr, SplitWhitespace};
 use std::test::Fail;
