@@ -56,37 +56,3 @@ pub fn print_fixed(nano: i128, places: u32, out: &mut ArrayString<48>)
     }
     push_places(rounded, places, out);
 }
-
-#[cfg(test)]
-mod tests {
-    use super::*;
-    use std::test::Fail;
-
-    #[test]
-    fn print_fixed_rounds_half_away(rt: HostRuntime) -> Result<(), Fail> {
-        let texts = [
-            (-5_000_000, 2, "-0.01"),
-            (-4_999_999, 2, "0.00"),
-            (2_500_000_000, 0, "3"),
-            (-2_500_000_000, 0, "-3"),
-            (-499_999_999, 0, "0"),
-            (0, 9, "0.000000000"),
-            (-1, 9, "-0.000000001"),
-            (1, 8, "0.00000000"),
-            (5, 8, "0.00000001"),
-            (123_000_456_789, 9, "123.000456789"),
-            (i64::MAX as i128, 9, "9223372036.854775807"),
-            (i64::MIN as i128, 9, "-9223372036.854775808"),
-            (i64::MIN as i128, 0, "-9223372037"),
-            (i128::MIN, 9, "-170141183460469231731687303715.884105728"),
-            (i128::MAX, 0, "170141183460469231731687303716"),
-        ];
-        let mut out = ArrayString::new();
-        for (nano, places, text) in texts {
-            assert!(rt; places <= 9);
-            print_fixed(nano, places, &mut out);
-            assert_eq!(rt; out.as_str(), text);
-        }
-        Ok(())
-    }
-}

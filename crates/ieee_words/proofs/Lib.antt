@@ -6,6 +6,7 @@ pub mod Signed
 pub mod Unique
 pub mod Candidates
 pub mod Wholes
+pub mod Below
 pub mod Short
 pub mod Nanos
 pub mod OfWord

@@ -3,8 +3,7 @@ use Rattle.std.proofs.Common.{◌≡◌, ℕ, ◌+◌, ◌-◌, ◌*◌, ◌%◌
 use Rattle.std.specs.Prelude.{unsigned_abs}
 use Rattle.std.proofs.Math.Pow.{pow-add}
 use Rattle.std.proofs.lemmas.Bool.{cases_lt}
-use Rattle.std.proofs.lemmas.Int.{fits_signed_mul, to_z-of_z, to_z_pos, unsigned_abs-mul}
-use Rattle.std.proofs.lemmas.Nat.{mul-le}
+use Rattle.std.proofs.lemmas.Int.{fits_signed_mul, to_z-of_z, to_z_pos}
 use Rattle.ieee_words.specs.Word.{size_in_parts, IsFinite}
 use Rattle.ieee_words.specs.Near.{IsShort}
 use Rattle.ieee_words.specs.Sizes.{IsNearestCount}
@@ -32,16 +31,6 @@ fits_scaled n k p few h e =
   where
     product : (a b c : ℕ) → b * c ≡ 10 ^ 9 → 10 ^ 9 * b * c < 2 ^ 63
     product a b c q = let r = ap (λ x. 10 ^ 9 * x) q in omega arith
-
--- its size is at most 10 ^ 18
-pub scaled_size : (n : ℤ) (k p : ℕ) → k < 10 → unsigned_abs n ≤ 10 ^ 9 * 10 ^ k → p ≡ 10 ^ (9 - k) → unsigned_abs (n *ℤ pos p) ≤ 10 ^ 18
-scaled_size n k p few h e =
-    let t : 10 ^ k * 10 ^ (9 - k) ≡ 10 ^ 9 = sym (pow-add 10 k (9 - k)) ∙ ap (λ x. 10 ^ x) (let s : k + (9 - k) ≡ 9 = omega arith in s) in
-    let m : unsigned_abs n * p ≤ 10 ^ 9 * 10 ^ k * 10 ^ (9 - k) = mul-le (unsigned_abs n) p (10 ^ 9 * 10 ^ k) (10 ^ (9 - k)) h (omega arith) in
-    rw (unsigned_abs-mul n (pos p)) (product (unsigned_abs n * p) (10 ^ 9) (10 ^ k) (10 ^ (9 - k)) m t)
-  where
-    product : (s a b c : ℕ) → s ≤ a * b * c → b * c ≡ 10 ^ 9 → s ≤ a * 10 ^ 9
-    product s a b c l q = let r = ap (λ x. a * x) q in omega arith
 
 -- the product as the code computes it
 pub scaled_is : (n : ℤ) (k p : ℕ) → FitsSigned w64 n → k < 10 → unsigned_abs n ≤ 10 ^ 9 * 10 ^ k → p ≡ 10 ^ (9 - k) → p < 2 ^ 63 →

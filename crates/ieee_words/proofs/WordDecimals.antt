@@ -225,3 +225,27 @@ no_scale_of_word w none = go (short_at w 9) refl
       | inl t ↦ absurd (none (inside m t e))
       | inr t ↦ sym (cond-false (ltb 0 m && leb m (10 ^ 9)) _ _ t)
     ])
+
+pub scale_of_word_is : (w : ℕ) (n : ℤ) → scale_of_word w ≡ Some n → IsScaleOf w n
+unfolding scale_of_word
+scale_of_word_is w n e = go (short_at w 9) refl e
+  where
+    none_some : None ≡ Some n → ⊥
+    none_some f = cc
+
+    inside : (m : ℕ) → (ltb 0 m && leb m (10 ^ 9)) ≡ true → short_at w 9 ≡ Some (pos m) → IsScaleOf w (pos m)
+    inside m t s =
+        let p = and_parts (ltb 0 m) (leb m (10 ^ 9)) t in
+        let low : 1 ≤ m = leb-true 1 m p.0 in
+        let high : m ≤ 10 ^ 9 = leb-true m (10 ^ 9) p.1 in
+        record { low = omega (arith, ints); high = omega (arith, ints); near = (short_found w 9 (pos m) (omega arith) s).near }
+
+    go : (o : Option ℤ) → short_at w 9 ≡ o → in_scale o ≡ Some n → IsScaleOf w n
+    go None s f = absurd (none_some f)
+    go (Some (negsuc m)) s f = absurd (none_some f)
+    go (Some (pos m)) s f = elim (cases_Bool (ltb 0 m && leb m (10 ^ 9))) [
+      | inl t ↦
+          let g : Some (pos m) ≡ Some n = sym (cond-true (ltb 0 m && leb m (10 ^ 9)) _ _ t) ∙ f in
+          let q : pos m ≡ n = cc in subst (λ (z : ℤ). IsScaleOf w z) q (inside m t s)
+      | inr t ↦ absurd (none_some (sym (cond-false (ltb 0 m && leb m (10 ^ 9)) _ _ t) ∙ f))
+    ]

@@ -125,11 +125,11 @@ pub fn short_at(w: u64, k: u32) -> Option<i64>
 /// It is exact where some `n` of at most 15 digits and some `k` of at most 9 have the nearest word `w`:
 /// then it is `n / 10^k` for the least such `k`. Otherwise it is the whole number of nanounits nearest
 /// to the value, of two such numbers the even one. A word that is no finite number is refused, and so
-/// is a value with a size of 10^9 or more. So the decimal has a size of at most 10^18 nanounits.
+/// is a value with a size of 10^9 or more. So the decimal has a size below 10^18 nanounits.
 pub fn decimal(w: u64) -> Result<Dec, WordFault>
     ensures decimal { IsDecimalOf w result }
     ensures value { result ≡ decimal_of_word w }
-    ensures size { IfOk result (λ d. unsigned_abs d.nano ≤ 10 ^ 18) }
+    ensures size { IfOk result (λ d. unsigned_abs d.nano < 10 ^ 18) }
 {
     let size = w % (1 << 63);
     if size >= INFINITE {

@@ -38,6 +38,3 @@ pub fn nearest_is_one()
 pub fn near_word_is_nearest()
     ensures { NearWordIsNearest }
 {}
-
-#[cfg(test)]
-mod tests;

@@ -3,10 +3,10 @@ use Rattle.std.proofs.Common.{◌≡◌, ℕ, List, ◌++◌, drop, refl, ap, sy
 use Rattle.std.specs.Int.{to_le_bytes}
 use Rattle.std.specs.List.{flat_map}
 use Rattle.las_header.specs.declared.block.Header.{Header}
-use Rattle.las_header.specs.Bytes.{number_at, numbers_at}
+use Rattle.byte_numbers.specs.Bytes.{number_at, numbers_at}
 use Rattle.las_header.specs.Sizes.{HasCountSizes}
 use Rattle.las_header.specs.Written.{count_part}
-use Rattle.las_header.proofs.Places.{behind, four_is, eight_is, eights_are}
+use Rattle.byte_numbers.proofs.Places.{behind, four_is, eight_is, eights_are}
 
 pub record CountFields (h : Header) (bytes : List ℕ) : Type 0 where
   pub waveform : number_at 227 8 bytes ≡ h.waveform

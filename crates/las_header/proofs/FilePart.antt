@@ -2,10 +2,10 @@
 use Rattle.std.proofs.Common.{◌≡◌, ℕ, List, [], ◌∷◌, ◌++◌, drop, refl, ◌∙◌, append_assoc, w16}
 use Rattle.std.specs.Int.{to_le_bytes}
 use Rattle.las_header.specs.declared.block.Header.{Header}
-use Rattle.las_header.specs.Bytes.{number_at, piece}
+use Rattle.byte_numbers.specs.Bytes.{number_at, piece}
 use Rattle.las_header.specs.Sizes.{HasFileSizes}
 use Rattle.las_header.specs.Written.{file_part}
-use Rattle.las_header.proofs.Places.{behind, piece_is, byte_is, two_is}
+use Rattle.byte_numbers.proofs.Places.{behind, piece_is, byte_is, two_is}
 
 pub record FileFields (h : Header) (bytes rest : List ℕ) : Type 0 where
   pub signature : piece 0 4 bytes ≡ h.signature

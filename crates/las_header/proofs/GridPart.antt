@@ -9,14 +9,14 @@ use Rattle.ieee_words.specs.NearWord.{near_word}
 use Rattle.ieee_words.proofs.NearWords.{near_word_is}
 use Rattle.las_header.specs.declared.block.Header.{Header}
 use Rattle.las_header.specs.declared.faults.Axis.TheVariants.{X, Y, Z}
-use Rattle.las_header.specs.Bytes.{number_at, numbers_at}
+use Rattle.byte_numbers.specs.Bytes.{number_at, numbers_at}
 use Rattle.las_header.specs.Headers.{scale_on, scales_of, offset_on, offsets_of}
 use Rattle.las_header.specs.ScaleWords.{scale_read}
 use Rattle.las_header.specs.Sizes.{HasGridSizes}
 use Rattle.las_header.specs.Steps.{◌>>=◌}
 use Rattle.las_header.specs.WordOffsets.{IsWordOffset}
 use Rattle.las_header.specs.Written.{scale_bytes, nano_bytes, grid_part}
-use Rattle.las_header.proofs.Places.{behind, eight_is, eights_are, first_of, length_all}
+use Rattle.byte_numbers.proofs.Places.{behind, eight_is, eights_are, first_of, length_all}
 use Rattle.las_header.proofs.Words.{scale_is_read, offset_is_read}
 
 pub record GridFields (h : Header) (bytes rest : List ℕ) : Type 0 where

@@ -1,6 +1,4 @@
 pub mod ScaleLemmas
-pub mod Putting
-pub mod Places
 pub mod FilePart
 pub mod RecordPart
 pub mod ShortWords
@@ -9,3 +7,4 @@ pub mod GridPart
 pub mod CountPart
 pub mod Standing
 pub mod ReadBack
+pub mod ScaleLaw

@@ -5,7 +5,7 @@ use Rattle.std.proofs.lemmas.Bool.{le-leb}
 use Rattle.las_header.specs.declared.block.Header.{Header}
 use Rattle.las_header.specs.declared.form.Format.{Format}
 use Rattle.las_header.specs.declared.faults.HeaderFault.TheVariants.{NotLas, VersionNotRead, HeaderSize, Compressed, RecordTooShort, PointsInHeader}
-use Rattle.las_header.specs.Bytes.{number_at}
+use Rattle.byte_numbers.specs.Bytes.{number_at}
 use Rattle.las_header.specs.Formats.{format_of, format_size}
 use Rattle.las_header.specs.Headers.{has_signature, has_version, has_block, holds_fields, has_points_behind, format_known, record_format, format_in, header_with, header_of}
 use Rattle.las_header.specs.Standing.{Stands, HasNoFault}

@@ -3,11 +3,11 @@ use Rattle.std.proofs.Common.{◌≡◌, ℕ, List, [], ◌∷◌, ◌++◌, len
 use Rattle.std.specs.Int.{to_le_bytes}
 use Rattle.std.specs.List.{flat_map}
 use Rattle.las_header.specs.declared.block.Header.{Header}
-use Rattle.las_header.specs.Bytes.{number_at, numbers_at}
+use Rattle.byte_numbers.specs.Bytes.{number_at, numbers_at}
 use Rattle.las_header.specs.Formats.{format_number}
 use Rattle.las_header.specs.Sizes.{HasRecordSizes}
 use Rattle.las_header.specs.Written.{record_part}
-use Rattle.las_header.proofs.Places.{behind, byte_is, two_is, four_is, fours_are, length_all}
+use Rattle.byte_numbers.proofs.Places.{behind, byte_is, two_is, four_is, fours_are, length_all}
 
 pub record RecordFields (h : Header) (bytes rest : List ℕ) : Type 0 where
   pub header_size : number_at 94 2 bytes ≡ h.header_size

@@ -13,7 +13,7 @@ use Rattle.las_header.specs.declared.faults.ScaleFault.{ScaleFault}
 use Rattle.las_header.specs.declared.faults.ScaleFault.TheVariants.{NotPositive, NotDecimal}
 use Rattle.las_header.specs.declared.form.Format.{Format}
 use Rattle.las_header.specs.declared.block.Header.{Header}
-use Rattle.las_header.specs.Bytes.{number_at, numbers_at, piece}
+use Rattle.byte_numbers.specs.Bytes.{number_at, numbers_at, piece}
 use Rattle.las_header.specs.Formats.{format_of, format_size}
 use Rattle.las_header.specs.ScaleWords.{scale_read}
 use Rattle.las_header.specs.Steps.{◌>>=◌, wants}

@@ -1,4 +1,3 @@
-pub mod Bytes
 pub mod Formats
 pub mod ScaleWords
 pub mod Steps
@@ -10,3 +9,4 @@ pub mod Written
 pub mod Sizes
 pub mod WordOffsets
 pub mod Standing
+pub mod ScaleLaw

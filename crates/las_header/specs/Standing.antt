@@ -1,7 +1,7 @@
 -- The bytes that stand for a header.
 use Rattle.std.specs.Prelude.{◌≡◌, ℕ, ◌≤◌, List, length, codes, Some, Ok}
 use Rattle.las_header.specs.declared.block.Header.{Header}
-use Rattle.las_header.specs.Bytes.{number_at}
+use Rattle.byte_numbers.specs.Bytes.{number_at}
 use Rattle.las_header.specs.Formats.{format_of, format_size}
 use Rattle.las_header.specs.Headers.{scales_of, offsets_of, header_with}
 

@@ -45,7 +45,7 @@ pub struct Header {
     pub legacy_returns: [u32; 5],
     /// X, Y and Z Scale Factor.
     pub scale: [Scale; 3],
-    /// X, Y and Z Offset, in nanounits; those that are read are at most 10^18 in size.
+    /// X, Y and Z Offset, in nanounits; those that are read are below 10^18 in size.
     pub offset: [i64; 3],
     /// Max X, Min X, Max Y, Min Y, Max Z and Min Z, as binary64 words.
     pub bounds: [u64; 6],

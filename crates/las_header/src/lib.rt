@@ -5,7 +5,6 @@
 mod block;
 mod faults;
 mod form;
-mod numbers;
 mod reading;
 mod scales;
 mod writing;
@@ -14,8 +13,5 @@ pub use block::Header;
 pub use faults::{Axis, HeaderFault, ScaleFault};
 pub use form::Format;
 pub use reading::read_header;
-pub use scales::scale_of_word;
+pub use scales::{scale_of_word, scales_have_their_words};
 pub use writing::write_header;
-
-#[cfg(test)]
-mod tests;

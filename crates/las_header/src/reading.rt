@@ -1,17 +1,18 @@
 //! Reads the header.
 
-ghost use Rattle.std.specs.Prelude.{◌≡◌, ◌+◌, ◌≤◌, length, IfOk, OnOk};
+ghost use Rattle.std.specs.Prelude.{◌≡◌, ◌+◌, ◌≤◌, length, Some, IfOk, OnOk};
 ghost use Rattle.ieee_words.specs.DecimalOfWord.{decimal_of_word};
-ghost use Rattle.las_header.specs.Bytes.{number_at, numbers_at};
+ghost use Rattle.byte_numbers.specs.Bytes.{number_at, numbers_at};
 ghost use Rattle.las_header.specs.Headers.{has_signature, has_version, has_block, holds_fields, has_points_behind, record_format, format_in, scale_on, scales_of, offset_on, offsets_of, header_with, header_of};
-ghost use Rattle.las_header.specs.Formats.{format_size};
+ghost use Rattle.las_header.specs.Formats.{format_of, format_size};
 ghost use Rattle.las_header.specs.Offsets.{IsOffset};
 ghost use Rattle.las_header.specs.ScaleWords.{scale_read};
 ghost use Rattle.las_header.specs.Sound.{IsSound};
+ghost use Rattle.las_header.specs.Standing.{Stands};
 ghost use Rattle.std.specs.List.{All};
 
-use crate::numbers::{piece_at, u8_at, u16_at, u32_at, u64_at};
 use crate::{Axis, Format, Header, HeaderFault, ScaleFault, scale_of_word};
+use byte_numbers::{piece_at, u8_at, u16_at, u32_at, u64_at};
 use decimal_coords::Scale;
 use ieee_words::decimal;
 
@@ -48,6 +49,7 @@ fn has_points_behind(bytes: &[u8]) -> bool
 fn record_format(bytes: &[u8]) -> Result<Format, HeaderFault>
     requires { HEADER_SIZE ≤ length bytes.now }
     ensures value { result ≡ record_format bytes.now }
+    ensures known { IfOk result (λ format. format_of (number_at 104 1 bytes.now) ≡ Some format) }
     ensures long { IfOk result (λ format. format_size format ≤ number_at 105 2 bytes.now) }
     ensures behind { OnOk result (number_at 94 2 bytes.now ≤ number_at 96 4 bytes.now) }
 {
@@ -72,6 +74,7 @@ fn format_in(bytes: &[u8]) -> Result<Format, HeaderFault>
     ensures value { result ≡ format_in bytes.now }
     ensures block { OnOk result (HEADER_SIZE ≤ length bytes.now) }
     ensures size { OnOk result (HEADER_SIZE ≤ number_at 94 2 bytes.now) }
+    ensures known { IfOk result (λ format. format_of (number_at 104 1 bytes.now) ≡ Some format) }
     ensures long { IfOk result (λ format. format_size format ≤ number_at 105 2 bytes.now) }
     ensures behind { OnOk result (number_at 94 2 bytes.now ≤ number_at 96 4 bytes.now) }
 {
@@ -189,6 +192,7 @@ fn header_with(format: Format, scale: [Scale; 3], offset: [i64; 3], bytes: &[u8]
     ensures size { result.header_size ≡ number_at 94 2 bytes.now }
     ensures points_at { result.points_at ≡ number_at 96 4 bytes.now }
     ensures format { result.format ≡ format }
+    ensures scale { result.scale ≡ scale }
     ensures record_length { result.record_length ≡ number_at 105 2 bytes.now }
     ensures offset { result.offset ≡ offset }
 {
@@ -223,11 +227,13 @@ fn header_with(format: Format, scale: [Scale; 3], offset: [i64; 3], bytes: &[u8]
 
 /// The header that the first 375 bytes of a file stand for, or its first fault. `bytes` are these 375 bytes, or all
 /// of a shorter file. The header's size is at least 375 bytes, its points begin behind it, their records have the bytes
-/// of their format's fields, and its offsets have a size of at most 10^18 nanounits.
+/// of their format's fields, and its offsets have a size below 10^18 nanounits. `Stands` says that the bytes, where they
+/// are no more than these 375, stand for the header field by field.
 #[tactic(auto, unfolding(crate::specs::Headers::header_of))]
 pub fn read_header(bytes: &[u8]) -> Result<Header, HeaderFault>
     ensures value { result ≡ header_of bytes.now }
     ensures sound { IfOk result IsSound }
+    ensures stands { IfOk result (λ header. length bytes.now ≤ 375 → Stands bytes.now header) }
 {
     let format = format_in(bytes)?;
     let scale = scales(bytes)?;

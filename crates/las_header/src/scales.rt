@@ -1,6 +1,7 @@
 //! The scale factors of the header.
 
 ghost use Rattle.std.specs.Prelude.{◌≡◌};
+ghost use Rattle.las_header.specs.ScaleLaw.{ScalesHaveTheirWords};
 ghost use Rattle.las_header.specs.ScaleWords.{IsScaleRead, scale_read};
 
 use crate::ScaleFault;
@@ -26,3 +27,10 @@ pub fn scale_of_word(w: u64) -> Result<Scale, ScaleFault>
         None => Err(ScaleFault::NotDecimal),
     }
 }
+
+/// The law that the scales which are read are the decimals from 10^-9 to 1, of at most nine places, whose nearest words
+/// stand at the places of X, Y and Z, that no other such decimal has one of these words, and that they are read wherever
+/// such words stand there.
+pub fn scales_have_their_words()
+    ensures { ScalesHaveTheirWords }
+{}

@@ -12,41 +12,9 @@ ghost use Rattle.las_header.specs.Written.{nano_bytes, scale_bytes, file_part, r
 
 use crate::Header;
 use arrayvec::ArrayVec;
+use byte_numbers::{put, put_u32s, put_u64s};
 use decimal_coords::Scale;
 use ieee_words::near;
-
-fn put<const CAP: usize>(part: &mut ArrayVec<u8, CAP>, bytes: &[u8])
-    requires { array_vec_len part.old + length bytes.now ≤ CAP }
-    ensures items { part.new.items ≡ part.old.items ++ bytes.now }
-    ensures len { array_vec_len part.new ≡ array_vec_len part.old + length bytes.now }
-{
-    match part.try_extend_from_slice(bytes) {
-        Ok(()) => (),
-        Err(_) => unreachable!(),
-    }
-}
-
-fn put_u32s<const CAP: usize>(part: &mut ArrayVec<u8, CAP>, numbers: &[u32])
-    requires { array_vec_len part.old + 4 * length numbers.now ≤ CAP }
-    ensures items { part.new.items ≡ part.old.items ++ flat_map (to_le_bytes w32) numbers.now }
-    ensures len { array_vec_len part.new ≡ array_vec_len part.old + 4 * length numbers.now }
-    ensures fits { All (λ n. n < 2 ^ 32) numbers.now }
-{
-    for number in numbers {
-        put(part, &number.to_le_bytes());
-    }
-}
-
-fn put_u64s<const CAP: usize>(part: &mut ArrayVec<u8, CAP>, numbers: &[u64])
-    requires { array_vec_len part.old + 8 * length numbers.now ≤ CAP }
-    ensures items { part.new.items ≡ part.old.items ++ flat_map (to_le_bytes w64) numbers.now }
-    ensures len { array_vec_len part.new ≡ array_vec_len part.old + 8 * length numbers.now }
-    ensures fits { All (λ n. n < 2 ^ 64) numbers.now }
-{
-    for number in numbers {
-        put(part, &number.to_le_bytes());
-    }
-}
 
 fn put_scales<const CAP: usize>(part: &mut ArrayVec<u8, CAP>, scales: &[Scale])
     requires { array_vec_len part.old + 8 * length scales.now ≤ CAP }

@@ -3,3 +3,5 @@ pub mod Wholes
 pub mod Readings
 pub mod Steps
 pub mod Openings
+pub mod Cuts
+pub mod Following

@@ -103,13 +103,15 @@ one_more header k b before ps p were is =
     ∙ ap (λ q. before ++ (points_from header 0 k b ++ q ∷ [])) (is ∙ ap (point_of header) (record_is header.record_length k b))
     ∙ ap (λ l. before ++ l) (sym (points_more header 0 k b))
 
--- the points of the first k records stand behind others
-pub record Decoded (header : Header) (k : ℕ) (records : List ℕ) (before points : List Point) (size_before size : ℕ) : Type 0 where
+-- the points of the first k records stand behind others, in a list of at least so many
+pub record Decoded (header : Header) (k : ℕ) (records : List ℕ) (before points : List Point) (at size : ℕ) : Type 0 where
   pub points_are : points ≡ before ++ points_from header 0 k records
-  pub size_is : size ≡ size_before + k
+  pub there : at + k ≤ size
 
-pub decoded_none : (header : Header) (records : List ℕ) (before : List Point) (size : ℕ) → Decoded header 0 records before before size size
-decoded_none header records before size = record {
-  points_are = sym (ap (λ l. before ++ l) (points_none header 0 records) ∙ append-nil before);
-  size_is = omega arith;
-}
+pub decoded_none : (header : Header) (records : List ℕ) (at : ℕ) (items : List Point) (size : ℕ) → at ≤ size → Decoded header 0 records (take at items) (take (at + 0) items) at size
+decoded_none header records at items size h =
+    let same : at + 0 ≡ at = omega arith in
+    record {
+      points_are = ap (λ n. take n items) same ∙ sym (ap (λ l. take at items ++ l) (points_none header 0 records) ∙ append-nil (take at items));
+      there = omega arith;
+    }

@@ -2,12 +2,11 @@
 //! points, a chunk at a time.
 #![tactic(auto)]
 
+mod laws;
 mod opening;
 mod reader;
 mod records;
 
+pub use laws::{cut_is_the_first, steps_come_to_the_end, steps_give_file};
 pub use opening::OpenErr;
 pub use reader::{LasReader, Progress};
-
-#[cfg(test)]
-mod tests;

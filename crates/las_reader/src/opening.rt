@@ -4,6 +4,7 @@ ghost use Rattle.std.specs.Prelude.{◌≡◌, ◌≢◌, ◌≤◌, ℕ, List, 
 ghost use Rattle.file_devices.specs.Counts.{Rose};
 ghost use Rattle.las_header.specs.Sound.{IsSound};
 ghost use Rattle.las_reader.specs.Frames.{header_in, frame_of};
+ghost use Rattle.las_reader.specs.Lists.{HasLists};
 ghost use Rattle.las_reader.specs.Opening.{IsOpening, opening_of};
 
 use file_devices::{Source, fill};
@@ -74,6 +75,7 @@ fn read_block<S: Source>(source: &mut S) -> Result<Header, OpenErr>
 pub(crate) fn read_frame<S: Source>(alloc: Global, source: &mut S) -> Result<Frame, OpenErr>
     ensures ok { IfOk result (λ frame. (file : List ℕ) → S.bytes source.old ≡ Some file → frame_of file ≡ Ok frame) }
     ensures sound { IfOk result (λ frame. IsSound frame.header) }
+    ensures lists { IfOk result (λ frame. HasLists frame.header frame.vlrs frame.evlrs) }
     ensures err { IfErr result (λ e. (file : List ℕ) → S.bytes source.old ≡ Some file → IsOpening (frame_of file) e) }
     ensures failed { IfErr result (λ e. e ≡ OpenErr.ReadFailed → Rose (S.faults source.old) (S.faults source.new)) }
     ensures later { S.faults source.old ≤ S.faults source.new }

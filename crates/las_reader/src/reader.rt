@@ -1,13 +1,15 @@
 //! The reader.
 
-ghost use Rattle.std.specs.Prelude.{◌≡◌, ◌^◌, ◌<◌, ◌≤◌, ℕ, List, [], max, Some, Ok, IfOk, IfErr, vec_len};
+ghost use Rattle.std.specs.Prelude.{◌≡◌, ◌^◌, ◌<◌, ◌≤◌, ℕ, List, [], length, max, Some, Ok, IfOk, IfErr, vec_len};
 ghost use Rattle.las_header.specs.Counts.{points_in};
 ghost use Rattle.las_header.specs.Sound.{IsSound};
 ghost use Rattle.las_reader.specs.Frames.{frame_of};
 ghost use Rattle.las_reader.specs.Files.{las_with};
+ghost use Rattle.las_reader.specs.Lists.{HasLists};
 ghost use Rattle.las_reader.specs.Opening.{IsOpening, IsOpened};
 ghost use Rattle.las_reader.specs.Reading.{IsStep, Moves, step_of, read_failed, asked_to};
 ghost use Rattle.file_devices.specs.Counts.{Rose};
+ghost use Rattle.las_vlr.specs.Limits.{AreHeldVlrs, AreHeldEvlrs};
 
 use crate::OpenErr;
 use crate::opening::{Frame, read_frame};
@@ -43,17 +45,22 @@ pub struct LasReader<S> {
     ghost room: { header.record_length ≤ vec_len buffer },
     ghost few: { vec_len buffer ≤ 65536 },
     ghost sound: { IsSound header },
+    ghost lists: { HasLists header vlrs evlrs },
 }
 
 impl<S: Source> LasReader<S> {
     /// Opens a LAS file: reads its header block, its VLRs and its EVLRs. Where it has no EVLRs, no byte of the points is
     /// asked for.
     ///
+    /// Whatever the source tells, both lists are within their limits and as long as the header counts: at most 4,096 records,
+    /// payloads of at most 16,777,216 bytes together, and of a VLR at most 65,535 bytes.
+    ///
     /// A refusal gives the source back. It is `Header` or else `Vlr` where the file's bytes are at fault, `ReadFailed` only
     /// where a read failed, and `Memory` where there is none for the lists or for the records of a chunk.
     pub fn begin(alloc: Global, source: S) -> Result<LasReader<S>, (S, OpenErr)>
         ensures ok { IfOk result (λ r. (file : List ℕ) → S.bytes source ≡ Some file → frame_of file ≡ Ok (record { header = r.header; vlrs = r.vlrs; evlrs = r.evlrs })) }
         ensures start { IfOk result (λ r. r.progress ≡ Progress.Records 0) }
+        ensures lists { IfOk result (λ r. HasLists r.header r.vlrs r.evlrs) }
         ensures source { IfOk result (λ r. IsOpened (S.bytes source) (S.bytes r.source) (S.faults source) (S.faults r.source)) }
         ensures in_front { IfOk result (λ r. r.header.evlrs ≡ 0 → S.reached r.source ≤ max (S.reached source) r.header.points_at) }
         ensures err { IfErr result (λ e. (file : List ℕ) → S.bytes source ≡ Some file → IsOpening (frame_of file) e.1) }
@@ -89,16 +96,20 @@ impl<S: Source> LasReader<S> {
         &self.header
     }
 
-    /// The VLRs of the file.
+    /// The VLRs of the file, which are within their limits and as many as the header counts.
     pub fn vlrs(&self) -> &VlrList
-        ensures { result.now ≡ self.now.vlrs }
+        ensures value { result.now ≡ self.now.vlrs }
+        ensures held { AreHeldVlrs result.now }
+        ensures count { length result.now ≡ self.now.header.vlrs }
     {
         &self.vlrs
     }
 
-    /// The EVLRs of the file.
+    /// The EVLRs of the file, which are within their limits and as many as the header counts.
     pub fn evlrs(&self) -> &VlrList
-        ensures { result.now ≡ self.now.evlrs }
+        ensures value { result.now ≡ self.now.evlrs }
+        ensures held { AreHeldEvlrs result.now }
+        ensures count { length result.now ≡ self.now.header.evlrs }
     {
         &self.evlrs
     }

@@ -1,6 +1,6 @@
 //! Reads point data records.
 
-ghost use Rattle.std.specs.Prelude.{◌≡◌, ◌+◌, ◌*◌, ◌^◌, ◌<◌, ◌≤◌, ◌++◌, ℕ, List, [], length, max, min, Some, IfOk, IfSome, IfNone, OnOk, vec_len};
+ghost use Rattle.std.specs.Prelude.{◌≡◌, ◌+◌, ◌*◌, ◌^◌, ◌<◌, ◌≤◌, ◌++◌, ◌∷◌, ℕ, List, [], length, take, max, min, Some, IfOk, IfSome, IfNone, OnOk, vec_len};
 ghost use Rattle.arrayvec.specs.ArrayVec.{array_vec_len};
 ghost use Rattle.file_devices.specs.Counts.{HasCause};
 ghost use Rattle.las_header.specs.Sound.{IsSound};
@@ -75,23 +75,77 @@ fn point_of(header: &Header, grid: &Grid, bytes: &[u8]) -> Point
     decode(header.format, bytes, grid)
 }
 
-/// Puts the points of `count` records, one after another, behind those of a spread.
-fn decode_behind(header: &Header, records: &[u8], count: usize, into: &mut Spread)
+/// Puts a point at a place of a spread: over the one that is there, or else behind all.
+fn put_at(point: Point, at: usize, into: &mut Spread)
+    requires place { at ≤ array_vec_len into.old }
+    requires room { at < 64 }
+    ensures items { take (at + 1) into.new.items ≡ take at into.old.items ++ point ∷ [] }
+    ensures len { at + 1 ≤ array_vec_len into.new }
+{
+    if at < into.len() {
+        into.as_mut_slice()[at] = point;
+    } else {
+        into.push(point);
+    }
+}
+
+/// Puts the points of `count` records, one after another, into a spread from a place on: over those that are there, and
+/// then behind them.
+fn decode_from(header: &Header, records: &[u8], count: usize, at: usize, into: &mut Spread)
     requires sound { IsSound header.now }
-    requires room { array_vec_len into.old + count ≤ 64 }
+    requires place { at ≤ array_vec_len into.old }
+    requires room { at + count ≤ 64 }
     requires whole { header.now.record_length * count ≤ length records.now }
-    ensures items { into.new.items ≡ into.old.items ++ points_from header.now 0 count records.now }
-    ensures len { array_vec_len into.new ≡ array_vec_len into.old + count }
+    ensures items { take (at + count) into.new.items ≡ take at into.old.items ++ points_from header.now 0 count records.now }
+    ensures len { at + count ≤ array_vec_len into.new }
 {
     let grid = Grid::of(header);
     let size = header.record_length as usize;
     for k in 0..count {
-        into.push(point_of(header, &grid, &records[size * k..size * k + size]));
+        let point = point_of(header, &grid, &records[size * k..size * k + size]);
+        put_at(point, at + k, into);
     }
+}
+
+/// Puts the points of at most `most` records from number `given` on over what a spread holds, and answers how many they
+/// are. They are fewer only where the file ends before the next record is whole.
+fn read_over<S: Source>(
+    source: &mut S,
+    header: &Header,
+    given: u64,
+    most: usize,
+    buffer: &mut [u8],
+    into: &mut Spread,
+) -> Result<usize, Failed>
+    requires sound { IsSound header.now }
+    requires few { most ≤ 64 }
+    requires end { given + most < 2 ^ 64 }
+    requires room { header.now.record_length ≤ length buffer.old }
+    ensures points { IfOk result (λ n. (file : List ℕ) → S.bytes source.old ≡ Some file → HasPoints header.now file given most (take n into.new.items)) }
+    ensures most { IfOk result (λ n. n ≤ most) }
+    ensures there { IfOk result (λ n. n ≤ array_vec_len into.new) }
+    ensures reached { S.reached source.new ≤ max (S.reached source.old) (header.now.points_at + header.now.record_length * (given + most)) }
+    ensures bytes { S.bytes source.new ≡ S.bytes source.old }
+    ensures cause { HasCause (S.faults source.old) (S.faults source.new) result }
+{
+    let held = buffer.len() / header.record_length as usize;
+    let mut done = 0;
+    while done < most {
+        let wanted = (most - done).min(held);
+        let whole = read_records(source, header, given + done as u64, wanted, buffer)?;
+        decode_from(header, buffer, whole, done, into);
+        done += whole;
+        if whole < wanted {
+            return Ok(done);
+        }
+    }
+    Ok(done)
 }
 
 /// Puts the points of at most `most` records from number `given` on in place of what a spread holds. They are fewer
 /// only where the file ends before the next record is whole.
+///
+/// It writes over the points that are there, since a spread that is emptied blanks them.
 pub(crate) fn read_points<S: Source>(
     source: &mut S,
     header: &Header,
@@ -110,16 +164,7 @@ pub(crate) fn read_points<S: Source>(
     ensures bytes { S.bytes source.new ≡ S.bytes source.old }
     ensures cause { HasCause (S.faults source.old) (S.faults source.new) result }
 {
-    into.clear();
-    let held = buffer.len() / header.record_length as usize;
-    while into.len() < most {
-        let wanted = (most - into.len()).min(held);
-        let number = given + into.len() as u64;
-        let whole = read_records(source, header, number, wanted, buffer)?;
-        decode_behind(header, buffer, whole, into);
-        if whole < wanted {
-            return Ok(());
-        }
-    }
+    let count = read_over(source, header, given, most, buffer, into)?;
+    into.truncate(count);
     Ok(())
 }

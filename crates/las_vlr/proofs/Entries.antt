@@ -4,7 +4,7 @@ use Rattle.std.specs.Int.{to_le_bytes, from_le_bytes}
 use Rattle.std.proofs.Math.Seq.{drop-append-add, take-append_seam}
 use Rattle.std.proofs.lemmas.List.{get_or-append-add}
 use Rattle.std.proofs.lemmas.Nat.{from_le_bytes-to_le_bytes_2, from_le_bytes-to_le_bytes_8}
-use Rattle.las_vlr.specs.Bytes.{number_at, piece}
+use Rattle.byte_numbers.specs.Bytes.{number_at, piece}
 use Rattle.las_vlr.specs.Vlrs.{entry_of}
 use Rattle.las_vlr.specs.Written.{HasSizes, vlr_bytes, evlr_bytes}
 use Rattle.las_vlr.specs.declared.entry.Vlr.{Vlr}

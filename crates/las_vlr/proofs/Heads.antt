@@ -1,32 +1,14 @@
 -- A record by its head and its payload.
-use Rattle.std.proofs.Common.{◌≡◌, ℕ, zero, suc, ◌+◌, ◌-◌, ◌*◌, ◌<◌, ◌≤◌, nat_lt, true, false, List, take, drop, get_or, slice_index, Some, None, refl, ap, sym, ◌∙◌, arith, drop-drop}
-use Rattle.std.proofs.lemmas.List.{drop-take, take-take, get_or-take}
+use Rattle.std.proofs.Common.{◌≡◌, ℕ, ◌+◌, ◌<◌, ◌≤◌, nat_lt, true, false, List, take, drop, Some, None, refl, ap, sym, ◌∙◌, arith, drop-drop}
 use Rattle.std.proofs.lemmas.Bool.{lt-ltb, le-ltb}
-use Rattle.las_vlr.specs.Bytes.{number_at, piece}
+use Rattle.byte_numbers.specs.Bytes.{piece}
+use Rattle.byte_numbers.proofs.Fronts.{number_front, piece_front}
 use Rattle.las_vlr.specs.Vlrs.{head_size, payload_length, entry_size, entry_of, past, entry_fault, IsFault}
 use Rattle.las_vlr.specs.declared.entry.Form.{Form}
 use Rattle.las_vlr.specs.declared.entry.Form.TheVariants.{Plain, Extended}
 use Rattle.las_vlr.specs.declared.entry.VlrFault.TheVariants.{TooManyVlrs}
 use Rattle.las_vlr.specs.declared.entry.VlrErr.{VlrErr}
 use Rattle.las_vlr.specs.declared.entry.VlrErr.TheVariants.{Fault, ReadFailed, Memory}
-
--- numbers and pieces of two lists with the same front
-number_front : (n i m : ℕ) (a b : List ℕ) → i + n ≤ m → take m a ≡ take m b → number_at i n a ≡ number_at i n b
-number_front zero i m a b h e = refl
-number_front (suc n) i m a b h e =
-    let inside : i < m = omega arith in
-    let rest : i + 1 + n ≤ m = omega arith in
-    let here : slice_index a i ≡ slice_index b i = sym (get_or-take m a i 0 inside) ∙ ap (λ l. get_or l i 0) e ∙ get_or-take m b i 0 inside in
-    ap (λ x. x + 256 * number_at (i + 1) n a) here ∙ ap (λ x. slice_index b i + 256 * x) (number_front n (i + 1) m a b rest e)
-
-piece_of_front : (i n m : ℕ) (a : List ℕ) → i + n ≤ m → piece i n (take m a) ≡ piece i n a
-piece_of_front i n m a h =
-    let split : m ≡ i + (m - i) = omega arith in
-    let enough : n ≤ m - i = omega arith in
-    ap (λ k. take n (drop i (take k a))) split ∙ ap (take n) (drop-take i (m - i) a) ∙ take-take n (m - i) (drop i a) enough
-
-piece_front : (i n m : ℕ) (a b : List ℕ) → i + n ≤ m → take m a ≡ take m b → piece i n a ≡ piece i n b
-piece_front i n m a b h e = sym (piece_of_front i n m a h) ∙ ap (piece i n) e ∙ piece_of_front i n m b h
 
 pub same_length : (form : Form) (a b : List ℕ) → take (head_size form) a ≡ take (head_size form) b → payload_length form a ≡ payload_length form b
 same_length (Plain points_at) a b e = number_front 2 20 54 a b (omega arith) e

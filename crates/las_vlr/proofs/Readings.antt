@@ -1,6 +1,11 @@
 -- Records that are read one after another.
-use Rattle.std.proofs.Common.{◌≡◌, ℕ, suc, ◌+◌, ◌-◌, ◌<◌, ◌≤◌, nat_lt, false, List, [], ◌∷◌, ◌++◌, drop, Option, Some, None, Result, Ok, Err, refl, ap, sym, ◌∙◌, arith, append_assoc, append-nil}
+use Rattle.std.proofs.Common.{◌≡◌, ℕ, suc, ◌+◌, ◌-◌, ◌<◌, ◌≤◌, nat_lt, false, List, [], ◌∷◌, ◌++◌, drop, Option, Some, None, Result, Ok, Err, refl, ap, sym, ◌∙◌, arith, append_assoc, append-nil, length, length-append}
 use Rattle.std.proofs.lemmas.Bool.{le-ltb}
+use Rattle.std.specs.List.{All, sum_by}
+use Rattle.std.proofs.lemmas.List.Elements.{All-nil, All-cons, All-append}
+use Rattle.std.proofs.lemmas.List.Sums.{sum_by_push}
+use Rattle.las_vlr.specs.Limits.{IsOf, AreHeld}
+use Rattle.las_vlr.specs.Written.{payload_size}
 use Rattle.las_vlr.specs.Vlrs.{head_size, payload_length, entry_of, entry_fault, behind, entries_from, entries, IsFault, IsRefusal, IsInFront}
 use Rattle.las_vlr.specs.declared.entry.Vlr.{Vlr}
 use Rattle.las_vlr.specs.declared.entry.Form.{Form}
@@ -30,6 +35,9 @@ pub record Reading (form : Form) (count start number at before : ℕ) (told now 
   pub in_front : IsInFront form reached_before reached
   pub unread : number ≡ 0 → reached ≡ reached_before
   pub room : before ≤ 16777216
+  pub so_many : length vlrs ≡ number
+  pub payloads : sum_by payload_size vlrs ≡ before
+  pub each : All (IsOf form) vlrs
 
 pub in_front_none : (form : Form) (r : ℕ) → IsInFront form r r
 in_front_none (Plain points_at) r = omega arith
@@ -47,6 +55,9 @@ reading_none form count start told faults reached = record {
   in_front = in_front_none form reached;
   unread = λ none. refl;
   room = omega arith;
+  so_many = refl;
+  payloads = refl;
+  each = All-nil (IsOf form);
 }
 
 pub next_entry : (form : Form) (left k at before : ℕ) (file : List ℕ) (v : Vlr) (size : ℕ) → entry_fault form k at before file ≡ None → v ≡ entry_of form (drop at file) → size ≡ payload_length form (drop at file)
@@ -63,9 +74,10 @@ unfolding entries_from
 no_entries form k at before file = refl
 
 pub reading_more : (form : Form) (count start number at before size : ℕ) (told now now_after : Option (List ℕ)) (f0 f1 f2 r0 r1 r2 : ℕ) (vlrs : List Vlr) (v : Vlr) → number < count → now_after ≡ now → f1 ≤ f2 → IsInFront form r1 r2 → before + size ≤ 16777216
+    → size ≡ payload_size v → IsOf form v
     → ((file : List ℕ) → now ≡ Some file → entry_fault form number at before file ≡ None) → ((file : List ℕ) → now ≡ Some file → v ≡ entry_of form (drop at file)) → ((file : List ℕ) → now ≡ Some file → size ≡ payload_length form (drop at file))
     → Reading form count start number at before told now f0 f1 r0 r1 vlrs → Reading form count start (number + 1) (at + (head_size form + size)) (before + size) told now_after f0 f2 r0 r2 (vlrs ++ v ∷ [])
-reading_more form count start number at before size told now now_after f0 f1 f2 r0 r1 r2 vlrs v more same later in_front room none is long was = record {
+reading_more form count start number at before size told now now_after f0 f1 f2 r0 r1 r2 vlrs v more same later in_front room own held none is long was = record {
   so_far = λ file e.
       let one : count - number ≡ suc (count - (number + 1)) = omega arith in
       was.so_far file e
@@ -77,6 +89,9 @@ reading_more form count start number at before size told now now_after f0 f1 f2 
   in_front = in_front_more form r0 r1 r2 was.in_front in_front;
   unread = λ none. absurd (omega (arith, none));
   room = room;
+  so_many = length-append vlrs (v ∷ []) ∙ ap (λ n. n + 1) was.so_many;
+  payloads = sum_by_push payload_size vlrs v ∙ ap (λ n. n + payload_size v) was.payloads ∙ ap (λ n. before + n) (sym own);
+  each = All-append (IsOf form) vlrs (v ∷ []) was.each (All-cons (IsOf form) v [] held (All-nil (IsOf form)));
 }
 
 pub reading_done : (form : Form) (count start number at before : ℕ) (told now : Option (List ℕ)) (f0 f1 r0 r1 : ℕ) (vlrs : List Vlr) (file : List ℕ) → count ≤ number → told ≡ Some file
@@ -99,3 +114,11 @@ list_is form count start file vlrs few is = let test : nat_lt 4096 count ≡ fal
 
 pub list_refused : (form : Form) (count start : ℕ) (file : List ℕ) (e : VlrErr) → count ≤ 4096 → IsRefusal (entries_from form count 0 start 0 file) e → IsRefusal (entries form count start file) e
 list_refused form count start file e few is = let test : nat_lt 4096 count ≡ false = le-ltb 4096 count few in rw test is
+
+-- the list is within the limits
+pub reading_held : (form : Form) (count start number at before : ℕ) (told now : Option (List ℕ)) (f0 f1 r0 r1 : ℕ) (vlrs : List Vlr) → number ≤ count → count ≤ number → count ≤ 4096
+    → Reading form count start number at before told now f0 f1 r0 r1 vlrs → (length vlrs ≡ count) × AreHeld (IsOf form) vlrs
+reading_held form count start number at before told now f0 f1 r0 r1 vlrs within all few was = (
+  omega (arith, was.so_many),
+  record { count = omega (arith, was.so_many); payloads = omega (arith, was.payloads, was.room); each = was.each },
+)

@@ -8,7 +8,8 @@ use Rattle.std.proofs.lemmas.List.Elements.{All-head, All-tail}
 use Rattle.std.proofs.lemmas.List.Sums.{sum_by-cons}
 use Rattle.std.proofs.lemmas.List.Concat.{flat_map-cons}
 use Rattle.las_vlr.specs.Vlrs.{head_size, payload_length, entry_of, past, behind, entries_from, vlrs_of, evlrs_of, MayReach}
-use Rattle.las_vlr.specs.Written.{IsVlr, IsEvlr, payload_size, vlr_bytes, evlr_bytes}
+use Rattle.las_vlr.specs.Limits.{IsOf, AreHeldVlrs, AreHeldEvlrs}
+use Rattle.las_vlr.specs.Written.{payload_size, vlr_bytes, evlr_bytes}
 use Rattle.las_vlr.proofs.Heads.{no_fault}
 use Rattle.las_vlr.proofs.Readings.{next_entry, no_entries, list_is}
 use Rattle.las_vlr.proofs.Entries.{vlr_is, evlr_is, vlr_length, evlr_length}
@@ -20,10 +21,6 @@ abbrev entry_bytes : Form → Vlr → List ℕ
 entry_bytes (Plain points_at) vlr = vlr_bytes vlr
 entry_bytes Extended vlr = evlr_bytes vlr
 
-abbrev IsHeld : Form → Vlr → Type 0
-IsHeld (Plain points_at) vlr = IsVlr vlr
-IsHeld Extended vlr = IsEvlr vlr
-
 -- what the bytes of a record, and more behind them, say of it
 record Again (form : Form) (vlr : Vlr) (rest : List ℕ) : Type 0 where
   long : payload_length form (entry_bytes form vlr ++ rest) ≡ length vlr.payload
@@ -33,7 +30,7 @@ record Again (form : Form) (vlr : Vlr) (rest : List ℕ) : Type 0 where
 length_flat : (r u i s t p : List ℕ) → length (((((r ++ u) ++ i) ++ s) ++ t) ++ p) ≡ length r + length u + length i + length s + length t + length p
 length_flat r u i s t p = simp length-append refl
 
-again : (form : Form) (vlr : Vlr) (rest : List ℕ) → IsHeld form vlr → Again form vlr rest
+again : (form : Form) (vlr : Vlr) (rest : List ℕ) → IsOf form vlr → Again form vlr rest
 again (Plain points_at) vlr rest h = record {
   long = vlr_length vlr rest h.sizes h.short;
   is = vlr_is vlr points_at rest h.sizes h.short;
@@ -54,7 +51,7 @@ reaches Extended k end last file may h inside =
     let there : nat_lt (length file) end ≡ false = le-ltb (length file) end inside in
     rw there refl
 
-one_more : (form : Form) (left k before last : ℕ) (front tail : List ℕ) (vlr : Vlr) (vlrs : List Vlr) → IsHeld form vlr → before + length vlr.payload ≤ 16777216 → MayReach form last → length (front ++ entry_bytes form vlr) ≤ last
+one_more : (form : Form) (left k before last : ℕ) (front tail : List ℕ) (vlr : Vlr) (vlrs : List Vlr) → IsOf form vlr → before + length vlr.payload ≤ 16777216 → MayReach form last → length (front ++ entry_bytes form vlr) ≤ last
     → entries_from form left (k + 1) (length (front ++ entry_bytes form vlr)) (before + length vlr.payload) (front ++ (entry_bytes form vlr ++ tail)) ≡ Ok vlrs
     → entries_from form (suc left) k (length front) before (front ++ (entry_bytes form vlr ++ tail)) ≡ Ok (vlr ∷ vlrs)
 one_more form left k before last front tail vlr vlrs held room may within rest =
@@ -72,7 +69,7 @@ one_more form left k before last front tail vlr vlrs held room may within rest =
     next_entry form left k (length front) before file vlr (length vlr.payload) none is long
     ∙ ap (λ n. behind None vlr (entries_from form left (k + 1) n (before + length vlr.payload) file)) end ∙ ap (behind None vlr) rest
 
-all_of : (form : Form) (vlrs : List Vlr) (k before last : ℕ) (front rest : List ℕ) → All (IsHeld form) vlrs → before + sum_by payload_size vlrs ≤ 16777216 → MayReach form last → length front + length (flat_map (entry_bytes form) vlrs) ≤ last
+all_of : (form : Form) (vlrs : List Vlr) (k before last : ℕ) (front rest : List ℕ) → All (IsOf form) vlrs → before + sum_by payload_size vlrs ≤ 16777216 → MayReach form last → length front + length (flat_map (entry_bytes form) vlrs) ≤ last
     → entries_from form (length vlrs) k (length front) before (front ++ (flat_map (entry_bytes form) vlrs ++ rest)) ≡ Ok vlrs
 all_of form [] k before last front rest held room may within = no_entries form k (length front) before (front ++ (flat_map (entry_bytes form) [] ++ rest))
 all_of form (v ∷ vs) k before last front rest held room may within =
@@ -83,17 +80,17 @@ all_of form (v ∷ vs) k before last front rest held room may within =
     let split : flat_map (entry_bytes form) (v ∷ vs) ++ rest ≡ b ++ (more ++ rest) = ap (λ l. l ++ rest) cons ∙ append_assoc b more rest in
     let sizes : length (flat_map (entry_bytes form) (v ∷ vs)) ≡ length b + length more = ap length cons ∙ length-append b more in
     let front_size : length (front ++ b) ≡ length front + length b = length-append front b in
-    let rec = all_of form vs (k + 1) (before + length v.payload) last (front ++ b) rest (All-tail (IsHeld form) v vs held) (omega arith) may (omega arith) in
+    let rec = all_of form vs (k + 1) (before + length v.payload) last (front ++ b) rest (All-tail (IsOf form) v vs held) (omega arith) may (omega arith) in
     let moved = ap (λ l. entries_from form (length vs) (k + 1) (length (front ++ b)) (before + length v.payload) l) (sym (append_assoc front b (more ++ rest))) ∙ rec in
     ap (λ l. entries_from form (suc (length vs)) k (length front) before (front ++ l)) split
-    ∙ one_more form (length vs) k before last front (more ++ rest) v vs (All-head (IsHeld form) v vs held) (omega arith) may (omega arith) moved
+    ∙ one_more form (length vs) k before last front (more ++ rest) v vs (All-head (IsOf form) v vs held) (omega arith) may (omega arith) moved
 
-pub vlrs_again : (front rest : List ℕ) (vlrs : List Vlr) (points_at : ℕ) → All IsVlr vlrs → length vlrs ≤ 4096 → sum_by payload_size vlrs ≤ 16777216 → length front + length (flat_map vlr_bytes vlrs) ≤ points_at
+pub vlrs_again : (front rest : List ℕ) (vlrs : List Vlr) (points_at : ℕ) → AreHeldVlrs vlrs → length front + length (flat_map vlr_bytes vlrs) ≤ points_at
     → vlrs_of (length front) points_at (length vlrs) (front ++ (flat_map vlr_bytes vlrs ++ rest)) ≡ Ok vlrs
-vlrs_again front rest vlrs points_at held few room within =
-    list_is (Plain points_at) (length vlrs) (length front) _ vlrs few (all_of (Plain points_at) vlrs 0 0 points_at front rest held (omega arith) (omega arith) within)
+vlrs_again front rest vlrs points_at held within =
+    list_is (Plain points_at) (length vlrs) (length front) _ vlrs held.count (all_of (Plain points_at) vlrs 0 0 points_at front rest held.each (let room = held.payloads in omega arith) (omega arith) within)
 
-pub evlrs_again : (front rest : List ℕ) (vlrs : List Vlr) → All IsEvlr vlrs → length vlrs ≤ 4096 → sum_by payload_size vlrs ≤ 16777216
+pub evlrs_again : (front rest : List ℕ) (vlrs : List Vlr) → AreHeldEvlrs vlrs
     → evlrs_of (length front) (length vlrs) (front ++ (flat_map evlr_bytes vlrs ++ rest)) ≡ Ok vlrs
-evlrs_again front rest vlrs held few room =
-    list_is Extended (length vlrs) (length front) _ vlrs few (all_of Extended vlrs 0 0 (length front + length (flat_map evlr_bytes vlrs)) front rest held (omega arith) tt (omega arith))
+evlrs_again front rest vlrs held =
+    list_is Extended (length vlrs) (length front) _ vlrs held.count (all_of Extended vlrs 0 0 (length front + length (flat_map evlr_bytes vlrs)) front rest held.each (let room = held.payloads in omega arith) tt (omega arith))

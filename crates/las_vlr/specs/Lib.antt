@@ -1,3 +1,3 @@
-pub mod Bytes
 pub mod Vlrs
 pub mod Written
+pub mod Limits

@@ -1,6 +1,6 @@
 -- Variable length records (LAS 1.4 R15, "Variable Length Records" and "Extended Variable Length Records").
 use Rattle.std.specs.Prelude.{◌≡◌, ℕ, zero, suc, ◌+◌, ◌-◌, ◌≤◌, max, nat_lt, if◌then◌else◌, List, [], ◌∷◌, length, drop, Option, Some, None, Result, Ok, Err, ⊤}
-use Rattle.las_vlr.specs.Bytes.{number_at, piece}
+use Rattle.byte_numbers.specs.Bytes.{number_at, piece}
 use Rattle.las_vlr.specs.declared.entry.Vlr.{Vlr}
 use Rattle.las_vlr.specs.declared.entry.Form.{Form}
 use Rattle.las_vlr.specs.declared.entry.Form.TheVariants.{Plain, Extended}

@@ -13,6 +13,3 @@ pub use laws::{written_evlrs_are_read, written_vlrs_are_read};
 pub use lists::VlrList;
 pub use reads::{read_evlrs, read_vlrs};
 pub use writes::{write_evlr, write_vlr};
-
-#[cfg(test)]
-mod tests;

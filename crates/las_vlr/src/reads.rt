@@ -2,11 +2,14 @@
 
 ghost use Rattle.std.specs.Prelude.{◌≡◌, ◌≢◌, ◌+◌, ◌-◌, ◌^◌, ◌<◌, ◌≤◌, ℕ, List, length, take, drop, max, Some, None, Ok, Err, IfOk, IfErr, OnOk, OnErr, vec_len};
 ghost use Rattle.file_devices.specs.Counts.{Rose};
-ghost use Rattle.las_vlr.specs.Bytes.{number_at, piece};
+ghost use Rattle.byte_numbers.specs.Bytes.{number_at, piece};
+ghost use Rattle.las_vlr.specs.Limits.{IsShort, IsOf, AreHeld, AreHeldVlrs, AreHeldEvlrs};
+ghost use Rattle.las_vlr.specs.Written.{HasSizes};
 ghost use Rattle.las_vlr.specs.Vlrs.{head_size, payload_length, entry_size, entry_of, past, entry_fault, entries, vlrs_of, evlrs_of, IsRefusal, IsFault, IsInFront, MayReach};
 
 use crate::entry::Form;
 use crate::{Vlr, VlrErr, VlrFault, VlrList};
+use byte_numbers::{u16_at, u64_at};
 use file_devices::{Bytes, Source, fill};
 use std::alloc::{AllocError, Global};
 
@@ -29,33 +32,11 @@ fn head_size(form: Form) -> usize
     }
 }
 
-fn u16_at(bytes: &[u8], at: usize) -> u16
-    requires { at + 2 ≤ length bytes.now }
-    ensures { result ≡ number_at at 2 bytes.now }
-{
-    u16::from_le_bytes([bytes[at], bytes[at + 1]])
-}
-
-fn u64_at(bytes: &[u8], at: usize) -> u64
-    requires { at + 8 ≤ length bytes.now }
-    ensures { result ≡ number_at at 8 bytes.now }
-{
-    u64::from_le_bytes([
-        bytes[at],
-        bytes[at + 1],
-        bytes[at + 2],
-        bytes[at + 3],
-        bytes[at + 4],
-        bytes[at + 5],
-        bytes[at + 6],
-        bytes[at + 7],
-    ])
-}
-
 /// The length of the payload that a head announces.
 fn payload_length(form: Form, head: &[u8]) -> u64
     requires { MOST_HEAD ≤ length head.now }
-    ensures { result ≡ payload_length form head.now }
+    ensures value { result ≡ payload_length form head.now }
+    ensures short { IsShort form result }
 {
     match form {
         Form::Plain(_) => u64::from(u16_at(head, 20)),
@@ -172,7 +153,8 @@ fn read_head<S: Source>(
 /// The record with this head.
 fn with_payload(form: Form, head: &[u8], payload: Bytes) -> Vlr
     requires { MOST_HEAD ≤ length head.now }
-    ensures { result ≡ record (entry_of form head.now) { payload = payload } }
+    ensures value { result ≡ record (entry_of form head.now) { payload = payload } }
+    ensures sizes { HasSizes result }
 {
     let size = head_size(form);
     let mut user = [0u8; 16];
@@ -200,6 +182,7 @@ fn read_entry<S: Source>(
     requires { before ≤ MOST_PAYLOAD }
     ensures fits { IfOk result (λ vlr. at + (head_size form + length vlr.payload) < 2 ^ 64) }
     ensures room { IfOk result (λ vlr. before + length vlr.payload ≤ MOST_PAYLOAD) }
+    ensures held { IfOk result (IsOf form) }
     ensures whole { IfOk result (λ vlr. (file : List ℕ) → S.bytes source.old ≡ Some file → entry_fault form number at before file ≡ None) }
     ensures entry { IfOk result (λ vlr. (file : List ℕ) → S.bytes source.old ≡ Some file → vlr ≡ entry_of form (drop at file)) }
     ensures size { IfOk result (λ vlr. (file : List ℕ) → S.bytes source.old ≡ Some file → length vlr.payload ≡ payload_length form (drop at file)) }
@@ -229,6 +212,8 @@ fn read_list<S: Source>(
     count: u32,
 ) -> Result<VlrList, VlrErr>
     ensures ok { IfOk result (λ vlrs. (file : List ℕ) → S.bytes source.old ≡ Some file → entries form count start file ≡ Ok vlrs) }
+    ensures count { IfOk result (λ vlrs. length vlrs ≡ count) }
+    ensures held { IfOk result (AreHeld (IsOf form)) }
     ensures fault { IfErr result (λ e. (file : List ℕ) → S.bytes source.old ≡ Some file → IsRefusal (entries form count start file) e) }
     ensures failed { result ≡ Err VlrErr.ReadFailed → Rose (S.faults source.old) (S.faults source.new) }
     ensures later { S.faults source.old ≤ S.faults source.new }
@@ -255,7 +240,8 @@ fn read_list<S: Source>(
 }
 
 /// Reads the VLRs that stand one behind another from `start` on, `count` of them as the header says, in front of the
-/// points at `points_at`. No byte past `points_at` is asked for.
+/// points at `points_at`. No byte past `points_at` is asked for. They are within the limits, whatever the source tells: at
+/// most 4,096, with payloads of at most 65,535 bytes each, and of at most 16,777,216 bytes together.
 ///
 /// It answers the first fault of the list, `ReadFailed` only where a read failed, and `Memory` where there is none for
 /// the list. Memory for a payload is taken only once its last byte is there.
@@ -267,6 +253,8 @@ pub fn read_vlrs<S: Source>(
     count: u32,
 ) -> Result<VlrList, VlrErr>
     ensures ok { IfOk result (λ vlrs. (file : List ℕ) → S.bytes source.old ≡ Some file → vlrs_of start points_at count file ≡ Ok vlrs) }
+    ensures count { IfOk result (λ vlrs. length vlrs ≡ count) }
+    ensures held { IfOk result AreHeldVlrs }
     ensures fault { IfErr result (λ e. (file : List ℕ) → S.bytes source.old ≡ Some file → IsRefusal (vlrs_of start points_at count file) e) }
     ensures failed { result ≡ Err VlrErr.ReadFailed → Rose (S.faults source.old) (S.faults source.new) }
     ensures later { S.faults source.old ≤ S.faults source.new }
@@ -277,7 +265,8 @@ pub fn read_vlrs<S: Source>(
 }
 
 /// Reads the EVLRs that stand one behind another from `at` on, `count` of them as the header says. Where it is 0, no byte
-/// is asked for.
+/// is asked for. They are within the limits, whatever the source tells: at most 4,096, with payloads of at most 16,777,216
+/// bytes together.
 ///
 /// It answers the first fault of the list, `ReadFailed` only where a read failed, and `Memory` where there is none for
 /// the list. Memory for a payload is taken only once its last byte is there.
@@ -288,6 +277,8 @@ pub fn read_evlrs<S: Source>(
     count: u32,
 ) -> Result<VlrList, VlrErr>
     ensures ok { IfOk result (λ vlrs. (file : List ℕ) → S.bytes source.old ≡ Some file → evlrs_of at count file ≡ Ok vlrs) }
+    ensures count { IfOk result (λ vlrs. length vlrs ≡ count) }
+    ensures held { IfOk result AreHeldEvlrs }
     ensures fault { IfErr result (λ e. (file : List ℕ) → S.bytes source.old ≡ Some file → IsRefusal (evlrs_of at count file) e) }
     ensures failed { result ≡ Err VlrErr.ReadFailed → Rose (S.faults source.old) (S.faults source.new) }
     ensures later { S.faults source.old ≤ S.faults source.new }

@@ -10,18 +10,11 @@ ghost use Rattle.las_vlr.specs.Written.{HasSizes, head_bytes, vlr_bytes, evlr_by
 use crate::Vlr;
 use crate::entry::Form;
 use arrayvec::ArrayVec;
+use byte_numbers::put;
 use file_devices::{Failed, Sink};
 
 /// The bytes in front of a payload.
 type Head = ArrayVec<u8, 60>;
-
-fn push_all(head: &mut Head, piece: &[u8])
-    requires { array_vec_len head.old + length piece.now ≤ 60 }
-    ensures items { head.new.items ≡ head.old.items ++ piece.now }
-    ensures len { array_vec_len head.new ≡ array_vec_len head.old + length piece.now }
-{
-    let _ = head.try_extend_from_slice(piece);
-}
 
 /// The head of a record, with the length of its payload in these bytes.
 fn head_of(vlr: &Vlr, size: &[u8]) -> Head
@@ -30,11 +23,11 @@ fn head_of(vlr: &Vlr, size: &[u8]) -> Head
     ensures sizes { HasSizes vlr.now }
 {
     let mut head = Head::new();
-    push_all(&mut head, &vlr.reserved.to_le_bytes());
-    push_all(&mut head, &vlr.user);
-    push_all(&mut head, &vlr.id.to_le_bytes());
-    push_all(&mut head, size);
-    push_all(&mut head, &vlr.text);
+    put(&mut head, &vlr.reserved.to_le_bytes());
+    put(&mut head, &vlr.user);
+    put(&mut head, &vlr.id.to_le_bytes());
+    put(&mut head, size);
+    put(&mut head, &vlr.text);
     head
 }
 

@@ -8,7 +8,7 @@ use Rattle.std.proofs.lemmas.Nat.{shr-shr, div-add-mod', mod_below, pow_pos}
 use Rattle.std.proofs.lemmas.Bool.Decides.{nat_tests}
 use mir.Val.{bits}
 use Rattle.las_header.specs.Steps.{◌>>=◌}
-use Rattle.las_header.specs.Bytes.{number_at, piece}
+use Rattle.byte_numbers.specs.Bytes.{number_at, piece}
 use Rattle.cloud_points.specs.declared.dims.Dim.{Dim}
 use Rattle.cloud_points.specs.declared.point.Point.{Point}
 use Rattle.cloud_points.specs.Points.{get, is_between}
@@ -25,7 +25,7 @@ use Rattle.point_formats.specs.Encoded.{number_of, signed_bytes, coordinate_byte
 use Rattle.point_formats.proofs.Counting.{raw_returns, steps_return}
 use Rattle.point_formats.proofs.Appending.{joined_ok, bits_ok}
 use Rattle.point_formats.proofs.Sizes.{total}
-use Rattle.point_formats.proofs.Bytes.{AreBytes, number_back, number_fits, piece_more, pieces_join}
+use Rattle.byte_numbers.proofs.Pieces.{AreBytes, number_back, number_fits, piece_more, pieces_join}
 
 -- the bit fields of a byte from a bit on, which are all that is left of it
 abbrev pub HasBits : Point → ℕ → ℕ → List BitField → Type 0

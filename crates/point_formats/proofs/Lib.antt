@@ -1,10 +1,8 @@
 pub mod Appending
-pub mod Bytes
 pub mod Counting
 pub mod Sizes
 pub mod Holding
 pub mod WrittenBack
-pub mod Reading
 pub mod Writing
 pub mod ReadBack
 pub mod Among

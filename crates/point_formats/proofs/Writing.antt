@@ -7,7 +7,7 @@ use Rattle.std.proofs.lemmas.Nat.{shr-shr, mod-mul-add, div-mul-add, pow_pos}
 use Rattle.std.proofs.Math.Nat.{lt-div-mul-add}
 use Rattle.std.proofs.lemmas.Bool.Decides.{nat_tests}
 use Rattle.las_header.specs.Steps.{◌>>=◌}
-use Rattle.las_header.specs.Bytes.{number_at}
+use Rattle.byte_numbers.specs.Bytes.{number_at}
 use Rattle.cloud_points.specs.declared.dims.Dim.{Dim}
 use Rattle.cloud_points.specs.declared.point.Point.{Point}
 use Rattle.cloud_points.specs.Points.{get}
@@ -26,7 +26,7 @@ use Rattle.point_formats.proofs.Counting.{raw_returns, steps_return}
 use Rattle.point_formats.proofs.Appending.{joined}
 use Rattle.point_formats.proofs.Sizes.{Has, item_size}
 use Rattle.point_formats.proofs.Holding.{HasBits, HasItem, HasItems, in_range, whole_byte}
-use Rattle.point_formats.proofs.Reading.{number_read, byte_read}
+use Rattle.byte_numbers.proofs.Written.{number_read, byte_read}
 
 -- the item loses nothing of the point
 abbrev pub Keeps : Grid → Point → Item → Type 0

@@ -10,7 +10,7 @@ use Rattle.point_formats.specs.Grids.{HasSteps}
 use Rattle.point_formats.specs.Formats.{Time, Number, colours, old_returns, old_class, new_returns, new_flags, old_items, new_items, items}
 use Rattle.point_formats.specs.Records.{decoded}
 use Rattle.point_formats.specs.Encoded.{encoded}
-use Rattle.point_formats.proofs.Bytes.{AreBytes}
+use Rattle.byte_numbers.proofs.Pieces.{AreBytes}
 use Rattle.point_formats.proofs.Holding.{HasBits, HasItems, has_more, items_back}
 
 -- the record of format 0, whatever stands in other dimensions

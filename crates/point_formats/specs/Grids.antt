@@ -1,7 +1,6 @@
 -- The grid of the coordinates.
-use Rattle.std.specs.Prelude.{ℕ, ℤ, pos, ◌+ℤ◌, ◌*ℤ◌, ◌≤ℤ◌, map, get_or, All}
+use Rattle.std.specs.Prelude.{ℕ, ℤ, pos, ◌+ℤ◌, ◌*ℤ◌, ◌≤ℤ◌, ◌^◌, ◌≤◌, unsigned_abs, map, get_or, All}
 use Rattle.las_header.specs.declared.block.Header.{Header}
-use Rattle.las_header.specs.Offsets.{IsOffset}
 use Rattle.point_formats.specs.declared.grid.Grid.{Grid}
 
 -- the step of an axis, in nanounits
@@ -24,6 +23,10 @@ coordinate grid axis raw = raw *ℤ scale_on grid axis +ℤ offset_on grid axis
 abbrev pub grid_of : Header → Grid
 grid_of header = record { scale = header.scale; offset = header.offset }
 
--- each offset is at most 10^9 units in size
+-- an offset of at most 10 ^ 9 units in size, in nanounits
+abbrev pub IsNearOffset : ℤ → Type 0
+IsNearOffset nano = unsigned_abs nano ≤ 10 ^ 18
+
+-- each offset is so
 abbrev pub IsNear : Grid → Type 0
-IsNear grid = All IsOffset grid.offset
+IsNear grid = All IsNearOffset grid.offset

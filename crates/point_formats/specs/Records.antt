@@ -4,7 +4,7 @@ use Rattle.std.specs.Int.{w32, byte_len, cast_signed}
 use Rattle.cloud_points.specs.declared.point.Point.{Point}
 use Rattle.cloud_points.specs.Points.{zero_point, with_fixed, with_whole}
 use Rattle.las_header.specs.declared.form.Format.{Format}
-use Rattle.las_header.specs.Bytes.{number_at}
+use Rattle.byte_numbers.specs.Bytes.{number_at}
 use Rattle.point_formats.specs.declared.grid.Grid.{Grid}
 use Rattle.point_formats.specs.Grids.{coordinate}
 use Rattle.point_formats.specs.Formats.{BitField, Item, Coordinate, Angle, Time, Number, Bits, items}

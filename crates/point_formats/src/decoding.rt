@@ -2,7 +2,7 @@
 
 ghost use Rattle.std.specs.Prelude.{◌≡◌, ◌+◌, ◌≤◌, length, take, Ok};
 ghost use Rattle.las_header.specs.Formats.{format_size};
-ghost use Rattle.las_header.specs.Bytes.{number_at};
+ghost use Rattle.byte_numbers.specs.Bytes.{number_at};
 ghost use Rattle.las_header.specs.declared.form.Format.TheVariants.{F0, F6};
 ghost use Rattle.point_formats.specs.Grids.{IsNear};
 ghost use Rattle.cloud_points.specs.Points.{zero_point};
@@ -12,7 +12,7 @@ ghost use Rattle.point_formats.specs.Encoded.{encoded};
 
 use crate::Grid;
 use crate::grid::{coordinate, known_steps};
-use crate::numbers::{i8_at, i16_at, i32_at, u16_at, u64_at};
+use byte_numbers::{i8_at, i16_at, i32_at, u16_at, u64_at};
 use cloud_points::Point;
 use las_header::Format;
 

@@ -15,6 +15,7 @@ use crate::Grid;
 use crate::grid::{known_steps, raw_on};
 use crate::numbers::{known_u8, known_u16, known_u64};
 use arrayvec::ArrayVec;
+use byte_numbers::put;
 use cloud_points::{Dim, Point};
 use exact_numbers::half_away;
 use las_header::Format;
@@ -126,17 +127,6 @@ fn new_flags(p: &Point) -> Result<u8, EncodeFault>
     let edge = field(Dim::EdgeOfFlightLine, p.edge_of_flight_line, 2)?;
     let kinds = synthetic + 2 * key_point + 4 * withheld + 8 * overlap;
     Ok(kinds + 16 * channel + 64 * direction + 128 * edge)
-}
-
-fn put(block: &mut ArrayVec<u8, 38>, bytes: &[u8])
-    requires { array_vec_len block.old + length bytes.now ≤ 38 }
-    ensures items { block.new.items ≡ block.old.items ++ bytes.now }
-    ensures len { array_vec_len block.new ≡ array_vec_len block.old + length bytes.now }
-{
-    match block.try_extend_from_slice(bytes) {
-        Ok(()) => (),
-        Err(_) => unreachable!(),
-    }
 }
 
 /// The first bytes of a record, to the bit fields.

@@ -5,8 +5,7 @@ ghost use Rattle.std.specs.Int.{w32};
 ghost use Rattle.std.specs.Result.{OkIff};
 ghost use Rattle.decimal_coords.specs.Grid.{nearest_step};
 ghost use Rattle.std.specs.List.{All};
-ghost use Rattle.las_header.specs.Offsets.{IsOffset};
-ghost use Rattle.point_formats.specs.Grids.{coordinate, scale_on, offset_on, grid_of, HasSteps, IsNear};
+ghost use Rattle.point_formats.specs.Grids.{coordinate, scale_on, offset_on, grid_of, HasSteps, IsNear, IsNearOffset};
 
 use decimal_coords::{NotHeld, Scale, raw, real};
 use las_header::Header;
@@ -64,7 +63,7 @@ pub(crate) fn coordinate(grid: &Grid, axis: usize, raw: i32) -> i64
 
 /// The raw number of a coordinate in nanounits, of any size; it is refused exactly where it leaves 32 bits.
 fn raw_number(nano: i64, scale: Scale, off: i64) -> Result<i32, NotHeld>
-    requires { IsOffset off }
+    requires { IsNearOffset off }
     ensures { OkIff result (FitsSigned w32 (nearest_step nano scale.nano off)) (nearest_step nano scale.nano off) }
 {
     if nano.unsigned_abs() > MOST_NANO {

@@ -14,6 +14,3 @@ pub use encoding::{EncodeFault, encode};
 pub use grid::Grid;
 pub use laws::{numbers_return, records_are_whole};
 pub use layouts::dims;
-
-#[cfg(test)]
-mod tests;

@@ -1,8 +1,9 @@
-use Rattle.std.proofs.Common.{arith, ◌≡◌, ℕ, ◌^◌, ◌<◌, ◌≤◌, ℤ, pos, neg_ℤ, ◌-ℤ◌, below_more, w64, FitsSigned, rules, sym, subst, to_z, of_z}
+use Rattle.std.proofs.Common.{arith, ◌≡◌, ℕ, ◌%◌, ◌^◌, ◌<◌, ℤ, pos, neg_ℤ, ◌-ℤ◌, below_more, w64, FitsSigned, rules, sym, subst, to_z, of_z}
 use Rattle.std.proofs.lemmas.Int.{ints}
 use Rattle.ieee_words.specs.Near.{IsShort}
 use Rattle.ieee_words.specs.Dec.{IsExact, IsRoundedOff}
-use Rattle.ieee_words.proofs.OfWord.{is_large, is_small, scaled_is, scaled_size, exact, rounded_off}
+use Rattle.ieee_words.proofs.Below.{nano_below, short_below, scaled_below}
+use Rattle.ieee_words.proofs.OfWord.{is_large, is_small, scaled_is, exact, rounded_off}
 use Rattle.ieee_words.specs.declared.decimals.WordFault.TheVariants.{NotFinite}
 use Rattle.std.specs.Prelude.{Err, unsigned_abs}
 use Rattle.ieee_words.specs.Word.{exponent_bits}
@@ -72,5 +73,14 @@ pub returns-in-Some-clause-size : goal.returns-in-Some-clause-size
 returns-in-Some-clause-size c =
     let f : FitsSigned w64 c.in-Some.n = search rules in
     let s = scaled_is c.in-Some.n c.loop-k.k c.power_of_ten.result f c.loop-k-test.true c.in-Some.ensures.fits c.power_of_ten.ensures.value (omega arith) in
-    subst (λ (z : ℤ). unsigned_abs z ≤ 10 ^ 18) (sym s.1)
-    (scaled_size c.in-Some.n c.loop-k.k c.power_of_ten.result c.loop-k-test.true c.in-Some.ensures.fits c.power_of_ten.ensures.value)
+    let b = short_below c.in-Some.n c.loop-k.k c.args.w (omega arith) (omega arith) c.in-Some.ensures.some.near in
+    subst (λ (z : ℤ). unsigned_abs z < 10 ^ 18) (sym s.1)
+    (scaled_below c.in-Some.n c.loop-k.k c.power_of_ten.result c.loop-k-test.true b c.power_of_ten.ensures.value)
+
+pub returns-then-size-w-clause-size : goal.returns-then-size-w-clause-size
+returns-then-size-w-clause-size c =
+    let b = nano_below (c.args.w % 2 ^ 63) c.nearest_whole-n.result (omega arith) c.nearest_whole-n.ensures.nearest in omega (arith, ints)
+
+pub returns-else-size-w-clause-size : goal.returns-else-size-w-clause-size
+returns-else-size-w-clause-size c =
+    let b = nano_below (c.args.w % 2 ^ 63) c.nearest_whole-n.result (omega arith) c.nearest_whole-n.ensures.nearest in omega (arith, ints)

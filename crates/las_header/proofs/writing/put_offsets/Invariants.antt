@@ -1,5 +1,5 @@
 use Rattle.las_header.specs.Written.{nano_bytes}
-use Rattle.las_header.proofs.Putting.{Putting}
+use Rattle.byte_numbers.proofs.Putting.{Putting}
 use Rattle.las_header.proofs.writing.put_offsets.Given as goal
 
 abbrev pub invariant-loop-offset : goal.invariant-loop-offset

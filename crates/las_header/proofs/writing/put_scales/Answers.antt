@@ -3,7 +3,7 @@ use Rattle.std.proofs.lemmas.Int.{ints, to_z-of_z}
 use Rattle.std.specs.Int.{to_le_bytes}
 use Rattle.ieee_words.specs.NearWord.{near_word}
 use Rattle.las_header.specs.Written.{scale_bytes}
-use Rattle.las_header.proofs.Putting.{putting_more}
+use Rattle.byte_numbers.proofs.Putting.{putting_more}
 use Rattle.las_header.proofs.writing.put_scales.Goals as goal
 
 pub loop-scale-preserved : goal.loop-scale-preserved

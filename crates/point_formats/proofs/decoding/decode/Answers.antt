@@ -1,6 +1,6 @@
 use Rattle.std.proofs.Common.{ap, ◌∙◌}
 use Rattle.point_formats.specs.Encoded.{encoded}
-use Rattle.point_formats.proofs.Bytes.{AreBytes}
+use Rattle.byte_numbers.proofs.Pieces.{AreBytes}
 use Rattle.point_formats.proofs.WrittenBack.{written_back}
 use Rattle.point_formats.proofs.decoding.decode.Goals as goal
 

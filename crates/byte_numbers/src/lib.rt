@@ -1,0 +1,8 @@
+//! Numbers and pieces in lists of bytes, the numbers with their lowest byte first, as LAS files have them.
+#![tactic(auto)]
+
+mod appending;
+mod reading;
+
+pub use appending::{put, put_u32s, put_u64s};
+pub use reading::{i8_at, i16_at, i32_at, piece_at, u8_at, u16_at, u32_at, u64_at};

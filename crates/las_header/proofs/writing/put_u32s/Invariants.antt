@@ -1,6 +1,0 @@
-use Rattle.std.specs.Int.{w32, to_le_bytes}
-use Rattle.las_header.proofs.Putting.{Putting}
-use Rattle.las_header.proofs.writing.put_u32s.Given as goal
-
-abbrev pub invariant-loop-number : goal.invariant-loop-number
-invariant-loop-number g l = Putting (to_le_bytes w32) 4 l.numbers l.number-index l.initial.part.items l.part.items

@@ -1,0 +1,69 @@
+-- A file that is read to its end, in chunks of any sizes.
+use Rattle.std.specs.Prelude.{◌≡◌, ◌⊎◌, ℕ, ◌+◌, ◌<◌, ◌≤◌, List, [], ◌∷◌, ◌++◌, length, Option, Some, None, true, false, ⊤}
+use Rattle.std.specs.List.{All, flat_map}
+use Rattle.cloud_points.specs.declared.point.Point.{Point}
+use Rattle.cloud_points.specs.declared.faults.Make.{Make}
+use Rattle.cloud_points.specs.declared.faults.Make.TheVariants.{Points, End}
+use Rattle.las_header.specs.declared.block.Header.{Header}
+use Rattle.las_header.specs.Counts.{points_in}
+use Rattle.las_reader.specs.declared.reader.Progress.{Progress}
+use Rattle.las_reader.specs.declared.reader.Progress.TheVariants.{Records}
+use Rattle.las_reader.specs.Files.{Las, las_with}
+use Rattle.las_reader.specs.Reading.{Step, IsStep, step_of, ends, view_ends}
+
+-- the size of a chunk
+abbrev pub IsChunk : ℕ → Type 0
+IsChunk chunk = (1 ≤ chunk) × (chunk ≤ 64)
+
+-- calls for chunks of these sizes, one after another from a place on, give these steps
+abbrev pub AreSteps : ℕ → List Point → Progress → List ℕ → List Step → Type 0
+AreSteps count points progress [] [] = ⊤
+AreSteps count points progress (chunk ∷ chunks) (step ∷ steps) =
+    IsStep (step_of count points progress chunk) step.made step.points step.progress × AreSteps count points step.progress chunks steps
+AreSteps count points progress chunks steps = ⊥
+
+-- it is the end of all
+abbrev pub IsEnd : Make → Type 0
+IsEnd (End cut fault) = ⊤
+IsEnd made = ⊥
+
+-- the last step is the first that gives the end
+abbrev pub EndAtLast : List Step → Type 0
+EndAtLast [] = ⊥
+EndAtLast (step ∷ []) = IsEnd step.made
+EndAtLast (step ∷ steps) = (¬ IsEnd step.made) × EndAtLast steps
+
+-- one of them gives the end
+abbrev pub ComeToTheEnd : List Step → Type 0
+ComeToTheEnd [] = ⊥
+ComeToTheEnd (step ∷ steps) = IsEnd step.made ⊎ ComeToTheEnd steps
+
+-- a step that gives points
+pub record GivesPoints (step : Step) : Type 0 where
+  pub made : step.made ≡ Points
+  pub some : 0 < length step.points
+
+abbrev pub points_given : List Step → List Point
+points_given steps = flat_map (λ step. step.points) steps
+
+-- what comes behind the points: the end of the view and the end of all, or the end that is cut short
+abbrev pub ending : Option ℕ → List Step
+ending None = view_ends ∷ ends false None ∷ []
+ending (Some k) = ends true (Some k) ∷ []
+
+-- steps that give the points of a file, and then its end
+pub record GiveFile (las : Las) (steps : List Step) : Type 0 where
+  pub giving : List Step
+  pub steps_are : steps ≡ giving ++ ending las.cut
+  pub give : All GivesPoints giving
+  pub points_are : points_given giving ≡ las.points
+
+-- a file that is read to its first end gives its points and then its end, for chunks of any sizes
+abbrev pub StepsGiveFile : Type 0
+StepsGiveFile = (header : Header) (file chunks : List ℕ) (steps : List Step) → All IsChunk chunks
+    → AreSteps (points_in header) (las_with header file).points (Records 0) chunks steps → EndAtLast steps → GiveFile (las_with header file) steps
+
+-- two more calls than there are points are enough for the end
+abbrev pub StepsComeToTheEnd : Type 0
+StepsComeToTheEnd = (header : Header) (file chunks : List ℕ) (steps : List Step) → All IsChunk chunks
+    → AreSteps (points_in header) (las_with header file).points (Records 0) chunks steps → length (las_with header file).points + 2 ≤ length chunks → ComeToTheEnd steps
