@@ -8,6 +8,3 @@ mod laws;
 pub use head::Head;
 pub use kind::{Kind, StageState};
 pub use laws::stages_stream;
-
-#[cfg(test)]
-mod tests;
