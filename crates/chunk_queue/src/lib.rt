@@ -6,6 +6,3 @@ mod tag;
 
 pub use plain::PlainQueue;
 pub use tag::{Kind, Tag};
-
-#[cfg(test)]
-mod tests;

@@ -22,6 +22,3 @@ pub use names::{AddFault, AnyDim, ExtraNames, dim_of, name_of};
 pub use point::Point;
 pub use spread::{MOST_POINTS, Spread, put_points};
 pub use work::Work;
-
-#[cfg(test)]
-mod tests;

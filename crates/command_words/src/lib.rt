@@ -9,6 +9,3 @@ mod reading;
 pub use command::{Command, read_command};
 pub use laws::{commands_are_told, numbers_are_decimals, places_are_so, places_are_told};
 pub use options::RunOptions;
-
-#[cfg(test)]
-mod tests;

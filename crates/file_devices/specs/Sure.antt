@@ -1,5 +1,5 @@
 -- A sink that tells its bytes until it goes past its room.
-use Rattle.std.specs.Prelude.{◌≡◌, ℕ, ◌<◌, ◌-◌, ◌^◌, List, length, min, Bool, true, false, Option, Some, None, if◌then◌else◌}
+use Rattle.std.specs.Prelude.{◌≡◌, ℕ, ◌<◌, ◌-◌, ◌^◌, List, ◌++◌, length, min, Bool, true, false, Option, Some, None, if◌then◌else◌}
 
 -- the count of a device that never fails
 abbrev pub no_faults : ℕ
@@ -12,6 +12,10 @@ sure_bytes over content = if over then None else Some content
 -- how much was appended: past its room the sink counts by itself
 abbrev pub sure_appended : Bool → List ℕ → ℕ → ℕ
 sure_appended over content n = if over then n else min (length content) (2 ^ 64 - 1)
+
+-- what it holds after an append, by whether it is past its room then: the piece is put whole or not at all
+abbrev pub sure_held : Bool → List ℕ → List ℕ → List ℕ
+sure_held over content piece = if over then content else content ++ piece
 
 pub counted_until : (over : Bool) (content : List ℕ) (n : ℕ) (b : List ℕ) → (if over then None else Some content) ≡ Some b → (if over then n else min (length content) (2 ^ 64 - 1)) ≡ min (length b) (2 ^ 64 - 1)
 counted_until true content n b e = cc

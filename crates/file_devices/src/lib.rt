@@ -18,6 +18,3 @@ pub use reads::fill;
 pub use sure::{SureFiles, SureIn, SureOut};
 pub use texts::{Bytes, Name};
 pub use whole::{WholeErr, read_whole};
-
-#[cfg(test)]
-mod tests;

@@ -2,7 +2,7 @@
 ghost use Rattle.std.specs.Prelude.{◌≡◌, ◌+◌, ◌-◌, ◌^◌, ◌<◌, ◌≤◌, ◌++◌, ◌⊎◌, ◌↔◌, List, [], ℕ, length, min, Some, None, true, false, if◌then◌else◌, vec_len, vec_capacity, nat_lt, ◌||◌, IsTrue, IfOk, IfSome, OnOk, OnErr, IsErrOf, max, option_map};
 ghost use Rattle.file_devices.specs.Counts.{HasCause, Rose, saturating};
 ghost use Rattle.file_devices.specs.Content.{ReadsAt, Appends, AppendsPart, Patches, PatchesSomehow};
-ghost use Rattle.file_devices.specs.Sure.{no_faults, sure_bytes, sure_appended};
+ghost use Rattle.file_devices.specs.Sure.{no_faults, sure_bytes, sure_appended, sure_held};
 ghost use Rattle.file_devices.specs.Told.{IsAsTold};
 ghost use Rattle.file_devices.specs.declared.devices.DeviceErr.TheVariants.{Absent, Failed as DeviceFailed};
 ghost use Rattle.file_devices.specs.Named.{Names, kept};
@@ -49,6 +49,10 @@ impl Source for SureIn {
 }
 
 /// A sink that never fails. Past its room it drops what comes, and tells its bytes no more.
+///
+/// The first piece for which there is no room is dropped whole, and so is each later one, even where it would
+/// find room, and each patch. So what it holds is at any time a prefix of what was appended, with the patches
+/// that came before.
 #[derive(Drop)]
 pub struct SureOut {
     content: Vec<u8>,
@@ -119,6 +123,9 @@ impl Sink for SureOut {
         // It stops telling exactly where the room is passed.
         ensures over { self.new.over ≡ (self.old.over || nat_lt self.old.room
             (length self.old.content.items + length piece.now)) }
+
+        // From then on it holds no more, so what it holds stays a prefix of what was appended.
+        ensures held { self.new.content.items ≡ sure_held self.new.over self.old.content.items piece.now }
         ensures same { self.new.room ≡ self.old.room }
     {
         if self.over {
@@ -151,6 +158,8 @@ impl FileSink for SureOut {
             ≡ sure_appended self.old.over self.old.content.items self.old.appended }
         ensures cause { HasCause no_faults no_faults result }
 
+        // Past its room it drops a patch as well.
+        ensures dropped { IsTrue self.old.over → self.new.content.items ≡ self.old.content.items }
         ensures same { (self.new.over ≡ self.old.over) × (self.new.room ≡ self.old.room) }
     {
         if !self.over {

@@ -1,9 +1,17 @@
-//! A store of files that notes which calls are made on it, and in which order.
+//! What tests run over: a store of files that notes which calls are made on it, and in which order, and a small LAS file.
 #![tactic(auto)]
 
-ghost use Rattle.std.specs.Prelude.{◌≡◌, string_bytes};
+ghost use Rattle.std.specs.Prelude.{◌≡◌, ◌++◌, ◌+◌, ◌-◌, ◌^◌, ◌≤◌, ◌⊎◌, List, [], ℕ, Some, None, codes, string_bytes, IfOk, OnOk, OnErr, IsErrOf};
+ghost use Rattle.recorded_files.specs.Notes.{note_of};
+ghost use Rattle.file_devices.specs.Counts.{Rose, saturating};
+ghost use Rattle.file_devices.specs.Told.{IsAsTold};
+ghost use Rattle.file_devices.specs.Named.{Names, kept};
+ghost use Rattle.file_devices.specs.declared.devices.DeviceErr.TheVariants.{Absent, Memory, Failed as DeviceFailed};
 
-use file_devices::{DeviceErr, Files, MemFiles, MemIn, MemOut};
+mod sample;
+
+use file_devices::{DeviceErr, Files, MemFiles, MemIn, MemOut, Sink, Source};
+pub use sample::two_points;
 use std::alloc::AllocError;
 
 /// Files in memory, with the calls that were made on them as lines of text: `open NAME`, `create NAME`, `keep NAME`, `close`
@@ -39,7 +47,9 @@ impl RecordedFiles {
 
     // Notes a call with the name that it was made with.
     fn note(&mut self, call: &str, name: &str) -> Result<(), AllocError>
-        ensures { self.new.files ≡ self.old.files }
+        ensures files { self.new.files ≡ self.old.files }
+        ensures noted { OnOk result (string_bytes self.new.calls
+            ≡ string_bytes self.old.calls ++ note_of call.now name.now) }
     {
         self.calls.push_str(call)?;
         self.calls.push_str(name)?;
@@ -60,17 +70,71 @@ impl Files for RecordedFiles {
 
     ghost faults = { λ s. ⟦<MemFiles as Files>⟧.faults s.files };
 
-    fn open_in(&mut self, name: &str) -> Result<MemIn, DeviceErr> {
+    fn open_in(&mut self, name: &str) -> Result<MemIn, DeviceErr>
+        ensures ok { IfOk result (λ source. (m : Names) → ⟦<MemFiles as Files>⟧.map self.old.files ≡ Some m → (b : List ℕ)
+            × (m name.now ≡ Some b) × (⟦<MemIn as Source>⟧.bytes source ≡ Some b)) }
+        ensures fresh { IfOk result (λ source. (⟦<MemIn as Source>⟧.faults source ≡ 0)
+            × (⟦<MemIn as Source>⟧.reached source ≡ 0)) }
+        ensures absent { IsErrOf result Absent → (m : Names)
+            × (⟦<MemFiles as Files>⟧.map self.old.files ≡ Some m) × (m name.now ≡ None) }
+        ensures no_fault { IsErrOf result Absent
+            → ⟦<MemFiles as Files>⟧.faults self.new.files ≡ ⟦<MemFiles as Files>⟧.faults self.old.files }
+        ensures later { ⟦<MemFiles as Files>⟧.faults self.old.files ≤ ⟦<MemFiles as Files>⟧.faults self.new.files }
+        ensures failed { IsErrOf result DeviceFailed
+            → Rose (⟦<MemFiles as Files>⟧.faults self.old.files) (⟦<MemFiles as Files>⟧.faults self.new.files) }
+        ensures map { ⟦<MemFiles as Files>⟧.map self.new.files ≡ ⟦<MemFiles as Files>⟧.map self.old.files }
+        ensures read_to { ⟦<MemFiles as Files>⟧.read_to self.new.files ≡ ⟦<MemFiles as Files>⟧.read_to self.old.files }
+        ensures lent_ok { OnOk result (⟦<MemFiles as Files>⟧.lent self.new.files ≡ ⟦<MemFiles as Files>⟧.lent self.old.files + 1) }
+        ensures lent_err { OnErr result (⟦<MemFiles as Files>⟧.lent self.new.files ≡ ⟦<MemFiles as Files>⟧.lent self.old.files) }
+
+        // The call is noted, unless memory is wanting.
+        ensures noted { (IsErrOf result Memory → ⊥) → string_bytes self.new.calls
+            ≡ string_bytes self.old.calls ++ note_of (codes "open ") name.now }
+    {
         self.note("open ", name)?;
         self.files.open_in(name)
     }
 
-    fn create(&mut self, name: &str) -> Result<MemOut, DeviceErr> {
+    fn create(&mut self, name: &str) -> Result<MemOut, DeviceErr>
+        ensures empty { IfOk result (λ sink. IsAsTold (⟦<MemOut as Sink>⟧.bytes sink) (Some [])) }
+        ensures fresh { IfOk result (λ sink. (⟦<MemOut as Sink>⟧.faults sink ≡ 0)
+            × (⟦<MemOut as Sink>⟧.appended sink ≡ 0)) }
+        ensures not_absent { IsErrOf result Absent → ⊥ }
+        ensures later { ⟦<MemFiles as Files>⟧.faults self.old.files ≤ ⟦<MemFiles as Files>⟧.faults self.new.files }
+        ensures failed { IsErrOf result DeviceFailed
+            → Rose (⟦<MemFiles as Files>⟧.faults self.old.files) (⟦<MemFiles as Files>⟧.faults self.new.files) }
+        ensures map { ⟦<MemFiles as Files>⟧.map self.new.files ≡ ⟦<MemFiles as Files>⟧.map self.old.files }
+        ensures read_to { ⟦<MemFiles as Files>⟧.read_to self.new.files ≡ ⟦<MemFiles as Files>⟧.read_to self.old.files }
+        ensures lent_ok { OnOk result (⟦<MemFiles as Files>⟧.lent self.new.files ≡ ⟦<MemFiles as Files>⟧.lent self.old.files + 1) }
+        ensures lent_err { OnErr result (⟦<MemFiles as Files>⟧.lent self.new.files ≡ ⟦<MemFiles as Files>⟧.lent self.old.files) }
+
+        // The call is noted, unless memory is wanting.
+        ensures noted { (IsErrOf result Memory → ⊥) → string_bytes self.new.calls
+            ≡ string_bytes self.old.calls ++ note_of (codes "create ") name.now }
+    {
         self.note("create ", name)?;
         self.files.create(name)
     }
 
-    fn keep(&mut self, name: &str, out: MemOut) -> Result<(), DeviceErr> {
+    fn keep(&mut self, name: &str, out: MemOut) -> Result<(), DeviceErr>
+        ensures ok { OnOk result (⟦<MemFiles as Files>⟧.map self.new.files
+            ≡ kept (⟦<MemFiles as Files>⟧.map self.old.files) name.now (⟦<MemOut as Sink>⟧.bytes out)) }
+        ensures err { OnErr result ((⟦<MemFiles as Files>⟧.map self.new.files ≡ ⟦<MemFiles as Files>⟧.map self.old.files)
+            ⊎ (⟦<MemFiles as Files>⟧.map self.new.files
+            ≡ kept (⟦<MemFiles as Files>⟧.map self.old.files) name.now (⟦<MemOut as Sink>⟧.bytes out))) }
+        ensures not_absent { IsErrOf result Absent → ⊥ }
+        ensures later { ⟦<MemFiles as Files>⟧.faults self.old.files ≤ ⟦<MemFiles as Files>⟧.faults self.new.files }
+        ensures counted { saturating (⟦<MemFiles as Files>⟧.faults self.old.files) (⟦<MemOut as Sink>⟧.faults out)
+            ≤ ⟦<MemFiles as Files>⟧.faults self.new.files }
+        ensures failed { IsErrOf result DeviceFailed
+            → Rose (⟦<MemFiles as Files>⟧.faults self.old.files) (⟦<MemFiles as Files>⟧.faults self.new.files) }
+        ensures read_to { ⟦<MemFiles as Files>⟧.read_to self.new.files ≡ ⟦<MemFiles as Files>⟧.read_to self.old.files }
+        ensures lent { ⟦<MemFiles as Files>⟧.lent self.new.files ≡ ⟦<MemFiles as Files>⟧.lent self.old.files - 1 }
+
+        // The call is noted, unless memory is wanting.
+        ensures noted { (IsErrOf result Memory → ⊥) → string_bytes self.new.calls
+            ≡ string_bytes self.old.calls ++ note_of (codes "keep ") name.now }
+    {
         match self.note("keep ", name) {
             Ok(()) => self.files.keep(name, out),
             Err(_) => {

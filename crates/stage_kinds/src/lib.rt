@@ -10,6 +10,3 @@ pub use head::Head;
 pub use held::Held;
 pub use kind::{Kind, StageState};
 pub use laws::stages_stream;
-
-#[cfg(test)]
-mod tests;

@@ -6,6 +6,3 @@ mod writer;
 
 pub use laws::text_grows;
 pub use writer::TextWriter;
-
-#[cfg(test)]
-mod tests;

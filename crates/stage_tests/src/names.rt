@@ -1,0 +1,92 @@
+//! Names of dimensions.
+
+use cloud_points::{AddFault, AnyDim, Dim, ExtraNames, dim_of, name_of};
+
+/// Names, and their dimensions where there are no further ones.
+const NAMES: [(&str, Option<AnyDim>); 6] = [
+    (
+        "classification",
+        Some(AnyDim::Standard(Dim::Classification)),
+    ),
+    (
+        "CLASSIFICATION",
+        Some(AnyDim::Standard(Dim::Classification)),
+    ),
+    ("Z", Some(AnyDim::Standard(Dim::Z))),
+    ("infraRed", Some(AnyDim::Standard(Dim::Infrared))),
+    ("zz", None),
+    ("", None),
+];
+
+/// Further names that are added one after the other, and the place of each.
+const ADDED: [(&str, u8); 4] = [
+    ("HeightAboveGround", 0),
+    ("Slope", 1),
+    ("heightaboveground", 0),
+    ("SLOPE", 1),
+];
+
+/// Names in some spelling, and the one that is given back.
+const SPELLED: [(&str, &str); 3] = [
+    ("HEIGHTABOVEGROUND", "HeightAboveGround"),
+    ("slope", "Slope"),
+    ("gpstime", "GpsTime"),
+];
+
+/// Names that are added one after the other, and their places as far as there is room.
+const FULL: [(&str, Result<u8, AddFault>); 11] = [
+    ("a", Ok(0)),
+    ("b", Ok(1)),
+    ("c", Ok(2)),
+    ("d", Ok(3)),
+    ("e", Ok(4)),
+    ("f", Ok(5)),
+    ("g", Ok(6)),
+    ("h", Ok(7)),
+    ("i", Err(AddFault::Full)),
+    ("H", Ok(7)),
+    ("A", Ok(0)),
+];
+
+#[test]
+fn names_are_read_in_any_case(rt: HostRuntime) {
+    let names = ExtraNames::none(rt.alloc());
+    for (name, dim) in NAMES {
+        assert_eq!(rt; dim_of(name, &names), dim, "{name}");
+    }
+}
+
+/// Whether a name is added at this place, where it is found then.
+fn is_added(names: &mut ExtraNames, name: &str, place: u8) -> bool {
+    names.add(name) == Ok(place)
+        && names.place(name) == Some(place)
+        && dim_of(name, names) == Some(AnyDim::Extra(place))
+}
+
+/// Whether a name leads to a dimension of this name.
+fn is_spelled(names: &ExtraNames, name: &str, spelled: &str) -> bool {
+    match dim_of(name, names) {
+        Some(dim) => name_of(dim, names) == spelled,
+        None => false,
+    }
+}
+
+#[test]
+fn an_extra_name_keeps_its_first_spelling(rt: HostRuntime) {
+    let mut names = ExtraNames::none(rt.alloc());
+    for (name, place) in ADDED {
+        assert!(rt; is_added(&mut names, name, place), "{name}");
+    }
+    for (name, spelled) in SPELLED {
+        assert!(rt; is_spelled(&names, name, spelled), "{name}");
+    }
+}
+
+#[test]
+fn there_are_eight_extra_names_at_most(rt: HostRuntime) {
+    let mut names = ExtraNames::none(rt.alloc());
+    for (name, added) in FULL {
+        assert_eq!(rt; names.add(name), added, "{name}");
+    }
+    assert_eq!(rt; names.place("i"), None);
+}

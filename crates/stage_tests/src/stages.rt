@@ -1,0 +1,136 @@
+//! Stages that run by themselves.
+
+ghost use Rattle.std.specs.Prelude.{◌≡◌, true, false};
+
+use cloud_points::{Make, Point, PointFault, Spread, StageFault, Work, put_points};
+use file_devices::{MemIn, MemOut, Op};
+use las_reader::LasReader;
+use recorded_files::two_points;
+use stage_kinds::{Head, Kind};
+use std::alloc::Global;
+use text_writer::TextWriter;
+
+/// A stage over devices in memory.
+type Stage = Kind<MemIn, MemOut>;
+
+/// What a leaf makes, and how many points it puts into the spread.
+type Made = (Make, usize);
+
+/// How many first bytes of a file of two points there are, and what its reader makes of them: points, the end of the view
+/// where it comes, and the end.
+const MADE: [(usize, Made, Option<Made>, Made); 2] = [
+    (
+        415,
+        (Make::Points, 2),
+        Some((Make::EndView, 0)),
+        (Make::End(false, None), 0),
+    ),
+    (400, (Make::Points, 1), None, (CUT, 0)),
+];
+
+/// The end of a file whose second point is cut.
+const CUT: Make = Make::End(true, Some(StageFault::Point(PointFault::Cut(1))));
+
+/// What a leaf makes next, and how many points it puts into the spread.
+fn make<W: Work>(leaf: &mut W, into: &mut Spread) -> Made
+    requires { W.leaf leaf.old ≡ true }
+    ensures { W.leaf leaf.new ≡ true }
+{
+    let made = leaf.make(64, into);
+    (made, into.len())
+}
+
+/// The stage's fault at so many points that are zero, and how many go on.
+fn hand<W: Work>(stage: &mut W, count: usize) -> (Option<StageFault>, usize)
+    requires { W.leaf stage.old ≡ false }
+    ensures { W.leaf stage.new ≡ false }
+{
+    let mut spread = Spread::new();
+    let zeros = [Point::zero(); 64];
+    put_points(&mut spread, &zeros[..count.min(64)]);
+    if spread.is_empty() {
+        return (None, 0);
+    }
+    let fault = stage.on_chunk(&mut spread);
+    (fault, spread.len())
+}
+
+fn drop_stage(stage: Stage) {
+    match stage {
+        Kind::Reader(reader) => drop(reader.release()),
+        Kind::Head(_) => {}
+        Kind::Text(writer) => drop(writer.release()),
+    }
+}
+
+/// What passes of three times three points in a view that a head of five cuts, and of six in the next one; and whether the end
+/// of the view passes and one before the end of all.
+fn headed() -> ([(Option<StageFault>, usize); 4], bool, bool) {
+    let mut stage: Stage = Kind::Head(Head::new(5));
+    let first = hand(&mut stage, 3);
+    let second = hand(&mut stage, 3);
+    let third = hand(&mut stage, 3);
+    let view = stage.on_end_view();
+    let fourth = hand(&mut stage, 6);
+    let end = stage.on_end(false);
+    drop_stage(stage);
+    ([first, second, third, fourth], view, end)
+}
+
+#[test]
+fn a_head_counts_over_chunks_and_begins_anew_with_a_view(rt: HostRuntime) {
+    assert_eq!(rt;
+        headed(),
+        ([(None, 3), (None, 2), (None, 0), (None, 5)], true, false)
+    );
+}
+
+/// Whether the reader of so many first bytes of a file of two points is a leaf, and what it makes up to its end.
+fn made(alloc: Global, size: usize, has_view: bool) -> Option<(bool, Made, Option<Made>, Made)> {
+    let file = two_points();
+    let content = Vec::from_slice(alloc, file.get(..size)?).ok()?;
+    let Ok(reader) = LasReader::begin(alloc, MemIn::new(content, 7, Vec::new(alloc))) else {
+        return None;
+    };
+    let mut stage: Stage = Kind::Reader(reader);
+    let leaf = stage.is_leaf();
+    let mut spread = Spread::new();
+    let points = make(&mut stage, &mut spread);
+    let view = if has_view {
+        Some(make(&mut stage, &mut spread))
+    } else {
+        None
+    };
+    let end = make(&mut stage, &mut spread);
+    drop_stage(stage);
+    Some((leaf, points, view, end))
+}
+
+#[test]
+fn a_reader_gives_its_points_and_its_end(rt: HostRuntime) {
+    for (size, points, view, end) in MADE {
+        let came = made(rt.alloc(), size, view.is_some());
+        assert_eq!(rt; came, Some((true, points, view, end)), "{size}");
+    }
+}
+
+/// What becomes of two points and then of one where the third of these appends fails.
+fn written(alloc: Global) -> Option<[(Option<StageFault>, usize); 2]> {
+    let fails = vec![in alloc; 4u64].ok()?;
+    let Ok(writer) = TextWriter::begin(MemOut::new(alloc, 200, fails).ok()?) else {
+        return None;
+    };
+    let mut stage: Stage = Kind::Text(writer);
+    let first = hand(&mut stage, 2);
+    let second = hand(&mut stage, 1);
+    drop_stage(stage);
+    Some([first, second])
+}
+
+#[test]
+fn a_writer_lets_its_points_pass_until_its_sink_fails(rt: HostRuntime) {
+    assert_eq!(rt;
+        written(rt.alloc()),
+        Some([(None, 2), (Some(StageFault::Device(Op::Write)), 0)])
+    );
+}
