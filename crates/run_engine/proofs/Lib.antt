@@ -1,3 +1,15 @@
 pub mod Lists
+pub mod Sums
+pub mod Results
+pub mod Causes
 pub mod Releasing
 pub mod NewNodes
+pub mod Outcomes
+pub mod Finishing
+pub mod Opening
+pub mod Beginning
+pub mod Keeping
+pub mod Inputs
+pub mod Ran
+pub mod Puts
+pub mod Answers

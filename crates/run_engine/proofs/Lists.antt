@@ -1,6 +1,7 @@
 -- Facts that hold at each place of a list.
-use Rattle.std.proofs.Common.{◌≡◌, ℕ, zero, suc, ◌+◌, ◌≤◌, ◌<◌, List, [], ◌∷◌, ◌++◌, length, drop, reverse, slice_get, Option, Some, None, refl, ap, subst, sym, ◌∙◌, arith, add-one}
-use Rattle.std.proofs.lemmas.List.{reverse-append, append_assoc, append-nil}
+use Rattle.std.proofs.Common.{◌≡◌, ℕ, zero, suc, ◌+◌, ◌<◌, List, [], ◌∷◌, ◌++◌, length, take, drop, map, reverse, slice_get, Some, refl, ap, subst, sym, ◌∙◌, arith, add-one}
+use Rattle.std.specs.List.{range_with_len}
+use Rattle.std.proofs.lemmas.List.{reverse-append}
 
 -- it holds of what is put behind a list
 pub each-push : {A : Type 0} (P : ℕ → A → Type 0) (xs : List A) (y : A) (n : ℕ) → n ≡ length xs → ((i : ℕ) (x : A) → slice_get xs i ≡ Some x → P i x) → P n y → (i : ℕ) (x : A) → slice_get (xs ++ y ∷ []) i ≡ Some x → P i x
@@ -30,3 +31,43 @@ one_less at left rest all e more = (omega arith, omega arith)
 -- nothing is left
 pub none_left : (all at left : ℕ) → at + left ≡ all → left ≡ 0 → at ≡ all
 none_left all at left e none = omega arith
+
+-- the first so many and one more
+pub take-more : {A : Type 0} (xs : List A) (i : ℕ) (x : A) → slice_get xs i ≡ Some x → take (i + 1) xs ≡ take i xs ++ x ∷ []
+take-more xs i x e = rw add-one (go xs i x e)
+  where
+    go : {A : Type 0} (xs : List A) (i : ℕ) (x : A) → slice_get xs i ≡ Some x → take (suc i) xs ≡ take i xs ++ x ∷ []
+    go [] i x e = absurd cc
+    go (y ∷ xs) zero x e = let same : y ≡ x = cc in ap (λ z. z ∷ []) same
+    go (y ∷ xs) (suc i) x e = ap (λ zs. y ∷ zs) (go xs i x e)
+
+-- what stands at a place of a list that was mapped
+pub mapped-at : {A B : Type 0} (f : A → B) (xs : List A) (i : ℕ) (y : B) → slice_get (map f xs) i ≡ Some y → (x : A) × (slice_get xs i ≡ Some x) × (f x ≡ y)
+mapped-at f [] i y e = absurd cc
+mapped-at f (x ∷ xs) zero y e = (x, refl, (let same : f x ≡ y = cc in same))
+mapped-at f (x ∷ xs) (suc i) y e = mapped-at f xs i y e
+
+pub map-at : {A B : Type 0} (f : A → B) (xs : List A) (i : ℕ) (x : A) → slice_get xs i ≡ Some x → slice_get (map f xs) i ≡ Some (f x)
+map-at f [] i x e = absurd cc
+map-at f (y ∷ xs) zero x e = let same : y ≡ x = cc in ap (λ z. Some (f z)) same
+map-at f (y ∷ xs) (suc i) x e = map-at f xs i x e
+
+pub length-mapped : {A B : Type 0} (f : A → B) (xs : List A) → length (map f xs) ≡ length xs
+length-mapped f [] = refl
+length-mapped f (x ∷ xs) = let r = length-mapped f xs in omega (arith, r)
+
+-- lists with the same at each place
+pub same-lists : {A : Type 0} (xs ys : List A) → length xs ≡ length ys → ((i : ℕ) → i < length xs → slice_get xs i ≡ slice_get ys i) → xs ≡ ys
+same-lists [] [] l h = refl
+same-lists [] (y ∷ ys) l h = absurd (omega (arith, l))
+same-lists (x ∷ xs) [] l h = absurd (omega (arith, l))
+same-lists (x ∷ xs) (y ∷ ys) l h =
+    let first : Some x ≡ Some y = h 0 (omega arith) in
+    let one : x ≡ y = cc in
+    let rest = same-lists xs ys (omega (arith, l)) (λ i k. h (suc i) (omega (arith, k))) in
+    ap (λ z. z ∷ xs) one ∙ ap (λ zs. y ∷ zs) rest
+
+pub range-at : {A : Type 0} (f : ℕ → A) (from count i : ℕ) → i < count → slice_get (map f (range_with_len from count)) i ≡ Some (f (from + i))
+range-at f from zero i h = absurd (omega (arith, h))
+range-at f from (suc n) zero h = ap (λ k. Some (f k)) (omega arith)
+range-at f from (suc n) (suc i) h = range-at f (from + 1) n i (omega (arith, h)) ∙ ap (λ k. Some (f k)) (omega arith)

@@ -1,5 +1,5 @@
 -- The new nodes of the first stages.
-use Rattle.std.proofs.Common.{◌≡◌, ℕ, List, [], length, slice_get, Some}
+use Rattle.std.proofs.Common.{◌≡◌, ℕ, List, [], slice_get, Some}
 use Rattle.file_devices.specs.declared.devices.Source as source
 use Rattle.file_devices.specs.declared.devices.Sink as sink
 use Rattle.network_theory.specs.Opening.{IsFresh}

@@ -1,9 +1,8 @@
 -- The stages of a tree before their first turn.
-use Rattle.std.specs.Prelude.{◌≡◌, ℕ, List, length, slice_get, sum_by, Bool, cond, is_some, Option, Some, None, ⊤}
+use Rattle.std.specs.Prelude.{◌≡◌, ℕ, List, slice_get, sum_by, cond, is_some, Option, Some, None, ⊤}
 use Rattle.file_devices.specs.Named.{Names}
 use Rattle.file_devices.specs.declared.devices.Source as source
 use Rattle.file_devices.specs.declared.devices.Sink as sink
-use Rattle.las_reader.specs.Files.{las_with}
 use Rattle.las_reader.specs.declared.reader.LasReader.{LasReader}
 use Rattle.las_reader.specs.declared.reader.Progress.TheVariants.{Records}
 use Rattle.stage_kinds.specs.declared.kind.Kind.{Kind}

@@ -1,5 +1,5 @@
 -- Why a step was refused, and what it leaves.
-use Rattle.std.specs.Prelude.{◌≡◌, ◌⊎◌, ℕ, ◌+◌, ◌<◌, ◌≤◌, nat_lt, List, length, Option, Some, None, Result, Err, IsOk, IsOkAnd, ⊤}
+use Rattle.std.specs.Prelude.{◌≡◌, ◌⊎◌, ℕ, ◌+◌, ◌<◌, ◌≤◌, nat_lt, List, length, Option, Some, Result, Err, IsOk, IsOkAnd, ⊤}
 use Rattle.std.specs.List.{filter}
 use Rattle.file_devices.specs.Told.{IsAsTold}
 use Rattle.file_devices.specs.Named.{Names}
@@ -74,6 +74,12 @@ IsUncreated rose i of.Memory = ⊤
 IsUncreated rose i (of.Device (at.Stage j) op.Create) = (j ≡ i) × rose
 IsUncreated rose i (of.Device (at.Stage j) op.Write) = (j ≡ i) × rose
 IsUncreated rose i refusal = ⊥
+
+-- it is neither for a file that wasn't kept nor for the program's output
+abbrev pub IsEarly : Refusal → Type 0
+IsEarly (of.Device at.Out o) = ⊥
+IsEarly (of.Device (at.Stage i) op.Keep) = ⊥
+IsEarly refusal = ⊤
 
 -- ---- what is left
 

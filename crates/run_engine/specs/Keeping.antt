@@ -1,5 +1,5 @@
 -- The keeping of writers' files.
-use Rattle.std.specs.Prelude.{◌≡◌, ◌⊎◌, ℕ, ◌+◌, ◌<◌, true, List, length, slice_get, Option, Some, None, ⊤}
+use Rattle.std.specs.Prelude.{◌≡◌, ◌⊎◌, ℕ, ◌+◌, ◌<◌, true, List, length, slice_get, Option, Some, None}
 use Rattle.std.proofs.Common.{zero, suc}
 use Rattle.file_devices.specs.Named.{Names, kept}
 use Rattle.file_devices.specs.declared.devices.Op.TheVariants.{Keep}

@@ -1,5 +1,5 @@
 -- What the nodes of a run came to.
-use Rattle.std.specs.Prelude.{◌≡◌, ℕ, ◌<◌, false, List, length, Option, Some, None, slice_get, option_map, ⊤}
+use Rattle.std.specs.Prelude.{◌≡◌, ℕ, ◌<◌, List, length, Option, Some, None, slice_get, option_map}
 use Rattle.file_devices.specs.declared.devices.Op.{Op}
 use Rattle.cloud_points.specs.declared.faults.PointFault.{PointFault}
 use Rattle.cloud_points.specs.declared.faults.StageFault.{StageFault}

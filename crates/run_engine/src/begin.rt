@@ -8,7 +8,7 @@ ghost use Rattle.stage_options.specs.Roles.{Writes, role_of, is_writing};
 ghost use Rattle.stage_runs.specs.Works.{IsAtStart};
 ghost use Rattle.answer_model.specs.Runs.{AreRead};
 ghost use Rattle.run_engine.specs.Begun.{AreOpened, AreBegun, IsOpened, IsWork, there, all_there, all_held};
-ghost use Rattle.run_engine.specs.Cause.{IsCause, IsUncreated};
+ghost use Rattle.run_engine.specs.Cause.{IsCause, IsEarly, IsUncreated};
 
 use crate::release::{give_back, release_works};
 use file_devices::{DeviceErr, Files, Op};
@@ -30,6 +30,7 @@ fn open_writer<F: Files>(
     requires { role_of options.now ≡ Writes name.now }
     ensures ok { IfOk result (IsAtStart F.Out.bytes options.now) }
     ensures err { IfErr result (IsUncreated (Rose (F.faults files.old) (F.faults files.new)) number) }
+    ensures early { IfErr result IsEarly }
     ensures map { F.map files.new ≡ F.map files.old }
     ensures lent_ok { IfOk result (λ work. F.lent files.new ≡ F.lent files.old + there (op_of work)) }
     ensures lent_err { OnErr result (F.lent files.new ≡ F.lent files.old) }
@@ -61,6 +62,7 @@ fn begin_work<F: Files>(
     ensures writes { OnErr result (is_writing (role_of stage.now.options) ≡ true) }
     ensures err { IfErr result (IsUncreated (Rose (F.faults files.old) (F.faults files.new)) number) }
     ensures none { OnErr result (there reader ≡ 0) }
+    ensures early { IfErr result IsEarly }
     ensures map { F.map files.new ≡ F.map files.old }
     ensures lent_ok { IfOk result (λ work. F.lent files.new + there reader ≡ F.lent files.old + there (op_of work)) }
     ensures lent_err { OnErr result (F.lent files.new ≡ F.lent files.old) }
@@ -90,6 +92,7 @@ pub(crate) fn begin_works<F: Files>(
     ensures ok { IfOk result (λ works. AreBegun F.In.Source F.Out.Sink (F.map files.old) stages.now works.items) }
     ensures count { IfOk result (λ works. length works.items ≡ length stages.now) }
     ensures err { IfErr result (IsCause (Rose (F.faults files.old) (F.faults files.new)) (F.map files.old) stages.now) }
+    ensures early { IfErr result IsEarly }
     ensures map { F.map files.new ≡ F.map files.old }
     ensures lent_ok { IfOk result (λ works. (others : ℕ) → F.lent files.old ≡ others + all_there readers.items
         → F.lent files.new ≡ others + all_held works.items) }

@@ -7,6 +7,7 @@ ghost use Rattle.pipeline_json.specs.Trees.{IsTree};
 ghost use Rattle.stage_options.specs.Kinds.{HaveOwnOptions};
 ghost use Rattle.stage_options.specs.Shapes.{shapes};
 ghost use Rattle.stage_kinds.specs.declared.kind.Kind as kind_type;
+ghost use Rattle.answer_model.specs.Values.{stage_at};
 ghost use Rattle.stage_runs.specs.Works.{as_works, AreNewStages};
 ghost use Rattle.run_engine.specs.Begun.{AreStarts};
 
@@ -15,6 +16,16 @@ use file_devices::{Sink, Source};
 use network_core::Node;
 use stage_kinds::Kind;
 use stage_options::StageSpec;
+
+/// How many stages a stage of a tree takes.
+fn inputs_of(stages: &[StageSpec], number: usize) -> u32
+    requires tree { IsTree (shapes stages.now) }
+    requires inside { number < length stages.now }
+    ensures { result ≡ length ((stage_at stages.now number).ins) }
+{
+    let ins = stages[number].ins.as_slice();
+    ins.len() as u32
+}
 
 /// New nodes for the works of a tree's stages, each with as many inputs as its stage takes; leaves make at most `chunk` points
 /// at once. There is room for them.
@@ -25,6 +36,7 @@ pub(crate) fn nodes_over<S: Source, K: Sink>(
     room: Vec<Node<Kind<S, K>>>,
 ) -> Vec<Node<Kind<S, K>>>
     requires tree { IsTree (shapes stages.now) }
+    requires few { length stages.now ≤ 64 }
     requires own { HaveOwnOptions stages.now }
     requires starts { AreStarts K.bytes stages.now works.items }
     requires count { length works.items ≡ length stages.now }
@@ -42,7 +54,7 @@ pub(crate) fn nodes_over<S: Source, K: Sink>(
     let mut nodes = room;
     let mut at = 0;
     while let Some(work) = works.pop() {
-        nodes.push_reserved(Node::new(work, stages[at].ins.as_slice().len() as u32, chunk));
+        nodes.push_reserved(Node::new(work, inputs_of(stages, at), chunk));
         at += 1;
     }
     works.destroy_empty();

@@ -4,7 +4,7 @@ ghost use Rattle.std.specs.Prelude.{◌≡◌, ◌≤◌, ◌+◌, ◌<◌, [], 
 ghost use Rattle.file_devices.specs.Counts.{Rose};
 ghost use Rattle.stage_options.specs.Roles.{Reads, role_of};
 ghost use Rattle.run_engine.specs.Begun.{IsReading, IsOpened, AreOpened, there, all_there};
-ghost use Rattle.run_engine.specs.Cause.{IsCause, IsUnopened, opening_refusal};
+ghost use Rattle.run_engine.specs.Cause.{IsCause, IsEarly, IsUnopened, opening_refusal};
 
 use crate::release::give_back;
 use file_devices::{DeviceErr, Files, Op};
@@ -34,6 +34,7 @@ fn open_reader<F: Files>(
 ) -> Result<LasReader<F::In>, Refusal>
     ensures ok { IfOk result (IsReading F.In.Source (F.map files.old) stage (Reads name.now)) }
     ensures err { IfErr result (IsUnopened (Rose (F.faults files.old) (F.faults files.new)) (F.map files.old) stage (Reads name.now)) }
+    ensures early { IfErr result IsEarly }
     ensures map { F.map files.new ≡ F.map files.old }
     ensures lent_ok { OnOk result (F.lent files.new ≡ F.lent files.old + 1) }
     ensures lent_err { OnErr result (F.lent files.new ≡ F.lent files.old) }
@@ -62,6 +63,7 @@ fn open_stage<F: Files>(
 ) -> Result<Option<LasReader<F::In>>, Refusal>
     ensures ok { IfOk result (IsOpened F.In.Source (F.map files.old) number (role_of stage.now.options)) }
     ensures err { IfErr result (IsUnopened (Rose (F.faults files.old) (F.faults files.new)) (F.map files.old) number (role_of stage.now.options)) }
+    ensures early { IfErr result IsEarly }
     ensures map { F.map files.new ≡ F.map files.old }
     ensures lent_ok { IfOk result (λ reader. F.lent files.new ≡ F.lent files.old + there reader) }
     ensures lent_err { OnErr result (F.lent files.new ≡ F.lent files.old) }
@@ -85,6 +87,7 @@ pub(crate) fn open_readers<F: Files>(
     ensures ok { IfOk result (λ readers. AreOpened F.In.Source (F.map files.old) stages.now readers.items) }
     ensures count { IfOk result (λ readers. length readers.items ≡ length stages.now) }
     ensures err { IfErr result (IsCause (Rose (F.faults files.old) (F.faults files.new)) (F.map files.old) stages.now) }
+    ensures early { IfErr result IsEarly }
     ensures map { F.map files.new ≡ F.map files.old }
     ensures lent_ok { IfOk result (λ readers. F.lent files.new ≡ F.lent files.old + all_there readers.items) }
     ensures lent_err { OnErr result (F.lent files.new ≡ F.lent files.old) }

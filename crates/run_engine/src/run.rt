@@ -43,14 +43,20 @@ pub fn run_pipeline<F: Files>(
     ensures lent { F.lent files.new ≡ F.lent files.old }
     ensures later { F.faults files.old ≤ F.faults files.new }
 {
-    let readers = open_readers(alloc, files, stages)?;
-    let works = begin_works(alloc, files, readers, stages)?;
+    let readers = match open_readers(alloc, files, stages) {
+        Ok(readers) => readers,
+        Err(refusal) => return Err(refusal),
+    };
+    let works = match begin_works(alloc, files, readers, stages) {
+        Ok(works) => works,
+        Err(refusal) => return Err(refusal),
+    };
     let Ran { works, outcome } = take_turns(alloc, works, stages, shape);
     match outcome {
-        Ok(report) => {
-            keep_works(files, works, stages)?;
-            Ok(report)
-        }
+        Ok(report) => match keep_works(files, works, stages) {
+            Ok(()) => Ok(report),
+            Err(refusal) => Err(refusal),
+        },
         Err(refusal) => {
             release_works(files, works);
             Err(refusal)

@@ -90,6 +90,14 @@ pub(crate) fn take_turns<S: Source, K: Sink>(
         }
     };
     let Ran { works, outcome } = finish(works);
-    let outcome = outcome.map(|()| report);
-    Ran { works, outcome }
+    match outcome {
+        Ok(()) => {
+            let outcome = Ok(report);
+            Ran { works, outcome }
+        }
+        Err(refusal) => {
+            let outcome = Err(refusal);
+            Ran { works, outcome }
+        }
+    }
 }

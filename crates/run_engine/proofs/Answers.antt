@@ -1,0 +1,224 @@
+-- What a run comes to, by its steps.
+use Rattle.std.proofs.Common.{◌≡◌, ◌⊎◌, ℕ, ◌+◌, ◌≤◌, suc, ◌<◌, true, List, [], ◌∷◌, length, slice_get, Option, Some, None, Result, Ok, Err, IsOk, IsOkAnd, refl, ap, sym, subst, ◌∙◌, inl, inr, arith}
+use Rattle.std.proofs.lemmas.Option.{slice_get_within}
+use Rattle.file_devices.specs.Counts.{Rose, saturating}
+use Rattle.file_devices.specs.Named.{Names}
+use Rattle.file_devices.specs.declared.devices.Op.{Op}
+use Rattle.file_devices.specs.declared.devices.Op.TheVariants as op
+use Rattle.file_devices.specs.declared.devices.Source as source
+use Rattle.file_devices.specs.declared.devices.Sink as sink
+use Rattle.network_core.proofs.Opened.{some_at}
+use Rattle.run_report.specs.declared.report.StageCount.{StageCount}
+use Rattle.stage_runs.proofs.Works.{op-at-start}
+use Rattle.cloud_points.specs.declared.faults.PointFault.{PointFault}
+use Rattle.stage_kinds.specs.declared.kind.Kind.{Kind}
+use Rattle.stage_kinds.specs.declared.kind.Kind.TheVariants.{Reader, Head, Text}
+use Rattle.stage_kinds.specs.Held.{op_of}
+use Rattle.stage_options.specs.Roles.{Role, Reads, Filters, Writes, is_writing}
+use Rattle.stage_options.specs.declared.stage.StageSpec.{StageSpec}
+use Rattle.run_report.specs.Reports.{report_of}
+use Rattle.run_report.specs.declared.refusal.Refusal.{Refusal}
+use Rattle.run_report.specs.declared.refusal.Refusal.TheVariants as of
+use Rattle.run_report.specs.declared.refusal.Place.TheVariants as at
+use Rattle.run_report.specs.declared.refusal.Fault.TheVariants as fault
+use Rattle.answer_model.specs.Values.{Opened, options_at, role_at, unless_fault, evaluated, least_fault, outputs_of, counts_of}
+use Rattle.answer_model.specs.Runs.{Run, AreRead, holds, unread_at, unless_unread, run_with, run_of, opened_in}
+use Rattle.answer_model.proofs.Least.{least-nowhere}
+use Rattle.stage_runs.specs.Works.{op_for, Tells}
+use Rattle.las_reader.specs.declared.reader.LasReader.{LasReader}
+use Rattle.std.proofs.lemmas.List.Sums.{sum_by-cons}
+use Rattle.run_engine.specs.Begun.{AreBegun, there, all_held}
+use Rattle.run_engine.specs.Keeping.{AreFor, kept_first, BrokeOff}
+use Rattle.run_engine.specs.Cause.{IsCause, IsEarly, IsLeft, IsRun, WerePut, WerePutBefore, AtRole}
+use Rattle.run_engine.specs.Turns.{WorksTell, AreLater, CameToEnd, IsTurnsCause}
+use Rattle.run_engine.proofs.Puts.{outputs_below, were-put, before-below}
+
+-- an early refusal leaves the files as they were
+pub early-left : (r : Refusal) (old new : Option Names) (expected : Result Run Refusal) → IsEarly r → new ≡ old → IsLeft r old new expected
+early-left of.Memory old new expected early same = inl same
+early-left (of.Data i f) old new expected early same = same
+early-left (of.Pipeline f) old new expected early same = same
+early-left (of.Usage k) old new expected early same = same
+early-left (of.NotBuilt k) old new expected early same = same
+early-left (of.Device at.PipelineFile o) old new expected early same = same
+early-left (of.Device at.Out o) old new expected early same = absurd early
+early-left (of.Device (at.Stage i) op.Open) old new expected early same = same
+early-left (of.Device (at.Stage i) op.Read) old new expected early same = same
+early-left (of.Device (at.Stage i) op.Create) old new expected early same = same
+early-left (of.Device (at.Stage i) op.Write) old new expected early same = same
+early-left (of.Device (at.Stage i) op.Patch) old new expected early same = same
+early-left (of.Device (at.Stage i) op.Keep) old new expected early same = absurd early
+
+-- where all files are read, the answer is what the stages come to
+all-read : (m : Names) (stages : List StageSpec) → AreRead m stages (length stages) → run_of m stages ≡ run_with (evaluated stages (opened_in m stages))
+all-read m stages read = ap (λ o. unless_unread o (run_with (evaluated stages (opened_in m stages)))) (least-nowhere (unread_at m stages) (length stages) read)
+
+abbrev pub right_run : List StageSpec → Opened → Run
+right_run stages opened = record { outputs = outputs_of stages opened; report = report_of (counts_of stages opened) }
+
+pub run-right : (m : Names) (stages : List StageSpec) → AreRead m stages (length stages) → least_fault stages (opened_in m stages) ≡ None → run_of m stages ≡ Ok (right_run stages (opened_in m stages))
+unfolding evaluated
+run-right m stages read sound = all-read m stages read
+    ∙ ap (λ f. run_with (unless_fault f (record { outputs = outputs_of stages (opened_in m stages); counts = counts_of stages (opened_in m stages) }))) sound
+
+pub run-fault : (m : Names) (stages : List StageSpec) (i : ℕ) (f : PointFault) → AreRead m stages (length stages) → least_fault stages (opened_in m stages) ≡ Some (i, f) → run_of m stages ≡ Err (of.Data i (fault.Point f))
+unfolding evaluated
+run-fault m stages i f read found = all-read m stages read
+    ∙ ap (λ f. run_with (unless_fault f (record { outputs = outputs_of stages (opened_in m stages); counts = counts_of stages (opened_in m stages) }))) found
+
+at-turns : (earlier all right : Type 0) (role : Role) (o : Op) → earlier → all → op_for role ≡ Some o → AtRole earlier all right role o
+at-turns earlier all right (Reads name) op.Read e a is = e
+at-turns earlier all right (Reads name) op.Open e a is = e
+at-turns earlier all right (Reads name) op.Create e a is = cc
+at-turns earlier all right (Reads name) op.Write e a is = cc
+at-turns earlier all right (Reads name) op.Patch e a is = cc
+at-turns earlier all right (Reads name) op.Keep e a is = cc
+at-turns earlier all right Filters o e a is = cc
+at-turns earlier all right (Writes name) op.Write e a is = a
+at-turns earlier all right (Writes name) op.Create e a is = a
+at-turns earlier all right (Writes name) op.Open e a is = cc
+at-turns earlier all right (Writes name) op.Read e a is = cc
+at-turns earlier all right (Writes name) op.Patch e a is = cc
+at-turns earlier all right (Writes name) op.Keep e a is = cc
+
+pub at-keeping : (earlier all right : Type 0) (role : Role) → is_writing role ≡ true → right → AtRole earlier all right role op.Keep
+at-keeping earlier all right (Reads name) w r = cc
+at-keeping earlier all right Filters w r = cc
+at-keeping earlier all right (Writes name) w r = r
+
+-- a count that rose in a device rose in that of the files, once the device is given back
+rose-given : (before after files end : ℕ) → Rose before after → saturating files after ≤ end → Rose files end
+rose-given before after files end rose back = omega (arith, rose, back)
+
+module _ {S K : Type 0} (s : source.Ghosts S) (faults : Kind S K → ℕ) (map : Option Names) (stages : List StageSpec) (old new : List (Kind S K)) (start mid end : ℕ)
+    (few : length old ≡ length stages)
+    (read : (m : Names) → map ≡ Some m → AreRead m stages (length stages))
+    (tells : (m : Names) → map ≡ Some m → WorksTell s old (opened_in m stages))
+    (fit : (i : ℕ) (w : Kind S K) → slice_get old i ≡ Some w → op_of w ≡ op_for (role_at stages i))
+    (low : start ≤ mid) (back : (i : ℕ) (w : Kind S K) → slice_get new i ≡ Some w → saturating mid (faults w) ≤ end) where
+  pub turns-to-cause : (r : Refusal) → IsTurnsCause s faults stages old new r → IsCause (Rose start end) map stages r
+  turns-to-cause of.Memory c = tt
+  turns-to-cause (of.Data i (fault.Point f)) c = λ m e. run-fault m stages i f (read m e) (c (opened_in m stages) (tells m e))
+  turns-to-cause (of.Data i (fault.Header f)) c = absurd c
+  turns-to-cause (of.Data i (fault.Vlr f)) c = absurd c
+  turns-to-cause (of.Device (at.Stage i) o) c = inr (
+    (let a = rose-given (faults c.before) (faults c.after) mid end c.rose (back i c.after c.is) in omega (arith, a, low)),
+    λ m e. (let inside : i < length stages = (let a = slice_get_within old i c.before c.was in omega (arith, a, few)) in record {
+      inside = inside;
+      come = at-turns (AreRead m stages i) (AreRead m stages (length stages)) (IsOk (run_of m stages)) (role_at stages i) o
+          (λ j lt. read m e j (omega (arith, lt, inside))) (read m e) (sym (fit i c.before c.was) ∙ c.does);
+    }),
+  )
+  turns-to-cause (of.Device at.PipelineFile o) c = absurd c
+  turns-to-cause (of.Device at.Out o) c = absurd c
+  turns-to-cause (of.Pipeline f) c = absurd c
+  turns-to-cause (of.Usage k) c = absurd c
+  turns-to-cause (of.NotBuilt k) c = absurd c
+
+-- no device fails in a keeping while stages take turns
+op-early : {S K : Type 0} (i : ℕ) (w : Kind S K) (o : Op) → op_of w ≡ Some o → IsEarly (of.Device (at.Stage i) o)
+op-early i (Reader r) op.Keep e = cc
+op-early i (Head h) op.Keep e = cc
+op-early i (Text t) op.Keep e = cc
+op-early i w op.Open e = tt
+op-early i w op.Read e = tt
+op-early i w op.Create e = tt
+op-early i w op.Write e = tt
+op-early i w op.Patch e = tt
+
+pub turns-early : {S K : Type 0} (s : source.Ghosts S) (faults : Kind S K → ℕ) (stages : List StageSpec) (old new : List (Kind S K)) (r : Refusal) → IsTurnsCause s faults stages old new r → IsEarly r
+turns-early s faults stages old new of.Memory c = tt
+turns-early s faults stages old new (of.Data i f) c = tt
+turns-early s faults stages old new (of.Device (at.Stage i) o) c = op-early i c.before o c.does
+turns-early s faults stages old new (of.Device at.PipelineFile o) c = tt
+turns-early s faults stages old new (of.Device at.Out o) c = absurd c
+turns-early s faults stages old new (of.Pipeline f) c = tt
+turns-early s faults stages old new (of.Usage k) c = tt
+turns-early s faults stages old new (of.NotBuilt k) c = tt
+
+module _ {S K : Type 0} (bytes : K → Option (List ℕ)) (stages : List StageSpec) (works : List (Kind S K)) (few : length works ≡ length stages) where
+  -- a file that wasn't kept is the cause, where the answer is right
+  pub broke-cause : (rose : Type 0) (map old new : Option Names) (r : Refusal) → ((m : Names) → map ≡ Some m → IsOk (run_of m stages)) → BrokeOff bytes rose old new stages works r → IsCause rose map stages r
+  broke-cause rose map old new r right broke = elim broke.why [
+    | inl m ↦ subst (IsCause rose map stages) (sym m) tt
+    | inr d ↦ subst (IsCause rose map stages) (sym d.0) (inr (
+      d.1,
+      λ m e. record {
+        inside = (let a = broke.inside in omega (arith, a, few));
+        come = at-keeping (AreRead m stages broke.stage) (AreRead m stages (length stages)) (IsOk (run_of m stages)) (role_at stages broke.stage) broke.writes (right m e);
+      },
+    ))
+  ]
+
+  -- what it leaves
+  pub broke-left : (rose : Type 0) (old new : Option Names) (r : Refusal) (run : Run) → BrokeOff bytes rose old new stages works r
+      → ((n : ℕ) → n ≤ length works → new ≡ kept_first bytes n old stages works → WerePutBefore n old new run) → IsLeft r old new (Ok run)
+  broke-left rose old new r run broke put = elim broke.why [
+    | inl m ↦ subst (λ x. IsLeft x old new (Ok run)) (sym m) (inr (elim put-there [ inl a ↦ (broke.stage, a) | inr b ↦ (broke.stage + 1, b) ]))
+    | inr d ↦ subst (λ x. IsLeft x old new (Ok run)) (sym d.0) put-there
+  ]
+    where
+      put-there : WerePutBefore broke.stage old new run ⊎ WerePutBefore (broke.stage + 1) old new run
+      put-there = elim broke.left [
+        | inl l ↦ inl (put broke.stage (let a = broke.inside in omega (arith, a)) l)
+        | inr l ↦ inr (put (broke.stage + 1) (let a = broke.inside in omega (arith, a)) l)
+      ]
+
+-- the file that a reader's source tells is the one at its stage
+pub tells-there : {S : Type 0} (s : source.Ghosts S) (m : Names) (stages : List StageSpec) (i : ℕ) (r : LasReader S) → Tells s (λ j. holds m j (role_at stages i)) i r → Tells s (opened_in m stages) i r
+tells-there s m stages i r t = record { file = t.file; told = t.told; holds = t.holds }
+
+-- later works hold as many devices
+held-same : {S K : Type 0} (xs ys : List (Kind S K)) → length ys ≡ length xs → ((i : ℕ) (v w : Kind S K) → slice_get xs i ≡ Some v → slice_get ys i ≡ Some w → there (op_of w) ≡ there (op_of v)) → all_held ys ≡ all_held xs
+held-same [] [] l h = refl
+held-same [] (y ∷ ys) l h = absurd (omega (arith, l))
+held-same (x ∷ xs) [] l h = absurd (omega (arith, l))
+held-same (x ∷ xs) (y ∷ ys) l h =
+    let a = h 0 x y refl refl in
+    let r = held-same xs ys (omega (arith, l)) (λ i v w e f. h (suc i) v w e f) in
+    let p = sum_by-cons (λ w. there (op_of w)) x xs in
+    let q = sum_by-cons (λ w. there (op_of w)) y ys in
+    omega (arith, a, r, p, q)
+
+pub same-held : {S K : Type 0} (faults : Kind S K → ℕ) (old new : List (Kind S K)) → AreLater faults old new → all_held new ≡ all_held old
+same-held faults old new later = held-same old new later.count (λ i v w e f. ap there (later.op i v w e f))
+
+-- a run whose stages came to their end
+module _ {S K : Type 0} (s : source.Ghosts S) (k : sink.Ghosts K) (map : Option Names) (stages : List StageSpec) (works done : List (Kind S K)) (few : length works ≡ length stages)
+    (begun : AreBegun s k map stages works) (read : (m : Names) → map ≡ Some m → AreRead m stages (length stages)) (faults : Kind S K → ℕ) (later : AreLater faults works done) where
+  pub works-tell : (m : Names) → map ≡ Some m → WorksTell s works (opened_in m stages)
+  works-tell m e i w r a b = tells-there s m stages i r ((begun i w a).tells m e r b)
+
+  pub starts-fit : (i : ℕ) (w : Kind S K) → slice_get works i ≡ Some w → op_of w ≡ op_for (role_at stages i)
+  starts-fit i w e = op-at-start s k.bytes (options_at stages i) w (begun i w e).start
+
+  pub fit : AreFor stages done
+  fit i w e =
+      let v = some_at works i (let a = slice_get_within done i w e in let b = later.count in omega (arith, a, b)) in
+      later.op i v.0 w v.1 e ∙ starts-fit i v.0 v.1
+
+  size : length done ≡ length stages
+  size = later.count ∙ few
+
+  module _ (counts : List StageCount) (came : (opened : Opened) → WorksTell s works opened → CameToEnd k.bytes stages opened done counts) where
+    at-end : (m : Names) → map ≡ Some m → CameToEnd k.bytes stages (opened_in m stages) done counts
+    at-end m e = came (opened_in m stages) (works-tell m e)
+
+    right : (m : Names) → map ≡ Some m → run_of m stages ≡ Ok (right_run stages (opened_in m stages))
+    right m e = run-right m stages (read m e) (at-end m e).sound
+
+    first-kept : (m : Names) → map ≡ Some m → (n : ℕ) → n ≤ length done → (new : Option Names) → new ≡ kept_first k.bytes n map stages done → WerePut map (outputs_below stages (opened_in m stages) n) new
+    first-kept m e n le new is = were-put stages (opened_in m stages) s k.bytes done fit (at-end m e).held n map new le is
+
+    pub is-run : (m : Names) → map ≡ Some m → (new : Option Names) → new ≡ kept_first k.bytes (length done) map stages done → IsOkAnd (run_of m stages) (IsRun map new counts)
+    is-run m e new is = subst (λ o. IsOkAnd o (IsRun map new counts)) (sym (right m e)) (record {
+      put = subst (λ n. WerePut map (outputs_below stages (opened_in m stages) n) new) size (first-kept m e (length done) (omega arith) new is);
+      report = ap report_of (sym (at-end m e).counted);
+    })
+
+    pub unkept-cause : (rose : Type 0) (new : Option Names) (r : Refusal) → BrokeOff k.bytes rose map new stages done r → IsCause rose map stages r
+    unkept-cause rose new r broke = broke-cause k.bytes stages done size rose map map new r (λ m e. subst IsOk (sym (right m e)) refl) broke
+
+    pub unkept-left : (rose : Type 0) (new : Option Names) (r : Refusal) → BrokeOff k.bytes rose map new stages done r → (m : Names) → map ≡ Some m → IsLeft r map new (run_of m stages)
+    unkept-left rose new r broke m e = subst (IsLeft r map new) (sym (right m e)) (broke-left k.bytes stages done size rose map new r (right_run stages (opened_in m stages)) broke
+        (λ n le is. subst (λ os. WerePut map os new) (sym (before-below stages (opened_in m stages) n (length stages) (let a = size in omega (arith, le, a)))) (first-kept m e n le new is)))

@@ -1,0 +1,141 @@
+-- How many stages a stage takes, and which take none.
+use Rattle.std.proofs.Common.{◌≡◌, ℕ, zero, suc, ◌+◌, ◌≤◌, ◌<◌, Bool, true, false, true≢false, ◌==◌, ◌||◌, cond, List, [], ◌∷◌, length, slice_get, Option, Some, refl, ap, sym, subst, ◌∙◌, arith, inl, inr, eq-eqb, ne_eqb}
+use Rattle.std.proofs.lemmas.Bool.Decides.{eqb_tells}
+use Rattle.std.proofs.lemmas.List.Sums.{sum_by-cons}
+use Rattle.pipeline_json.specs.Lists.{has, times, is_empty}
+use Rattle.pipeline_json.specs.Stages.{Stage, taken}
+use Rattle.pipeline_json.specs.Trees.{IsTree}
+use Rattle.pipeline_json.proofs.Taken.{times-append}
+use Rattle.stage_names.specs.Kinds as names
+use Rattle.stage_kinds.specs.declared.kind.Kind.{Kind}
+use Rattle.stage_kinds.specs.declared.kind.Kind.TheVariants.{Reader, Head, Text}
+use Rattle.stage_kinds.specs.Stages.{is_reader}
+use Rattle.stage_options.specs.Kinds.{kind_of, HaveOwnOptions}
+use Rattle.stage_options.specs.Shapes.{shape, shapes}
+use Rattle.stage_options.specs.declared.options.Options.{Options}
+use Rattle.stage_options.specs.declared.options.Options.TheVariants.{ReadersLas, FiltersHead, WritersText}
+use Rattle.stage_options.specs.declared.stage.StageSpec.{StageSpec}
+use Rattle.network_core.proofs.Opened.{some_at}
+use Rattle.answer_model.specs.Values.{stage_at, options_at}
+use Rattle.stage_runs.specs.Works.{IsAtStart}
+use Rattle.run_engine.proofs.Opening.{stage-is}
+
+-- how often the numbers below one stand in a list
+abbrev tally : ℕ → List ℕ → ℕ
+tally zero xs = 0
+tally (suc n) xs = tally n xs + times n xs
+
+tally-nil : (n : ℕ) → tally n [] ≡ 0
+tally-nil zero = refl
+tally-nil (suc n) = let r = tally-nil n in omega (arith, r)
+
+times-cons : (j x : ℕ) (xs : List ℕ) → times j (x ∷ xs) ≡ cond (x == j) 1 0 + times j xs
+times-cons j x xs = sum_by-cons (λ k. cond (k == j) 1 0) x xs
+
+times-same : (j : ℕ) (xs : List ℕ) → times j (j ∷ xs) ≡ 1 + times j xs
+times-same j xs = times-cons j j xs ∙ ap (λ b. cond b 1 0 + times j xs) (eq-eqb j j refl)
+
+times-other : (j x : ℕ) (xs : List ℕ) → (x ≡ j → ⊥) → times j (x ∷ xs) ≡ times j xs
+times-other j x xs ne = times-cons j x xs ∙ ap (λ b. cond b 1 0 + times j xs) (ne_eqb x j ne) ∙ zero-first (times j xs)
+  where
+    zero-first : (n : ℕ) → 0 + n ≡ n
+    zero-first n = omega arith
+
+tally-past : (n x : ℕ) (xs : List ℕ) → n ≤ x → tally n (x ∷ xs) ≡ tally n xs
+tally-past zero x xs h = refl
+tally-past (suc n) x xs h = (let r = tally-past n x xs (omega (arith, h)) in let t = times-other n x xs (λ e. absurd (omega (arith, h, e))) in omega (arith, r, t))
+
+tally-within : (n x : ℕ) (xs : List ℕ) → x < n → tally n (x ∷ xs) ≡ 1 + tally n xs
+tally-within zero x xs h = absurd (omega (arith, h))
+tally-within (suc n) x xs h = elim (eqb_tells x n) [
+  | inl p ↦ (let e = p.1 in let r = tally-past n x xs (omega (arith, e)) in let t = subst (λ y. times n (y ∷ xs) ≡ 1 + times n xs) (sym e) (times-same n xs) in omega (arith, r, t))
+  | inr p ↦ (let ne = p.1 in let r = tally-within n x xs (omega (arith, h, ne)) in let t = times-other n x xs ne in omega (arith, r, t))
+]
+
+has-first : (x : ℕ) (xs : List ℕ) → has (x ∷ xs) x ≡ true
+has-first x xs = rw (eq-eqb x x refl) refl
+
+has-more : (x j : ℕ) (xs : List ℕ) → has xs j ≡ true → has (x ∷ xs) j ≡ true
+has-more x j xs h = rw h (go (x == j))
+  where
+    go : (b : Bool) → b || true ≡ true
+    go true = refl
+    go false = refl
+
+length-tally : (n : ℕ) (xs : List ℕ) → ((j : ℕ) → has xs j ≡ true → j < n) → length xs ≡ tally n xs
+length-tally n [] h = sym (tally-nil n)
+length-tally n (x ∷ xs) h = (let r = length-tally n xs (λ j l. h j (has-more x j xs l)) in let t = tally-within n x xs (h x (has-first x xs)) in omega (arith, r, t))
+
+tally-most : (n : ℕ) (xs : List ℕ) → ((j : ℕ) → j < n → times j xs ≤ 1) → tally n xs ≤ n
+tally-most zero xs h = omega arith
+tally-most (suc n) xs h = (let r = tally-most n xs (λ j l. h j (omega (arith, l))) in let t = h n (omega arith) in omega (arith, r, t))
+
+-- a stage's inputs are among those that are taken
+times-taken : (stages : List Stage) (i j : ℕ) (s : Stage) → slice_get stages i ≡ Some s → times j s.ins ≤ times j (taken stages)
+times-taken [] i j s e = absurd cc
+times-taken (t ∷ later) zero j s e =
+    let same : t ≡ s = cc in
+    let a = times-append j t.ins (taken later) in
+    let b = ap (λ (x : Stage). times j x.ins) same in
+    omega (arith, a, b)
+times-taken (t ∷ later) (suc i) j s e = (let r = times-taken later i j s e in let a = times-append j t.ins (taken later) in omega (arith, a, r))
+
+shape-at : (stages : List StageSpec) (i : ℕ) (s : StageSpec) → slice_get stages i ≡ Some s → slice_get (shapes stages) i ≡ Some (shape s)
+shape-at [] i s e = absurd cc
+shape-at (t ∷ later) zero s e = let same : t ≡ s = cc in ap (λ x. Some (shape x)) same
+shape-at (t ∷ later) (suc i) s e = shape-at later i s e
+
+shapes-size : (stages : List StageSpec) → length (shapes stages) ≡ length stages
+shapes-size [] = refl
+shapes-size (s ∷ later) = let r = shapes-size later in omega (arith, r)
+
+-- a stage takes at most as many as stand before it
+few-inputs : (stages : List StageSpec) (i : ℕ) (s : StageSpec) → IsTree (shapes stages) → i < length stages → slice_get stages i ≡ Some s → length s.ins ≤ i
+few-inputs stages i s tree lt e =
+    let at = shape-at stages i s e in
+    let size = shapes-size stages in
+    let a = length-tally i s.ins (λ j h. tree.earlier i j (shape s) at h) in
+    let b = tally-most i s.ins (λ j l. let once = tree.once j (omega (arith, l, lt, size)) in let le = times-taken (shapes stages) i j (shape s) at in omega (arith, once, le)) in
+    omega (arith, a, b)
+
+-- a reader's work is that of a stage which takes none
+start-reads : {S K : Type 0} (bytes : K → Option (List ℕ)) (o : Options) (w : Kind S K) → IsAtStart bytes o w → is_reader w ≡ names.is_reader (kind_of o)
+start-reads bytes (ReadersLas o) (Reader r) start = refl
+start-reads bytes (ReadersLas o) (Head h) start = absurd start
+start-reads bytes (ReadersLas o) (Text w) start = absurd start
+start-reads bytes (FiltersHead o) (Reader r) start = absurd start
+start-reads bytes (FiltersHead o) (Head h) start = refl
+start-reads bytes (FiltersHead o) (Text w) start = absurd start
+start-reads bytes (WritersText o) (Reader r) start = absurd start
+start-reads bytes (WritersText o) (Head h) start = absurd start
+start-reads bytes (WritersText o) (Text w) start = refl
+
+empty-none : (xs : List ℕ) → is_empty xs ≡ true → length xs ≡ 0
+empty-none [] e = refl
+empty-none (x ∷ xs) e = absurd (true≢false (sym e))
+
+none-empty : (xs : List ℕ) → length xs ≡ 0 → is_empty xs ≡ true
+none-empty [] e = refl
+none-empty (x ∷ xs) e = absurd (omega (arith, e))
+
+leaf-inputs : {S K : Type 0} (bytes : K → Option (List ℕ)) (stages : List StageSpec) (i : ℕ) (s : StageSpec) (w : Kind S K) → IsTree (shapes stages) → HaveOwnOptions stages → slice_get stages i ≡ Some s → IsAtStart bytes s.options w
+    → (is_reader w ≡ true → length s.ins ≡ 0) × (length s.ins ≡ 0 → is_reader w ≡ true)
+leaf-inputs bytes stages i s w tree own e start =
+    let reads : is_empty s.ins ≡ is_reader w = tree.readers i (shape s) (shape-at stages i s e) ∙ sym (start-reads bytes s.options w start ∙ ap names.is_reader (own i s e)) in
+    (λ h. empty-none s.ins (reads ∙ h), λ h. sym reads ∙ none-empty s.ins h)
+
+-- the stage at a place takes fewer than 2 ^ 32
+pub input-count : (stages : List StageSpec) (i : ℕ) (s : StageSpec) → IsTree (shapes stages) → i < length stages → slice_get stages i ≡ Some s → length s.ins ≤ 64
+input-count stages i s tree lt e =
+    let a = few-inputs stages i s tree lt e in
+    let b = tree.few in
+    let c = shapes-size stages in
+    omega (arith, a, b, c, lt)
+
+pub leaf-at : {S K : Type 0} (bytes : K → Option (List ℕ)) (stages : List StageSpec) (i : ℕ) (w : Kind S K) → IsTree (shapes stages) → HaveOwnOptions stages → i < length stages → IsAtStart bytes (options_at stages i) w
+    → (is_reader w ≡ true → length ((stage_at stages i).ins) ≡ 0) × (length ((stage_at stages i).ins) ≡ 0 → is_reader w ≡ true)
+leaf-at bytes stages i w tree own lt start =
+    let s = some_at stages i lt in
+    let is = stage-is stages i s.0 s.1 in
+    subst (λ (t : StageSpec). (is_reader w ≡ true → length t.ins ≡ 0) × (length t.ins ≡ 0 → is_reader w ≡ true)) (sym is)
+    (leaf-inputs bytes stages i s.0 w tree own s.1 (subst (λ (t : StageSpec). IsAtStart bytes t.options w) is start))

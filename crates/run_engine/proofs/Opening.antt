@@ -1,0 +1,93 @@
+-- The readers of the first stages are opened.
+use Rattle.std.proofs.Common.{◌≡◌, ℕ, ◌<◌, List, length, slice_get, Option, Some, None, Err, IsOk, refl, ap, sym, subst, ◌∙◌, arith, inl, inr}
+use Rattle.std.specs.Prelude.{⊤}
+use Rattle.std.proofs.lemmas.Option.{get_or_from_slice_get}
+use Rattle.network_core.proofs.Opened.{some_at}
+use Rattle.file_devices.specs.Named.{Names}
+use Rattle.file_devices.specs.declared.devices.Op.{Op}
+use Rattle.file_devices.specs.declared.devices.Op.TheVariants as op
+use Rattle.file_devices.specs.declared.devices.Source as source
+use Rattle.file_devices.specs.declared.devices.Sink as sink
+use Rattle.las_reader.specs.declared.reader.LasReader.{LasReader}
+use Rattle.stage_kinds.specs.declared.kind.Kind.TheVariants.{Reader}
+use Rattle.stage_options.specs.Roles.{Role, Reads, Filters, Writes, role_of}
+use Rattle.stage_options.specs.declared.options.Options.{Options}
+use Rattle.stage_options.specs.declared.options.Options.TheVariants.{ReadersLas, FiltersHead, WritersText}
+use Rattle.stage_options.specs.declared.stage.StageSpec.{StageSpec}
+use Rattle.run_report.specs.declared.refusal.Refusal.{Refusal}
+use Rattle.run_report.specs.declared.refusal.Refusal.TheVariants as of
+use Rattle.run_report.specs.declared.refusal.Place.TheVariants as at
+use Rattle.answer_model.specs.Values.{stage_at, role_at, evaluated}
+use Rattle.answer_model.specs.Runs.{AreRead, holds, unread, unread_at, unless_unread, run_with, run_of, opened_in}
+use Rattle.stage_runs.specs.Works.{Tells}
+use Rattle.answer_model.proofs.Least.{least-at}
+use Rattle.run_engine.specs.Begun.{IsOpened, AreOpened, IsWork}
+use Rattle.run_engine.specs.Cause.{IsCause, IsUnopened, AtRole}
+
+-- a stage that stands at a place
+pub stage-is : (stages : List StageSpec) (i : ℕ) (s : StageSpec) → slice_get stages i ≡ Some s → stage_at stages i ≡ s
+stage-is stages i s e = get_or_from_slice_get stages i s _ e
+
+pub role-is : (stages : List StageSpec) (i : ℕ) (s : StageSpec) → slice_get stages i ≡ Some s → role_of s.options ≡ role_at stages i
+role-is stages i s e = ap (λ (t : StageSpec). role_of t.options) (sym (stage-is stages i s e))
+
+-- the file of a stage whose reader is opened can be read
+opened-read : {S : Type 0} (s : source.Ghosts S) (map : Option Names) (i : ℕ) (role : Role) (o : Option (LasReader S)) → IsOpened s map i role o → (m : Names) → map ≡ Some m → unread m i role ≡ None
+opened-read s map i (Reads name) (Some r) is m e = is.read m e
+opened-read s map i (Reads name) None is m e = absurd is
+opened-read s map i Filters o is m e = refl
+opened-read s map i (Writes name) o is m e = refl
+
+pub are-read : {S : Type 0} (s : source.Ghosts S) (map : Option Names) (stages : List StageSpec) (readers : List (Option (LasReader S))) (count : ℕ) → count ≡ length readers → AreOpened s map stages readers → (m : Names) → map ≡ Some m → AreRead m stages count
+are-read s map stages readers count size are m e i lt =
+    let o = some_at readers i (omega (arith, size, lt)) in
+    opened-read s map i (role_at stages i) o.0 (are i o.0 o.1) m e
+
+-- the first stage whose file can't be read is the answer
+pub first-unread : (m : Names) (stages : List StageSpec) (i : ℕ) (r : Refusal) → i < length stages → AreRead m stages i → unread_at m stages i ≡ Some r → run_of m stages ≡ Err r
+first-unread m stages i r lt before e = ap (λ o. unless_unread o (run_with (evaluated stages (opened_in m stages)))) (least-at (unread_at m stages) (length stages) i r lt e before)
+
+pub unopened-cause : (rose : Type 0) (map : Option Names) (stages : List StageSpec) (i : ℕ) (refusal : Refusal) → i < length stages → ((m : Names) → map ≡ Some m → AreRead m stages i)
+    → IsUnopened rose map i (role_at stages i) refusal → IsCause rose map stages refusal
+unopened-cause rose map stages i refusal lt read why = go (role_at stages i) refl refusal why
+  where
+    at-reader : (earlier all right : Type 0) (name : List ℕ) (o : Op) → earlier → AtRole ⊤ ⊥ ⊥ (Reads name) o → AtRole earlier all right (Reads name) o
+    at-reader earlier all right name op.Open e a = e
+    at-reader earlier all right name op.Read e a = e
+    at-reader earlier all right name op.Create e a = absurd a
+    at-reader earlier all right name op.Write e a = absurd a
+    at-reader earlier all right name op.Patch e a = absurd a
+    at-reader earlier all right name op.Keep e a = absurd a
+
+    go : (role : Role) → role_at stages i ≡ role → (r : Refusal) → IsUnopened rose map i role r → IsCause rose map stages r
+    go role is of.Memory w = tt
+    go role is (of.Data j f) w = λ m e. first-unread m stages i (of.Data j f) lt (read m e) (ap (unread m i) is ∙ w m e)
+    go (Reads name) is (of.Device (at.Stage j) o) w = subst (λ k. IsCause rose map stages (of.Device (at.Stage k) o)) (sym w.0) (elim w.1 [
+      | inl a ↦ inl (a.0, a.1, first-unread a.0 stages i (of.Device (at.Stage i) o) lt (read a.0 a.1) (ap (unread a.0 i) is ∙ a.2))
+      | inr f ↦ inr (
+        f.0,
+        λ m e. record {
+          inside = lt;
+          come = subst (λ x. AtRole (AreRead m stages i) (AreRead m stages (length stages)) (IsOk (run_of m stages)) x o) (sym is) (at-reader (AreRead m stages i) (AreRead m stages (length stages)) (IsOk (run_of m stages)) name o (read m e) f.1);
+        },
+      )
+    ])
+    go Filters is (of.Device p o) w = absurd w
+    go (Writes name) is (of.Device p o) w = absurd w
+    go (Reads name) is (of.Device at.PipelineFile o) w = absurd w
+    go (Reads name) is (of.Device at.Out o) w = absurd w
+    go Filters is (of.Pipeline f) w = absurd w
+    go (Reads name) is (of.Pipeline f) w = absurd w
+    go (Writes name) is (of.Pipeline f) w = absurd w
+    go Filters is (of.Usage k) w = absurd w
+    go (Reads name) is (of.Usage k) w = absurd w
+    go (Writes name) is (of.Usage k) w = absurd w
+    go Filters is (of.NotBuilt k) w = absurd w
+    go (Reads name) is (of.NotBuilt k) w = absurd w
+    go (Writes name) is (of.NotBuilt k) w = absurd w
+
+-- an opened reader is the work of its stage
+pub reader-work : {S K : Type 0} (s : source.Ghosts S) (k : sink.Ghosts K) (map : Option Names) (i : ℕ) (o : Options) (r : LasReader S) → IsOpened s map i (role_of o) (Some r) → IsWork s k map i o (Reader r)
+reader-work s k map i (ReadersLas o) r is = record { start = is.start; tells = λ m e q w. (let same : r ≡ q = cc in subst (λ (x : LasReader _). Tells s (λ j. holds m j (role_of (ReadersLas o))) i x) same (is.tells m e)) }
+reader-work s k map i (FiltersHead o) r is = absurd is
+reader-work s k map i (WritersText o) r is = absurd is

@@ -1,0 +1,123 @@
+-- The kept files are the outputs, put under their names.
+use Rattle.std.proofs.Common.{◌≡◌, ◌⊎◌, ℕ, zero, suc, ◌+◌, ◌≤◌, ◌<◌, true, false, List, [], ◌∷◌, ◌++◌, length, slice_get, Option, Some, None, refl, ap, sym, subst, ◌∙◌, inl, inr, arith}
+use Rattle.std.specs.Prelude.{nat_lt, flat_map}
+use Rattle.std.specs.List.{range_with_len}
+use Rattle.std.proofs.lemmas.Bool.{lt-ltb, le-ltb}
+use Rattle.std.proofs.lemmas.Grind.{flat_map-append}
+use Rattle.std.proofs.lemmas.List.{append-nil}
+use Rattle.std.proofs.lemmas.List.Elements.{filter-append}
+use Rattle.network_core.proofs.Opened.{some_at}
+use Rattle.file_devices.specs.Named.{Names, put, kept}
+use Rattle.file_devices.specs.Told.{IsAsTold}
+use Rattle.cloud_points.specs.Flows.{points}
+use Rattle.stage_kinds.specs.declared.kind.Kind.{Kind}
+use Rattle.stage_kinds.specs.Held.{told_by}
+use Rattle.stage_kinds.specs.Stages.{holds_of}
+use Rattle.stage_options.specs.Roles.{Role, Reads, Filters, Writes, is_reading}
+use Rattle.stage_options.specs.declared.stage.StageSpec.{StageSpec}
+use Rattle.answer_model.specs.Values.{Opened, Output, options_at, role_at, row_at, written, output_at, stage_input}
+use Rattle.answer_model.specs.Runs.{put_all}
+use Rattle.stage_runs.proofs.Works.{written-is}
+use Rattle.file_devices.specs.declared.devices.Source as source
+use Rattle.run_engine.specs.Cause.{WerePut, outputs_before}
+use Rattle.run_engine.specs.Keeping.{AreFor, kept_one, kept_if, kept_first}
+
+kept_told : (m : Names) (name text : List ℕ) (old : Option Names) (sink : Option (List ℕ)) → IsAsTold old (Some m) → IsAsTold sink (Some text) → IsAsTold (kept old name sink) (Some (put m name text))
+kept_told m name text None sink first told = λ x e. cc
+kept_told m name text (Some n) None first told = λ x e. cc
+kept_told m name text (Some n) (Some b) first told = λ x e.
+    let a : Some m ≡ Some n = first n refl in
+    let d : Some text ≡ Some b = told b refl in
+    let f : m ≡ n = cc in
+    let h : text ≡ b = cc in
+    ap (λ y. Some (put y name text)) f ∙ ap (λ y. Some (put n name y)) h ∙ e
+
+put_append : (m : Names) (xs ys : List Output) → put_all m (xs ++ ys) ≡ put_all (put_all m xs) ys
+put_append m [] ys = refl
+put_append m (x ∷ xs) ys = put_append (put m x.name x.bytes) xs ys
+
+range-more : (a n : ℕ) → range_with_len a (suc n) ≡ range_with_len a n ++ (a + n) ∷ []
+range-more a zero = ap (λ x. x ∷ []) (omega arith)
+range-more a (suc n) = ap (λ xs. a ∷ xs) (range-more (a + 1) n ∙ ap (λ x. range_with_len (a + 1) n ++ x ∷ []) (omega arith))
+
+-- the outputs of the first so many stages
+abbrev pub outputs_below : List StageSpec → Opened → ℕ → List Output
+outputs_below stages opened n = flat_map (output_at stages opened) (range_with_len 0 n)
+
+below-more : (stages : List StageSpec) (opened : Opened) (n : ℕ) → outputs_below stages opened (suc n) ≡ outputs_below stages opened n ++ output_at stages opened n
+below-more stages opened n =
+    ap (flat_map (output_at stages opened)) (range-more 0 n)
+    ∙ flat_map-append (output_at stages opened) (range_with_len 0 n) ((0 + n) ∷ [])
+    ∙ ap (λ xs. outputs_below stages opened n ++ xs) (append-nil (output_at stages opened (0 + n)) ∙ ap (output_at stages opened) (zero-first n))
+  where
+    zero-first : (n : ℕ) → 0 + n ≡ n
+    zero-first n = omega arith
+
+-- an output has the number of its stage
+before-none : (i n : ℕ) (role : Role) (bytes : List ℕ) → i ≤ n → outputs_before i (written n role bytes) ≡ []
+before-none i n (Reads name) bytes h = refl
+before-none i n Filters bytes h = refl
+before-none i n (Writes name) bytes h = let e : nat_lt n i ≡ false = le-ltb n i h in rw e refl
+
+before-one : (i n : ℕ) (role : Role) (bytes : List ℕ) → n < i → outputs_before i (written n role bytes) ≡ written n role bytes
+before-one i n (Reads name) bytes h = refl
+before-one i n Filters bytes h = refl
+before-one i n (Writes name) bytes h = let e : nat_lt n i ≡ true = lt-ltb n i h in rw e refl
+
+before_append : (n : ℕ) (xs ys : List Output) → outputs_before n (xs ++ ys) ≡ outputs_before n xs ++ outputs_before n ys
+before_append n xs ys = filter-append (λ output. nat_lt output.stage n) xs ys
+
+module _ (stages : List StageSpec) (opened : Opened) where
+  before-all : (i n : ℕ) → n ≤ i → outputs_before i (outputs_below stages opened n) ≡ outputs_below stages opened n
+  before-all i zero h = refl
+  before-all i (suc n) h =
+      ap (outputs_before i) (below-more stages opened n)
+      ∙ before_append i (outputs_below stages opened n) (output_at stages opened n)
+      ∙ ap (λ xs. xs ++ outputs_before i (output_at stages opened n)) (before-all i n (omega (arith, h)))
+      ∙ ap (λ xs. outputs_below stages opened n ++ xs) (before-one i n (role_at stages n) ((row_at stages n).bytes (points (stage_input stages opened n))) (omega (arith, h)))
+      ∙ sym (below-more stages opened n)
+
+  pub before-below : (i n : ℕ) → i ≤ n → outputs_before i (outputs_below stages opened n) ≡ outputs_below stages opened i
+  before-below i zero h = ap (λ k. outputs_before k []) (none h) ∙ sym (ap (outputs_below stages opened) (none h))
+    where
+      none : i ≤ 0 → i ≡ 0
+      none h = omega arith
+  before-below i (suc n) h = by_place (λ p. before-below i n p) (lt_or_eq i n h)
+    where
+      lt_or_eq : (i n : ℕ) → i ≤ suc n → (i ≤ n) ⊎ (i ≡ suc n)
+      lt_or_eq zero n h = inl (omega arith)
+      lt_or_eq (suc i) zero h = inr (omega arith)
+      lt_or_eq (suc i) (suc n) h = elim (lt_or_eq i n (omega (arith, h))) [ inl p ↦ inl (omega (arith, p)) | inr p ↦ inr (ap suc p) ]
+
+      by_place : (i ≤ n → outputs_before i (outputs_below stages opened n) ≡ outputs_below stages opened i) → (i ≤ n) ⊎ (i ≡ suc n) → outputs_before i (outputs_below stages opened (suc n)) ≡ outputs_below stages opened i
+      by_place less (inl p) =
+          ap (outputs_before i) (below-more stages opened n)
+          ∙ before_append i (outputs_below stages opened n) (output_at stages opened n)
+          ∙ ap (λ xs. outputs_before i (outputs_below stages opened n) ++ xs) (before-none i n (role_at stages n) ((row_at stages n).bytes (points (stage_input stages opened n))) p)
+          ∙ append-nil (outputs_before i (outputs_below stages opened n))
+          ∙ less p
+      by_place less (inr p) = before-all i (suc n) (omega (arith, p)) ∙ ap (outputs_below stages opened) (sym p)
+
+  module _ {S K : Type 0} (s : source.Ghosts S) (bytes : K → Option (List ℕ)) (works : List (Kind S K)) (fit : AreFor stages works)
+      (held : (i : ℕ) (w : Kind S K) → slice_get works i ≡ Some w → is_reading (role_at stages i) ≡ false → holds_of bytes w (points (stage_input stages opened i)) ≡ true) where
+    one-put : (i : ℕ) (w : Kind S K) (m : Names) (now : Option Names) → slice_get works i ≡ Some w → IsAsTold now (Some m) → IsAsTold (kept_one bytes now (role_at stages i) w) (Some (put_all m (output_at stages opened i)))
+    one-put i w m now e told = by_role (role_at stages i) refl
+      where
+        by_role : (role : Role) → role_at stages i ≡ role → IsAsTold (kept_one bytes now role w) (Some (put_all m (written i role ((row_at stages i).bytes (points (stage_input stages opened i))))))
+        by_role (Reads name) is = told
+        by_role Filters is = told
+        by_role (Writes name) is = kept_told m name ((row_at stages i).bytes (points (stage_input stages opened i))) now (told_by bytes w) told
+            (written-is s bytes (options_at stages i) w (points (stage_input stages opened i)) (fit i w e) (held i w e (ap is_reading is)))
+
+    pub first-put : (count : ℕ) (m : Names) (old : Option Names) → count ≤ length works → IsAsTold old (Some m) → IsAsTold (kept_first bytes count old stages works) (Some (put_all m (outputs_below stages opened count)))
+    first-put zero m old le told = told
+    first-put (suc n) m old le told =
+        let w = some_at works n (omega (arith, le)) in
+        subst (λ o. IsAsTold (kept_if bytes (kept_first bytes n old stages works) (role_at stages n) o) (Some (put_all m (outputs_below stages opened (suc n))))) (sym w.1)
+        (subst (λ os. IsAsTold (kept_one bytes (kept_first bytes n old stages works) (role_at stages n) w.0) (Some (put_all m os))) (sym (below-more stages opened n))
+        (subst (λ x. IsAsTold (kept_one bytes (kept_first bytes n old stages works) (role_at stages n) w.0) (Some x)) (sym (put_append m (outputs_below stages opened n) (output_at stages opened n)))
+        (one-put n w.0 (put_all m (outputs_below stages opened n)) (kept_first bytes n old stages works) w.1 (first-put n m old (omega (arith, le)) told))))
+
+    pub were-put : (count : ℕ) (old new : Option Names) → count ≤ length works → new ≡ kept_first bytes count old stages works → WerePut old (outputs_below stages opened count) new
+    were-put count old new le is m e = subst (λ x. IsAsTold x (Some (put_all m (outputs_below stages opened count)))) (sym is)
+        (first-put count m old le (λ x f. sym e ∙ f))
