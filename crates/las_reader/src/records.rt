@@ -1,6 +1,6 @@
 //! Reads point data records.
 
-ghost use Rattle.std.specs.Prelude.{◌≡◌, ◌+◌, ◌*◌, ◌^◌, ◌<◌, ◌≤◌, ◌++◌, ◌∷◌, ℕ, List, [], length, take, max, min, Some, IfOk, IfSome, IfNone, OnOk, vec_len};
+ghost use Rattle.std.specs.Prelude.{◌≡◌, ◌+◌, ◌*◌, ◌^◌, ◌<◌, ◌≤◌, ◌++◌, ℕ, List, length, take, max, min, Some, IfOk, IfSome, IfNone, OnOk, vec_len};
 ghost use Rattle.arrayvec.specs.ArrayVec.{array_vec_len};
 ghost use Rattle.file_devices.specs.Counts.{HasCause};
 ghost use Rattle.las_header.specs.Sound.{IsSound};
@@ -92,7 +92,7 @@ fn decode_all(
     requires format { format ≡ header.now.format }
     requires room { at + count ≤ length points.old }
     requires whole { header.now.record_length * count ≤ length records.now }
-    ensures items { take (at + count) points.new ≡ take at points.old ++ points_from header.now 0 count records.now }
+    ensures { take (at + count) points.new ≡ take at points.old ++ points_from header.now 0 count records.now }
 {
     let grid = Grid::of(header);
     let size = header.record_length as usize;
