@@ -18,7 +18,7 @@ use Rattle.las_header.specs.declared.faults.ScaleFault.TheVariants.{NotPositive,
 use Rattle.byte_numbers.specs.Bytes.{number_at}
 use Rattle.las_header.specs.Headers.{scale_on, scales_of}
 use Rattle.las_header.specs.ScaleWords.{scale_read, decimal_scale}
-use Rattle.las_header.specs.ScaleLaw.{IsTheScaleOf, ScalesHaveTheirWords}
+use Rattle.las_header.specs.ScaleLaw.{IsTheScaleOf, AreTheScalesIn, ScalesHaveTheirWords}
 use Rattle.las_header.specs.Steps.{◌>>=◌}
 use Rattle.las_header.proofs.ScaleLemmas.{scale_of_its_nano}
 use Rattle.las_header.proofs.Words.{scale_is_read}
@@ -73,8 +73,7 @@ pub scales_have_their_words : ScalesHaveTheirWords
 unfolding scales_of
 scales_have_their_words bytes x y z = (there, back)
   where
-    there : scales_of bytes ≡ Ok (x ∷ y ∷ z ∷ []) →
-        IsTheScaleOf (number_at 131 8 bytes) x.nano × IsTheScaleOf (number_at 139 8 bytes) y.nano × IsTheScaleOf (number_at 147 8 bytes) z.nano
+    there : scales_of bytes ≡ Ok (x ∷ y ∷ z ∷ []) → AreTheScalesIn bytes x y z
     there e =
         let a = first (scale_on X (scale_read (number_at 131 8 bytes))) _ (x ∷ y ∷ z ∷ []) e in
         let b = first (scale_on Y (scale_read (number_at 139 8 bytes))) _ (x ∷ y ∷ z ∷ []) a.2 in
@@ -88,8 +87,7 @@ scales_have_their_words bytes x y z = (there, back)
           the_one (number_at 147 8 bytes) z (on_axis Z _ z (c.1 ∙ ap Ok cz)),
         )
 
-    back : IsTheScaleOf (number_at 131 8 bytes) x.nano × IsTheScaleOf (number_at 139 8 bytes) y.nano × IsTheScaleOf (number_at 147 8 bytes) z.nano →
-        scales_of bytes ≡ Ok (x ∷ y ∷ z ∷ [])
+    back : AreTheScalesIn bytes x y z → scales_of bytes ≡ Ok (x ∷ y ∷ z ∷ [])
     back t =
         let a = is_read (number_at 131 8 bytes) x t.0.scale in
         let b = is_read (number_at 139 8 bytes) y t.1.scale in

@@ -10,7 +10,12 @@ pub record IsTheScaleOf (w : ℕ) (nano : ℤ) : Type 0 where
   pub scale : IsScaleOf w nano
   pub only : (n : ℤ) → IsScaleOf w n → n ≡ nano
 
--- scales are read exactly where each is the one of the word at its axis' place
+-- each is the scale of the word at its axis' place
+abbrev pub AreTheScalesIn : List ℕ → Scale → Scale → Scale → Type 0
+AreTheScalesIn bytes x y z = IsTheScaleOf (number_at 131 8 bytes) x.nano
+    × IsTheScaleOf (number_at 139 8 bytes) y.nano
+    × IsTheScaleOf (number_at 147 8 bytes) z.nano
+
+-- scales are read exactly where they are the ones of these words
 abbrev pub ScalesHaveTheirWords : Type 0
-ScalesHaveTheirWords = (bytes : List ℕ) (x y z : Scale) → (scales_of bytes ≡ Ok (x ∷ y ∷ z ∷ []))
-    ↔ (IsTheScaleOf (number_at 131 8 bytes) x.nano × IsTheScaleOf (number_at 139 8 bytes) y.nano × IsTheScaleOf (number_at 147 8 bytes) z.nano)
+ScalesHaveTheirWords = (bytes : List ℕ) (x y z : Scale) → (scales_of bytes ≡ Ok (x ∷ y ∷ z ∷ [])) ↔ AreTheScalesIn bytes x y z

@@ -1,8 +1,7 @@
 //! Writes the header.
 
-ghost use Rattle.std.specs.Prelude.{◌≡◌, ◌+◌, ◌*◌, ◌^◌, ◌<◌, ◌≤◌, ◌++◌, length, Ok};
+ghost use Rattle.std.specs.Prelude.{◌≡◌, ◌+◌, ◌*◌, ◌≤◌, ◌++◌, length, Ok};
 ghost use Rattle.std.specs.List.{All, flat_map};
-ghost use Rattle.std.specs.Int.{w32, w64, to_le_bytes};
 ghost use Rattle.arrayvec.specs.ArrayVec.{array_vec_len};
 ghost use Rattle.las_header.specs.Headers.{header_of};
 ghost use Rattle.las_header.specs.Sizes.{HasFileSizes, HasRecordSizes, HasGridSizes, HasCountSizes};

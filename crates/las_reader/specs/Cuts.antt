@@ -21,4 +21,5 @@ AreAllWithin header file = (k : ℕ) → k < points_in header → EndsWithin hea
 -- a file is cut exactly with the number of that record, and it isn't exactly where there is none
 abbrev pub CutIsTheFirst : Type 0
 CutIsTheFirst = (header : Header) (file : List ℕ) → 0 < header.record_length
-    → ((k : ℕ) → ((las_with header file).cut ≡ Some k) ↔ IsFirstCut header file k) × (((las_with header file).cut ≡ None) ↔ AreAllWithin header file)
+    → ((k : ℕ) → ((las_with header file).cut ≡ Some k) ↔ IsFirstCut header file k)
+    × (((las_with header file).cut ≡ None) ↔ AreAllWithin header file)

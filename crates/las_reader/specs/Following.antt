@@ -19,7 +19,8 @@ IsChunk chunk = (1 ≤ chunk) × (chunk ≤ 64)
 abbrev pub AreSteps : ℕ → List Point → Progress → List ℕ → List Step → Type 0
 AreSteps count points progress [] [] = ⊤
 AreSteps count points progress (chunk ∷ chunks) (step ∷ steps) =
-    IsStep (step_of count points progress chunk) step.made step.points step.progress × AreSteps count points step.progress chunks steps
+    IsStep (step_of count points progress chunk) step.made step.points step.progress
+    × AreSteps count points step.progress chunks steps
 AreSteps count points progress chunks steps = ⊥
 
 -- it is the end of all
@@ -61,9 +62,11 @@ pub record GiveFile (las : Las) (steps : List Step) : Type 0 where
 -- a file that is read to its first end gives its points and then its end, for chunks of any sizes
 abbrev pub StepsGiveFile : Type 0
 StepsGiveFile = (header : Header) (file chunks : List ℕ) (steps : List Step) → All IsChunk chunks
-    → AreSteps (points_in header) (las_with header file).points (Records 0) chunks steps → EndAtLast steps → GiveFile (las_with header file) steps
+    → AreSteps (points_in header) (las_with header file).points (Records 0) chunks steps → EndAtLast steps
+    → GiveFile (las_with header file) steps
 
 -- two more calls than there are points are enough for the end
 abbrev pub StepsComeToTheEnd : Type 0
 StepsComeToTheEnd = (header : Header) (file chunks : List ℕ) (steps : List Step) → All IsChunk chunks
-    → AreSteps (points_in header) (las_with header file).points (Records 0) chunks steps → length (las_with header file).points + 2 ≤ length chunks → ComeToTheEnd steps
+    → AreSteps (points_in header) (las_with header file).points (Records 0) chunks steps
+    → length (las_with header file).points + 2 ≤ length chunks → ComeToTheEnd steps

@@ -1,6 +1,6 @@
 //! Reads point data records.
 
-ghost use Rattle.std.specs.Prelude.{◌≡◌, ◌+◌, ◌*◌, ◌^◌, ◌<◌, ◌≤◌, ◌++◌, ◌∷◌, ℕ, List, [], length, take, max, min, Some, IfOk, IfSome, IfNone, OnOk, vec_len};
+ghost use Rattle.std.specs.Prelude.{◌≡◌, ◌+◌, ◌*◌, ◌^◌, ◌<◌, ◌≤◌, ◌++◌, ℕ, List, length, take, max, min, Some, IfOk, IfSome, IfNone, OnOk, vec_len};
 ghost use Rattle.arrayvec.specs.ArrayVec.{array_vec_len};
 ghost use Rattle.file_devices.specs.Counts.{HasCause};
 ghost use Rattle.las_header.specs.Sound.{IsSound};
@@ -10,7 +10,7 @@ ghost use Rattle.point_formats.specs.Grids.{grid_of};
 
 use cloud_points::{MOST_POINTS, Point, Spread};
 use file_devices::{Failed, Source, fill};
-use las_header::Header;
+use las_header::{Format, Header};
 use point_formats::{Grid, decode};
 use std::alloc::{AllocError, Global};
 
@@ -66,31 +66,72 @@ fn read_records<S: Source>(
 
 /// The point of a record.
 #[tactic(auto, unfolding(crate::specs::Records::point_of))]
-fn point_of(header: &Header, grid: &Grid, bytes: &[u8]) -> Point
+#[inline(always)]
+fn point_of(format: Format, header: &Header, grid: &Grid, bytes: &[u8]) -> Point
     requires sound { IsSound header.now }
+    requires format { format ≡ header.now.format }
     requires grid { grid.now ≡ grid_of header.now }
     requires whole { header.now.record_length ≤ length bytes.now }
     ensures { result ≡ point_of header.now bytes.now }
 {
-    decode(header.format, bytes, grid)
+    decode(format, bytes, grid)
 }
 
-/// Puts a point at a place of a spread: over the one that is there, or else behind all.
-fn put_at(point: Point, at: usize, into: &mut Spread)
-    requires place { at ≤ array_vec_len into.old }
-    requires room { at < 64 }
-    ensures items { take (at + 1) into.new.items ≡ take at into.old.items ++ point ∷ [] }
-    ensures len { at + 1 ≤ array_vec_len into.new }
+/// Puts the points of `count` records, one after another, over those of a list from a place on. It stands in each arm of
+/// `decode_over`, so that each loop is made for one format.
+#[inline(always)]
+fn decode_all(
+    format: Format,
+    header: &Header,
+    records: &[u8],
+    count: usize,
+    at: usize,
+    points: &mut [Point],
+)
+    requires sound { IsSound header.now }
+    requires format { format ≡ header.now.format }
+    requires room { at + count ≤ length points.old }
+    requires whole { header.now.record_length * count ≤ length records.now }
+    ensures { take (at + count) points.new ≡ take at points.old ++ points_from header.now 0 count records.now }
 {
-    if at < into.len() {
-        into.as_mut_slice()[at] = point;
-    } else {
-        into.push(point);
+    let grid = Grid::of(header);
+    let size = header.record_length as usize;
+    for k in 0..count {
+        points[at + k] = point_of(format, header, &grid, &records[size * k..size * k + size]);
     }
 }
 
-/// Puts the points of `count` records, one after another, into a spread from a place on: over those that are there, and
-/// then behind them.
+/// Puts the points of `count` records, one after another, over those of a list from a place on. It looks at the format
+/// once, and not at each record.
+fn decode_over(header: &Header, records: &[u8], count: usize, at: usize, points: &mut [Point])
+    requires sound { IsSound header.now }
+    requires room { at + count ≤ length points.old }
+    requires whole { header.now.record_length * count ≤ length records.now }
+    ensures { take (at + count) points.new ≡ take at points.old ++ points_from header.now 0 count records.now }
+{
+    match header.format {
+        Format::F0 => decode_all(Format::F0, header, records, count, at, points),
+        Format::F1 => decode_all(Format::F1, header, records, count, at, points),
+        Format::F2 => decode_all(Format::F2, header, records, count, at, points),
+        Format::F3 => decode_all(Format::F3, header, records, count, at, points),
+        Format::F6 => decode_all(Format::F6, header, records, count, at, points),
+        Format::F7 => decode_all(Format::F7, header, records, count, at, points),
+        Format::F8 => decode_all(Format::F8, header, records, count, at, points),
+    }
+}
+
+/// Makes a spread as long as wanted, at least.
+fn grow(into: &mut Spread, size: usize)
+    requires { size ≤ 64 }
+    ensures front { take (array_vec_len into.old) into.new.items ≡ into.old.items }
+    ensures len { size ≤ array_vec_len into.new }
+{
+    while into.len() < size {
+        into.push(Point::zero());
+    }
+}
+
+/// Puts the points of `count` records, one after another, into a spread from a place on, over those that are there.
 fn decode_from(header: &Header, records: &[u8], count: usize, at: usize, into: &mut Spread)
     requires sound { IsSound header.now }
     requires place { at ≤ array_vec_len into.old }
@@ -99,12 +140,8 @@ fn decode_from(header: &Header, records: &[u8], count: usize, at: usize, into: &
     ensures items { take (at + count) into.new.items ≡ take at into.old.items ++ points_from header.now 0 count records.now }
     ensures len { at + count ≤ array_vec_len into.new }
 {
-    let grid = Grid::of(header);
-    let size = header.record_length as usize;
-    for k in 0..count {
-        let point = point_of(header, &grid, &records[size * k..size * k + size]);
-        put_at(point, at + k, into);
-    }
+    grow(into, at + count);
+    decode_over(header, records, count, at, into.as_mut_slice());
 }
 
 /// Puts the points of at most `most` records from number `given` on over what a spread holds, and answers how many they

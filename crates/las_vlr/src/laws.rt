@@ -10,7 +10,8 @@ ghost use Rattle.las_vlr.specs.declared.entry.Vlr.{Vlr};
 /// VLRs that are written one after another in front of the points, within the limits of a list, are the list that is
 /// read there.
 pub fn written_vlrs_are_read()
-    ensures { (front rest : List ℕ) (vlrs : List Vlr) (points_at : ℕ) → AreHeldVlrs vlrs → length front + length (flat_map vlr_bytes vlrs) ≤ points_at
+    ensures { (front rest : List ℕ) (vlrs : List Vlr) (points_at : ℕ) → AreHeldVlrs vlrs
+        → length front + length (flat_map vlr_bytes vlrs) ≤ points_at
         → vlrs_of (length front) points_at (length vlrs) (front ++ (flat_map vlr_bytes vlrs ++ rest)) ≡ Ok vlrs }
 {}
 

@@ -2,7 +2,6 @@
 
 ghost use Rattle.std.specs.Prelude.{◌≡◌, ◌≢◌, ◌+◌, ◌-◌, ◌^◌, ◌<◌, ◌≤◌, ℕ, List, length, take, drop, max, Some, None, Ok, Err, IfOk, IfErr, OnOk, OnErr, vec_len};
 ghost use Rattle.file_devices.specs.Counts.{Rose};
-ghost use Rattle.byte_numbers.specs.Bytes.{number_at, piece};
 ghost use Rattle.las_vlr.specs.Limits.{IsShort, IsOf, AreHeld, AreHeldVlrs, AreHeldEvlrs};
 ghost use Rattle.las_vlr.specs.Written.{HasSizes};
 ghost use Rattle.las_vlr.specs.Vlrs.{head_size, payload_length, entry_size, entry_of, past, entry_fault, entries, vlrs_of, evlrs_of, IsRefusal, IsFault, IsInFront, MayReach};

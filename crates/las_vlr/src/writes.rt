@@ -1,7 +1,6 @@
 //! Writing variable length records.
 
 ghost use Rattle.std.specs.Prelude.{◌≡◌, ◌+◌, ◌≤◌, ◌++◌, ℕ, List, length, OnOk, OnErr};
-ghost use Rattle.arrayvec.specs.ArrayVec.{array_vec_len};
 ghost use Rattle.file_devices.specs.Counts.{HasCause, saturating};
 ghost use Rattle.file_devices.specs.Content.{Appends, AppendsPart};
 ghost use Rattle.las_vlr.specs.Vlrs.{entry_of};

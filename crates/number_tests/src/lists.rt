@@ -74,37 +74,73 @@ fn records_are_read_and_written_back(rt: HostRuntime) -> Result<(), Fail> {
     Ok(())
 }
 
+/// Where a list of VLRs is sought, where the points begin, how many it has, and why it is refused.
+const VLRS_REFUSED: [(u64, u64, u32, VlrFault); 8] = [
+    (VLR_AT, POINTS_AT, u32::MAX, VlrFault::TooManyVlrs),
+    (VLR_AT, POINTS_AT, 4097, VlrFault::TooManyVlrs),
+    (VLR_AT, POINTS_AT, 2, VlrFault::VlrPastPoints(1)),
+    (VLR_AT, 66, 1, VlrFault::VlrPastPoints(0)),
+    (VLR_AT, 63, 1, VlrFault::VlrPastPoints(0)),
+    (u64::MAX, u64::MAX, 1, VlrFault::VlrPastPoints(0)),
+    (78, u64::MAX, 1, VlrFault::VlrPastEnd(0)),
+    (76, u64::MAX, 1, VlrFault::VlrPastEnd(0)),
+];
+
+/// Why a list of VLRs is refused, where the read with this number fails, if it is not 0.
+fn vlrs_refusal(
+    alloc: Global,
+    bytes: &[u8],
+    (start, points_at, count): (u64, u64, u32),
+    fails: u64,
+) -> Result<Option<VlrErr>, AllocError> {
+    let mut source = source(alloc, bytes, fails)?;
+    Ok(read_vlrs(alloc, &mut source, start, points_at, count).err())
+}
+
 #[test]
-fn hostile_lists_are_refused(rt: HostRuntime) -> Result<(), Fail> {
+fn hostile_vlrs_are_refused(rt: HostRuntime) -> Result<(), Fail> {
     let alloc = rt.alloc();
     let mut bytes = file();
-    // The EVLR's length, of 2^64 - 1 bytes and of one too many.
-    let mut long = bytes;
-    long[89..97].copy_from_slice(&u64::MAX.to_le_bytes());
     bytes[89] = 3;
-    for (start, points_at, count, fault) in [
-        (VLR_AT, POINTS_AT, u32::MAX, VlrFault::TooManyVlrs),
-        (VLR_AT, POINTS_AT, 4097, VlrFault::TooManyVlrs),
-        (VLR_AT, POINTS_AT, 2, VlrFault::VlrPastPoints(1)),
-        (VLR_AT, 66, 1, VlrFault::VlrPastPoints(0)),
-        (VLR_AT, 63, 1, VlrFault::VlrPastPoints(0)),
-        (u64::MAX, u64::MAX, 1, VlrFault::VlrPastPoints(0)),
-        (78, u64::MAX, 1, VlrFault::VlrPastEnd(0)),
-        (76, u64::MAX, 1, VlrFault::VlrPastEnd(0)),
-    ] {
-        let mut source = source(alloc, &bytes, 0)?;
-        let refusal = read_vlrs(alloc, &mut source, start, points_at, count).err();
+    for &(start, points_at, count, fault) in &VLRS_REFUSED {
+        let refusal = vlrs_refusal(alloc, &bytes, (start, points_at, count), 0)?;
         assert_eq!(rt; refusal, Some(VlrErr::Fault(fault)), "at {start}");
     }
-    for (file, at, count, fault) in [
-        (&bytes, EVLR_AT, u32::MAX, VlrFault::TooManyVlrs),
-        (&long, EVLR_AT, 1, VlrFault::TooManyVlrs),
-        (&bytes, EVLR_AT, 1, VlrFault::EvlrPastEnd(0)),
-        (&bytes, 72, 1, VlrFault::EvlrPastEnd(0)),
-        (&bytes, u64::MAX, 1, VlrFault::EvlrPastEnd(0)),
-    ] {
-        let mut source = source(alloc, file, 0)?;
-        let refusal = read_evlrs(alloc, &mut source, at, count).err();
+    Ok(())
+}
+
+/// The length of the EVLR's payload, where a list of EVLRs is sought, how many it has, and why it is refused.
+const EVLRS_REFUSED: [(u64, u64, u32, VlrFault); 5] = [
+    (3, EVLR_AT, u32::MAX, VlrFault::TooManyVlrs),
+    (u64::MAX, EVLR_AT, 1, VlrFault::TooManyVlrs),
+    (3, EVLR_AT, 1, VlrFault::EvlrPastEnd(0)),
+    (3, 72, 1, VlrFault::EvlrPastEnd(0)),
+    (3, u64::MAX, 1, VlrFault::EvlrPastEnd(0)),
+];
+
+/// The file whose EVLR gives its payload this length.
+fn with_length(length: u64) -> [u8; 131] {
+    let mut bytes = file();
+    bytes[89..97].copy_from_slice(&length.to_le_bytes());
+    bytes
+}
+
+/// Why a list of EVLRs is refused, where the EVLR gives its payload this length.
+fn evlrs_refusal(
+    alloc: Global,
+    length: u64,
+    at: u64,
+    count: u32,
+) -> Result<Option<VlrErr>, AllocError> {
+    let mut source = source(alloc, &with_length(length), 0)?;
+    Ok(read_evlrs(alloc, &mut source, at, count).err())
+}
+
+#[test]
+fn hostile_evlrs_are_refused(rt: HostRuntime) -> Result<(), Fail> {
+    let alloc = rt.alloc();
+    for &(length, at, count, fault) in &EVLRS_REFUSED {
+        let refusal = evlrs_refusal(alloc, length, at, count)?;
         assert_eq!(rt; refusal, Some(VlrErr::Fault(fault)), "at {at}");
     }
     Ok(())
@@ -113,9 +149,9 @@ fn hostile_lists_are_refused(rt: HostRuntime) -> Result<(), Fail> {
 #[test]
 fn a_failed_read_is_no_fault_of_the_file(rt: HostRuntime) -> Result<(), Fail> {
     let alloc = rt.alloc();
+    let bytes = file();
     for fails in 1..11u64 {
-        let mut source = source(alloc, &file(), fails)?;
-        let refusal = read_vlrs(alloc, &mut source, VLR_AT, POINTS_AT, 1).err();
+        let refusal = vlrs_refusal(alloc, &bytes, (VLR_AT, POINTS_AT, 1), fails)?;
         assert_eq!(rt; refusal, Some(VlrErr::ReadFailed), "at {fails}");
     }
     Ok(())

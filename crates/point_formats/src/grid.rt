@@ -1,10 +1,9 @@
 //! The grid that the raw coordinates of a file count on.
 
-ghost use Rattle.std.specs.Prelude.{◌≡◌, ◌^◌, ◌<◌, ◌≤◌, pos, ◌≤ℤ◌, unsigned_abs, FitsSigned};
+ghost use Rattle.std.specs.Prelude.{◌≡◌, ◌<◌, ◌≤◌, pos, ◌≤ℤ◌, unsigned_abs, FitsSigned};
 ghost use Rattle.std.specs.Int.{w32};
 ghost use Rattle.std.specs.Result.{OkIff};
 ghost use Rattle.decimal_coords.specs.Grid.{nearest_step};
-ghost use Rattle.std.specs.List.{All};
 ghost use Rattle.point_formats.specs.Grids.{coordinate, scale_on, offset_on, grid_of, HasSteps, IsNear, IsNearOffset};
 
 use decimal_coords::{NotHeld, Scale, raw, real};

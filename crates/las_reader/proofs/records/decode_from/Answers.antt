@@ -1,14 +1,14 @@
-use Rattle.std.proofs.Common.{arith, ◌≡◌, ◌+◌, take, ap, ◌∙◌}
-use Rattle.las_reader.proofs.Pieces.{decoded_none, one_more}
+use Rattle.std.proofs.Common.{◌≡◌, ◌+◌, ◌++◌, take, length, ap, sym, ◌∙◌}
+use Rattle.std.proofs.lemmas.List.{take-take}
+use Rattle.arrayvec.proofs.ArrayVecLemmas.{items-with_items}
+use Rattle.las_reader.specs.Records.{points_from}
 use Rattle.las_reader.proofs.records.decode_from.Goals as goal
 
-pub loop-k-init : goal.loop-k-init
-loop-k-init c = decoded_none c.args.header.now c.args.records.now c.args.at c.args.into.now.items _ c.requires.place
-
-pub loop-k-preserved : goal.loop-k-preserved
-loop-k-preserved c =
-    let next : c.args.at + (c.loop-k.k + 1) ≡ c.args.at + c.loop-k.k + 1 = omega arith in
-    record {
-      points_are = ap (λ n. take n c.put_at.new.into.items) next ∙ c.put_at.ensures.items ∙ one_more c.args.header.now c.loop-k.k c.args.records.now (take c.args.at c.args.into.now.items) (take (c.args.at + c.loop-k.k) c.loop-k.into.items) c.point_of-point.result c.loop-k.invariant.points_are c.point_of-point.ensures;
-      there = omega (arith, c.put_at.ensures.len);
-    }
+pub returns-clause-items : goal.returns-clause-items
+returns-clause-items c =
+    let grown = c.grow.new.into.items in
+    let same : length c.decode_over.new.points ≡ length grown = c.decode_over.auto.points ∙ ap length c.as_mut_slice.ensures.value in
+    let front : take c.args.at grown ≡ take c.args.at c.args.into.now.items =
+    sym (take-take c.args.at (length c.args.into.now.items) grown c.requires.place) ∙ ap (take c.args.at) c.grow.ensures.front in
+    ap (take (c.args.at + c.args.count)) (items-with_items c.grow.new.into c.decode_over.new.points same) ∙ c.decode_over.ensures
+    ∙ ap (λ l. l ++ points_from c.args.header.now 0 c.args.count c.args.records.now) (ap (take c.args.at) c.as_mut_slice.ensures.value ∙ front)
