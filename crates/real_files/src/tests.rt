@@ -1,17 +1,63 @@
+//! The adapters over real files, in the folder that the tests run in.
+
 use crate::window::Window;
-use crate::{RealFiles, RealOut, RealStream};
-use file_devices::{DeviceErr, FileSink, Files, Sink, Source, fill};
-use std::alloc::{AllocError, Global};
+use crate::{RealFiles, RealIn, RealOut, RealStream};
+use file_devices::{DeviceErr, FileSink, Files, Sink, fill};
+use std::alloc::Global;
 use std::cell::Cell;
 use std::fs::{File, OpenOptions, Permissions};
 use std::io::Write;
 use std::os::unix::fs::{FileExt, MetadataExt, PermissionsExt, symlink};
-use std::test::Fail;
 use std::{fs, io};
 
-fn filled(alloc: Global, byte: u8, count: usize) -> Result<Vec<u8>, AllocError> {
-    vec![in alloc; byte; count]
-}
+/// The store of the system's files.
+type Store<'a> = RealFiles<'a, HostRuntime>;
+
+/// Who may read, write and run a file, and its size, where it is there.
+type Mode = Option<(u32, u64)>;
+
+/// Places of a file of 50,000 and 50,000 and 70,000 and 4 bytes that is read back, how many of four bytes are there, and these.
+const READS: [(u64, usize, [u8; 4]); 8] = [
+    (0, 4, *b"P\x07\x07\x07"),
+    (99_998, 4, *b"\x07\x07\x09\x09"),
+    (169_998, 4, *b"\x09\x09en"),
+    (170_000, 4, *b"end!"),
+    (170_002, 2, *b"d!\x00\x00"),
+    (170_004, 0, [0; 4]),
+    (u64::MAX - 9, 0, [0; 4]),
+    (1, 4, [7; 4]),
+];
+
+/// Names of outputs that are refused.
+const REFUSED: [&str; 8] = [
+    "folder",
+    "folder/",
+    "to_folder",
+    "to_nothing",
+    "to_null",
+    "ring",
+    "/dev/null",
+    "nothing/o.txt",
+];
+
+/// Names of a file, and the modes that it has.
+const NAMED: [(&str, u32); 3] = [
+    ("real/o.txt", 0o600),
+    ("link.txt", 0o666),
+    ("link_to_link.txt", 0o444),
+];
+
+/// Two pieces that are appended to a sink over a device that can't be synced, and which of them is refused.
+const UNSYNCED: [(&str, &str, bool, bool); 3] = [
+    ("abc", "", false, true),
+    ("abc", "abc", false, false),
+    ("", "abc", true, true),
+];
+
+/// The part file of an output that is there already, and of one that is never kept.
+const PART: &str = "there.txt.lasline-part";
+
+const LATE: &str = "late.txt.lasline-part";
 
 fn append_and_patch<S: FileSink>(sink: &mut S) -> bool {
     if sink.append(b"end!").is_ok() {
@@ -27,78 +73,51 @@ where
     F::Out: Send,
 {}
 
+/// Whether two pieces that find room in the buffer, a larger one and a short one are written, and the file is kept.
+fn write_pieces(files: &mut Store<'_>, alloc: Global) -> Option<bool> {
+    let piece = vec![in alloc; 7u8; 50_000].ok()?;
+    let large = vec![in alloc; 9u8; 70_000].ok()?;
+    let mut sink = files.create("pieces.bin").ok()?;
+    let first = sink.append(&piece).is_ok();
+    let second = sink.append(&piece).is_ok();
+    let third = sink.append(&large).is_ok();
+    let last = append_and_patch(&mut sink);
+    Some(files.keep("pieces.bin", sink).is_ok() && first && second && third && last)
+}
+
+/// How many of four bytes stand at a place, and these.
+fn read(source: &mut RealIn, at: u64) -> Option<(usize, [u8; 4])> {
+    if at > u64::MAX - 9 {
+        return None;
+    }
+    let mut into = [0u8; 4];
+    let count = fill(source, at, &mut into).ok()?;
+    Some((count, into))
+}
+
+fn is_removed(rt: &HostRuntime, name: &str) -> bool {
+    fs::remove_file(rt, name).is_ok()
+}
+
 #[test]
-fn a_file_is_written_in_pieces_and_read_back(rt: HostRuntime) -> Result<(), Fail> {
-    let alloc = rt.alloc();
-    let piece = filled(alloc, 7, 50_000)?;
-    let large = filled(alloc, 9, 70_000)?;
-    let mut files = RealFiles::new(&rt, alloc);
+fn a_file_is_written_in_pieces_and_read_back(rt: HostRuntime) {
+    let mut files = RealFiles::new(&rt, rt.alloc());
     hands_out_to_threads(&files);
-    let mut sink = files.create("pieces.bin").or(Err("create"))?;
-    for bytes in [piece.as_slice(), piece.as_slice(), large.as_slice()] {
-        assert!(rt; sink.append(bytes).is_ok());
+    assert_eq!(rt; write_pieces(&mut files, rt.alloc()), Some(true));
+    let mut tried = 0u64;
+    if let Ok(mut source) = files.open_in("pieces.bin") {
+        for (at, count, bytes) in READS {
+            assert_eq!(rt; read(&mut source, at), Some((count, bytes)), "at {at}");
+            tried = tried.wrapping_add(1);
+        }
+        files.done_in(source);
     }
-    assert!(rt; append_and_patch(&mut sink));
-    assert!(rt; files.keep("pieces.bin", sink).is_ok());
-    let mut source = files.open_in("pieces.bin").or(Err("open"))?;
-    for (at, count, first) in [
-        (0u64, 4usize, b"P\x07\x07\x07".as_slice()),
-        (99_998, 4, b"\x07\x07\x09\x09".as_slice()),
-        (169_998, 4, b"\x09\x09en".as_slice()),
-        (170_000, 4, b"end!".as_slice()),
-        (170_002, 2, b"d!".as_slice()),
-        (170_004, 0, b"".as_slice()),
-        (u64::MAX - 9, 0, b"".as_slice()),
-        (1, 4, b"\x07\x07\x07\x07".as_slice()),
-    ] {
-        let mut into = [0u8; 4];
-        let got = fill(&mut source, at, &mut into).or(Err("read"))?;
-        assert_eq!(rt; got, count, "at {at}");
-        assert_eq!(rt; &into[..first.len()], first, "at {at}");
-    }
-    files.done_in(source);
-    assert_eq!(rt; files.count(), 0);
-    assert_eq!(rt; files.lent(), 0);
-    fs::remove_file(&rt, "pieces.bin")?;
-    Ok(())
-}
-
-#[test]
-fn a_part_file_that_is_there_stays(rt: HostRuntime) -> Result<(), Fail> {
-    let mut files = RealFiles::new(&rt, rt.alloc());
-    fs::write(&rt, "there.txt.lasline-part", "another's")?;
-    let made = files.create("there.txt").map(|sink| files.done_out(sink));
-    assert_eq!(rt; made, Err(DeviceErr::Failed));
-    assert_eq!(rt; files.count(), 1);
-    assert_eq!(rt;
-        fs::read_to_string(&rt, "there.txt.lasline-part")?.as_str(),
-        "another's"
-    );
-    fs::remove_file(&rt, "there.txt.lasline-part")?;
-    Ok(())
-}
-
-#[test]
-fn no_part_file_is_left(rt: HostRuntime) -> Result<(), Fail> {
-    let mut files = RealFiles::new(&rt, rt.alloc());
-    let mut sink = files.create("gone.txt").or(Err("create"))?;
-    assert!(rt; sink.append(b"abc").is_ok());
-    files.done_out(sink);
-    assert!(rt; fs::metadata(&rt, "gone.txt.lasline-part").is_err());
-    assert!(rt; files.open_in("gone.txt").map(|s| files.done_in(s)) == Err(DeviceErr::Failed));
-    assert_eq!(rt; files.count(), 1);
-
-    // The count rises where the file is gone already.
-    let sink = files.create("gone.txt").or(Err("create"))?;
-    fs::remove_file(&rt, "gone.txt.lasline-part")?;
-    files.done_out(sink);
-    assert_eq!(rt; files.count(), 2);
-    assert_eq!(rt; files.lent(), 0);
-    Ok(())
+    assert_eq!(rt; (tried, files.count(), files.lent()), (8, 0, 0));
+    assert!(rt; is_removed(&rt, "pieces.bin"));
 }
 
 /// Whether an output of this name is refused.
-fn is_refused(files: &mut RealFiles<'_, HostRuntime>, name: &str) -> bool {
+fn is_refused(files: &mut Store<'_>, name: &str) -> bool {
     match files.create(name) {
         Ok(sink) => {
             files.done_out(sink);
@@ -106,6 +125,58 @@ fn is_refused(files: &mut RealFiles<'_, HostRuntime>, name: &str) -> bool {
         }
         Err(e) => e == DeviceErr::Failed,
     }
+}
+
+/// Whether a file holds a text.
+fn holds(rt: &HostRuntime, name: &str, text: &str) -> bool {
+    match fs::read_to_string(rt, name) {
+        Ok(found) => found.as_str() == text,
+        Err(_) => false,
+    }
+}
+
+#[test]
+fn a_part_file_that_is_there_stays(rt: HostRuntime) {
+    let mut files = RealFiles::new(&rt, rt.alloc());
+    assert!(rt; fs::write(&rt, PART, "another's").is_ok());
+    assert!(rt; is_refused(&mut files, "there.txt"));
+    assert_eq!(rt; files.count(), 1);
+    assert!(rt; holds(&rt, PART, "another's"));
+    assert!(rt; is_removed(&rt, PART));
+}
+
+/// Whether an output is created and appended to, and then dropped, before which its part file may be removed.
+fn is_dropped(rt: &HostRuntime, files: &mut Store<'_>, removed: bool) -> bool {
+    let Ok(mut sink) = files.create("gone.txt") else {
+        return false;
+    };
+    let appended = sink.append(b"abc").is_ok();
+    let gone = !removed || is_removed(rt, "gone.txt.lasline-part");
+    files.done_out(sink);
+    appended && gone && is_absent(rt, "gone.txt.lasline-part")
+}
+
+/// Why a name isn't opened.
+fn refusal(files: &mut Store<'_>, name: &str) -> Option<DeviceErr> {
+    match files.open_in(name) {
+        Ok(source) => {
+            files.done_in(source);
+            None
+        }
+        Err(e) => Some(e),
+    }
+}
+
+#[test]
+fn no_part_file_is_left(rt: HostRuntime) {
+    let mut files = RealFiles::new(&rt, rt.alloc());
+    assert!(rt; is_dropped(&rt, &mut files, false));
+    assert_eq!(rt; refusal(&mut files, "gone.txt"), Some(DeviceErr::Failed));
+    assert_eq!(rt; files.count(), 1);
+
+    // The count rises where the file is gone already.
+    assert!(rt; is_dropped(&rt, &mut files, true));
+    assert_eq!(rt; (files.count(), files.lent()), (2, 0));
 }
 
 /// Whether nothing stands at a name, not even a link.
@@ -117,30 +188,26 @@ fn is_link(rt: &HostRuntime, name: &str) -> bool {
     fs::symlink_metadata(rt, name).is_ok_and(|found| found.is_symlink())
 }
 
+fn is_linked(rt: &HostRuntime, to: &str, name: &str) -> bool {
+    symlink(rt, to, name).is_ok()
+}
+
+/// Whether a folder and links to it, to nothing, to a device and to themselves are laid out.
+fn lay_out(rt: &HostRuntime) -> bool {
+    fs::create_dir(rt, "folder").is_ok()
+        && is_linked(rt, "folder", "to_folder")
+        && is_linked(rt, "nothing", "to_nothing")
+        && is_linked(rt, "/dev/null", "to_null")
+        && is_linked(rt, "ring", "ring")
+}
+
 #[test]
-fn only_a_regular_file_is_replaced(rt: HostRuntime) -> Result<(), Fail> {
+fn only_a_regular_file_is_replaced(rt: HostRuntime) {
     let mut files = RealFiles::new(&rt, rt.alloc());
-    fs::create_dir(&rt, "folder")?;
-    symlink(&rt, "folder", "to_folder")?;
-    symlink(&rt, "nothing", "to_nothing")?;
-    symlink(&rt, "/dev/null", "to_null")?;
-    symlink(&rt, "ring", "ring")?;
-    let mut refused = 0u64;
-    for name in [
-        "folder",
-        "folder/",
-        "to_folder",
-        "to_nothing",
-        "to_null",
-        "ring",
-        "/dev/null",
-        "nothing/o.txt",
-    ] {
-        if is_refused(&mut files, name) {
-            refused = refused.wrapping_add(1);
-        }
+    assert!(rt; lay_out(&rt));
+    for name in REFUSED {
+        assert!(rt; is_refused(&mut files, name), "{name}");
     }
-    assert_eq!(rt; refused, 8);
     assert_eq!(rt; files.count(), 8);
     for part in [
         "folder.lasline-part",
@@ -151,110 +218,106 @@ fn only_a_regular_file_is_replaced(rt: HostRuntime) -> Result<(), Fail> {
     }
     assert!(rt; is_link(&rt, "to_null") && is_absent(&rt, "nothing"));
     for link in ["to_folder", "to_nothing", "to_null", "ring"] {
-        fs::remove_file(&rt, link)?;
+        assert!(rt; is_removed(&rt, link));
     }
-    fs::remove_dir(&rt, "folder")?;
-    Ok(())
+    assert!(rt; fs::remove_dir(&rt, "folder").is_ok());
+}
+
+/// Why an output isn't kept at whose name a link came to stand.
+fn late(rt: &HostRuntime, files: &mut Store<'_>) -> Option<DeviceErr> {
+    let sink = files.create("late").ok()?;
+    if !is_linked(rt, "/dev/null", "late") {
+        files.done_out(sink);
+        return None;
+    }
+    files.keep("late", sink).err()
 }
 
 #[test]
-fn what_comes_to_stand_at_a_name_stays(rt: HostRuntime) -> Result<(), Fail> {
+fn what_comes_to_stand_at_a_name_stays(rt: HostRuntime) {
     let mut files = RealFiles::new(&rt, rt.alloc());
-    let sink = files.create("late").or(Err("create"))?;
-    symlink(&rt, "/dev/null", "late")?;
-    assert_eq!(rt; files.keep("late", sink), Err(DeviceErr::Failed));
+    assert_eq!(rt; late(&rt, &mut files), Some(DeviceErr::Failed));
     assert!(rt; is_link(&rt, "late") && is_absent(&rt, "late.lasline-part"));
     assert_eq!(rt; (files.count(), files.lent()), (1, 0));
-    fs::remove_file(&rt, "late")?;
-    Ok(())
+    assert!(rt; is_removed(&rt, "late"));
 }
 
-/// Who may read, write and run a file, and its size, where it is there.
-fn mode_and_size(rt: &HostRuntime, name: &str) -> Option<(u32, u64)> {
-    let found = fs::symlink_metadata(rt, name).ok()?;
-    Some((found.mode() & 0o777, found.len()))
+fn mode_and_size(rt: &HostRuntime, name: &str) -> Mode {
+    match fs::symlink_metadata(rt, name) {
+        Ok(found) => Some((found.mode() & 0o777, found.len())),
+        Err(_) => None,
+    }
 }
 
 /// Puts a text in place of the file of this mode, by the name of a link to it. Answers the mode and size of the part file at
 /// the start and once an empty piece was appended, and those of the file at the end.
-fn replaced(
-    rt: &HostRuntime,
-    name: &str,
-    mode: u32,
-    text: &[u8],
-) -> Result<[Option<(u32, u64)>; 3], Fail> {
+fn replaced(rt: &HostRuntime, name: &str, mode: u32) -> Option<[Mode; 3]> {
     let mut files = RealFiles::new(rt, rt.alloc());
-    fs::set_permissions(rt, "real/o.txt", Permissions::from_mode(mode))?;
-    let mut sink = files.create(name).or(Err("create"))?;
-    sink.append(text).or(Err("append"))?;
+    fs::set_permissions(rt, "real/o.txt", Permissions::from_mode(mode)).ok()?;
+    let mut sink = files.create(name).ok()?;
+    sink.append(b"new text").ok()?;
     let before = mode_and_size(rt, "real/o.txt.lasline-part");
-    sink.append(b"").or(Err("finish"))?;
+    sink.append(b"").ok()?;
     let finished = mode_and_size(rt, "real/o.txt.lasline-part");
-    files.keep(name, sink).or(Err("keep"))?;
-    Ok([before, finished, mode_and_size(rt, "real/o.txt")])
+    files.keep(name, sink).ok()?;
+    Some([before, finished, mode_and_size(rt, "real/o.txt")])
 }
 
 #[test]
-fn links_are_followed_and_modes_kept(rt: HostRuntime) -> Result<(), Fail> {
-    fs::create_dir(&rt, "real")?;
-    fs::write(&rt, "real/o.txt", "old")?;
-    symlink(&rt, "real/o.txt", "link.txt")?;
-    symlink(&rt, "link.txt", "link_to_link.txt")?;
-    for (name, mode) in [
-        ("real/o.txt", 0o600u32),
-        ("link.txt", 0o666),
-        ("link_to_link.txt", 0o444),
-    ] {
-        let came = replaced(&rt, name, mode, b"new text")?;
-        assert_eq!(rt; came, [Some((mode, 0)), Some((mode, 8)), Some((mode, 8))]);
+fn links_are_followed_and_modes_kept(rt: HostRuntime) {
+    assert!(rt; fs::create_dir(&rt, "real").is_ok());
+    assert!(rt; fs::write(&rt, "real/o.txt", "old").is_ok());
+    assert!(rt; is_linked(&rt, "real/o.txt", "link.txt"));
+    assert!(rt; is_linked(&rt, "link.txt", "link_to_link.txt"));
+    for (name, mode) in NAMED {
+        let came = replaced(&rt, name, mode);
+        assert_eq!(rt;
+            came,
+            Some([Some((mode, 0)), Some((mode, 8)), Some((mode, 8))])
+        );
     }
     assert!(rt; is_absent(&rt, "real/o.txt.lasline-part"));
     assert!(rt; is_link(&rt, "link.txt") && is_link(&rt, "link_to_link.txt"));
-    assert_eq!(rt;
-        fs::read_to_string(&rt, "link_to_link.txt")?.as_str(),
-        "new text"
-    );
+    assert!(rt; holds(&rt, "link_to_link.txt", "new text"));
     for name in ["link.txt", "link_to_link.txt", "real/o.txt"] {
-        fs::remove_file(&rt, name)?;
+        assert!(rt; is_removed(&rt, name));
     }
-    fs::remove_dir(&rt, "real")?;
-    Ok(())
+    assert!(rt; fs::remove_dir(&rt, "real").is_ok());
 }
 
-/// Whether the second of two pieces is refused at a sink over this file, which is then not kept, and the first one as well.
-fn refusals(rt: &HostRuntime, file: File, first: &[u8], second: &[u8]) -> Result<[bool; 3], Fail> {
+/// Whether the first and the second of two pieces is refused at a sink over this file, and whether it isn't kept then.
+fn refusals(rt: &HostRuntime, file: File, first: &[u8], second: &[u8]) -> Option<[bool; 3]> {
     let alloc = rt.alloc();
-    fs::write(rt, "late.txt.lasline-part", "")?;
-    let part = String::from_str(alloc, "late.txt.lasline-part")?;
-    let mut sink = RealOut::new(file, part, Vec::with_capacity(alloc, 4)?, 4);
+    fs::write(rt, LATE, "").ok()?;
+    let part = String::from_str(alloc, LATE).ok()?;
+    let mut sink = RealOut::new(file, part, Vec::with_capacity(alloc, 4).ok()?, 4);
     let early = sink.append(first).is_err();
     let late = sink.append(second).is_err();
     let mut files = RealFiles::new(rt, alloc);
-    Ok([early, late, files.keep("late.txt", sink).is_err()])
+    Some([early, late, files.keep("late.txt", sink).is_err()])
+}
+
+/// The same over a device that can't be synced.
+fn unsynced(rt: &HostRuntime, first: &str, second: &str) -> Option<[bool; 3]> {
+    let mut how = OpenOptions::new();
+    how.write(true);
+    let null = how.open(rt, "/dev/null").ok()?;
+    refusals(rt, null, first.as_bytes(), second.as_bytes())
+}
+
+/// The same over a file that is opened for reading alone, which refuses each write.
+fn unwritten(rt: &HostRuntime) -> Option<[bool; 3]> {
+    fs::write(rt, LATE, "").ok()?;
+    refusals(rt, fs::open(rt, LATE).ok()?, b"abc", b"abc")
 }
 
 #[test]
-fn a_file_that_was_not_written_is_not_kept(rt: HostRuntime) -> Result<(), Fail> {
-    // A file that is opened for reading alone refuses each write, and this device can't be synced.
-    for (first, second) in [("abc", ""), ("abc", "abc"), ("", "abc")] {
-        let mut how = OpenOptions::new();
-        how.write(true);
-        let null = how.open(&rt, "/dev/null")?;
-        let came = refusals(&rt, null, first.as_bytes(), second.as_bytes())?;
-        assert_eq!(rt;
-            came,
-            [
-                first.is_empty(),
-                first.is_empty() || second.is_empty(),
-                true
-            ]
-        );
+fn a_file_that_was_not_written_is_not_kept(rt: HostRuntime) {
+    for (first, second, early, late) in UNSYNCED {
+        assert_eq!(rt; unsynced(&rt, first, second), Some([early, late, true]));
     }
-    fs::write(&rt, "late.txt.lasline-part", "")?;
-    let file = fs::open(&rt, "late.txt.lasline-part")?;
-    assert_eq!(rt; refusals(&rt, file, b"abc", b"abc")?, [false, true, true]);
-    assert!(rt; is_absent(&rt, "late.txt") && is_absent(&rt, "late.txt.lasline-part"));
-    Ok(())
+    assert_eq!(rt; unwritten(&rt), Some([false, true, true]));
+    assert!(rt; is_absent(&rt, "late.txt") && is_absent(&rt, LATE));
 }
 
 // A file whose reads are interrupted so often.
@@ -279,16 +342,24 @@ impl FileExt for Interrupted {
     }
 }
 
+/// Whether a window isn't filled from a file whose reads are interrupted so often.
+fn gives_up(alloc: Global, interruptions: u32) -> Option<bool> {
+    let mut window = Window::new(alloc, 4).ok()?;
+    let file = Interrupted {
+        left: Cell::new(interruptions),
+    };
+    Some(window.refill(&file, 0).is_err())
+}
+
 #[test]
-fn interrupted_reads_are_tried_again(rt: HostRuntime) -> Result<(), Fail> {
-    let mut window = Window::new(rt.alloc(), 4)?;
-    for (interruptions, fails) in [(0u32, false), (15, false), (16, true)] {
-        let file = Interrupted {
-            left: Cell::new(interruptions),
-        };
-        assert_eq!(rt; window.refill(&file, 0).is_err(), fails, "{interruptions}");
+fn interrupted_reads_are_tried_again(rt: HostRuntime) {
+    for (interruptions, fails) in [(0, false), (15, false), (16, true)] {
+        assert_eq!(rt;
+            gives_up(rt.alloc(), interruptions),
+            Some(fails),
+            "{interruptions}"
+        );
     }
-    Ok(())
 }
 
 // A writer that fails when it is flushed for the second time.
@@ -312,7 +383,7 @@ impl Write for Stuck {
 }
 
 #[test]
-fn streams_are_flushed_at_each_piece(rt: HostRuntime) -> Result<(), Fail> {
+fn streams_are_flushed_at_each_piece(rt: HostRuntime) {
     let mut stuck = RealStream::new(Stuck { flushes: 0 });
     assert!(rt; stuck.append(b"a").is_ok());
     assert!(rt; stuck.append(b"b").is_err());
@@ -320,5 +391,4 @@ fn streams_are_flushed_at_each_piece(rt: HostRuntime) -> Result<(), Fail> {
     assert!(rt; RealStream::new(io::writer(&rt)).append(b"").is_ok());
     assert!(rt; RealStream::new(rt.stdout()).append(b"").is_ok());
     assert!(rt; RealStream::new(rt.stderr()).append(b"").is_ok());
-    Ok(())
 }

@@ -71,7 +71,8 @@ impl Files for RecordedFiles {
     ghost faults = { λ s. ⟦<MemFiles as Files>⟧.faults s.files };
 
     fn open_in(&mut self, name: &str) -> Result<MemIn, DeviceErr>
-        ensures ok { IfOk result (λ source. (m : Names) → ⟦<MemFiles as Files>⟧.map self.old.files ≡ Some m → (b : List ℕ)
+        ensures ok { IfOk result (λ source. (m : Names)
+            → ⟦<MemFiles as Files>⟧.map self.old.files ≡ Some m → (b : List ℕ)
             × (m name.now ≡ Some b) × (⟦<MemIn as Source>⟧.bytes source ≡ Some b)) }
         ensures fresh { IfOk result (λ source. (⟦<MemIn as Source>⟧.faults source ≡ 0)
             × (⟦<MemIn as Source>⟧.reached source ≡ 0)) }
@@ -84,8 +85,10 @@ impl Files for RecordedFiles {
             → Rose (⟦<MemFiles as Files>⟧.faults self.old.files) (⟦<MemFiles as Files>⟧.faults self.new.files) }
         ensures map { ⟦<MemFiles as Files>⟧.map self.new.files ≡ ⟦<MemFiles as Files>⟧.map self.old.files }
         ensures read_to { ⟦<MemFiles as Files>⟧.read_to self.new.files ≡ ⟦<MemFiles as Files>⟧.read_to self.old.files }
-        ensures lent_ok { OnOk result (⟦<MemFiles as Files>⟧.lent self.new.files ≡ ⟦<MemFiles as Files>⟧.lent self.old.files + 1) }
-        ensures lent_err { OnErr result (⟦<MemFiles as Files>⟧.lent self.new.files ≡ ⟦<MemFiles as Files>⟧.lent self.old.files) }
+        ensures lent_ok { OnOk result (⟦<MemFiles as Files>⟧.lent self.new.files
+            ≡ ⟦<MemFiles as Files>⟧.lent self.old.files + 1) }
+        ensures lent_err { OnErr result (⟦<MemFiles as Files>⟧.lent self.new.files
+            ≡ ⟦<MemFiles as Files>⟧.lent self.old.files) }
 
         // The call is noted, unless memory is wanting.
         ensures noted { (IsErrOf result Memory → ⊥) → string_bytes self.new.calls
@@ -105,8 +108,10 @@ impl Files for RecordedFiles {
             → Rose (⟦<MemFiles as Files>⟧.faults self.old.files) (⟦<MemFiles as Files>⟧.faults self.new.files) }
         ensures map { ⟦<MemFiles as Files>⟧.map self.new.files ≡ ⟦<MemFiles as Files>⟧.map self.old.files }
         ensures read_to { ⟦<MemFiles as Files>⟧.read_to self.new.files ≡ ⟦<MemFiles as Files>⟧.read_to self.old.files }
-        ensures lent_ok { OnOk result (⟦<MemFiles as Files>⟧.lent self.new.files ≡ ⟦<MemFiles as Files>⟧.lent self.old.files + 1) }
-        ensures lent_err { OnErr result (⟦<MemFiles as Files>⟧.lent self.new.files ≡ ⟦<MemFiles as Files>⟧.lent self.old.files) }
+        ensures lent_ok { OnOk result (⟦<MemFiles as Files>⟧.lent self.new.files
+            ≡ ⟦<MemFiles as Files>⟧.lent self.old.files + 1) }
+        ensures lent_err { OnErr result (⟦<MemFiles as Files>⟧.lent self.new.files
+            ≡ ⟦<MemFiles as Files>⟧.lent self.old.files) }
 
         // The call is noted, unless memory is wanting.
         ensures noted { (IsErrOf result Memory → ⊥) → string_bytes self.new.calls
@@ -119,7 +124,8 @@ impl Files for RecordedFiles {
     fn keep(&mut self, name: &str, out: MemOut) -> Result<(), DeviceErr>
         ensures ok { OnOk result (⟦<MemFiles as Files>⟧.map self.new.files
             ≡ kept (⟦<MemFiles as Files>⟧.map self.old.files) name.now (⟦<MemOut as Sink>⟧.bytes out)) }
-        ensures err { OnErr result ((⟦<MemFiles as Files>⟧.map self.new.files ≡ ⟦<MemFiles as Files>⟧.map self.old.files)
+        ensures err { OnErr result ((⟦<MemFiles as Files>⟧.map self.new.files
+            ≡ ⟦<MemFiles as Files>⟧.map self.old.files)
             ⊎ (⟦<MemFiles as Files>⟧.map self.new.files
             ≡ kept (⟦<MemFiles as Files>⟧.map self.old.files) name.now (⟦<MemOut as Sink>⟧.bytes out))) }
         ensures not_absent { IsErrOf result Absent → ⊥ }

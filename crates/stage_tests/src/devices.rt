@@ -18,11 +18,11 @@ const READS: [(u64, u32, usize, usize, [u8; 6]); 6] = [
     (9, 99, 0, 0, [7; 6]),
 ];
 
-/// The limit of a source that is read whole, and the call that fails; whether all of it comes.
-const WHOLES: [(u32, u64, Result<bool, WholeErr>); 4] = [
-    (7, 9, Ok(false)),
-    (8, 9, Ok(true)),
-    (9, 9, Ok(true)),
+/// The limit of a source that is read whole, and the call that fails; whether what comes is its content, where any comes.
+const WHOLES: [(u32, u64, Result<Option<bool>, WholeErr>); 4] = [
+    (7, 9, Ok(None)),
+    (8, 9, Ok(Some(true))),
+    (9, 9, Ok(Some(true))),
     (9, 2, Err(WholeErr::Failed)),
 ];
 
@@ -75,11 +75,11 @@ fn reads_come_in_pieces_and_are_filled(rt: HostRuntime) {
     }
 }
 
-fn whole(alloc: Global, limit: u32, call: u64) -> Option<Result<bool, WholeErr>> {
+fn whole(alloc: Global, limit: u32, call: u64) -> Option<Result<Option<bool>, WholeErr>> {
     let mut source = source(alloc, 3, call)?;
     match read_whole(alloc, &mut source, limit as usize) {
-        Ok(Some(whole)) => Some(Ok(whole.as_slice() == CONTENT)),
-        Ok(None) => Some(Ok(false)),
+        Ok(Some(whole)) => Some(Ok(Some(whole.as_slice() == CONTENT))),
+        Ok(None) => Some(Ok(None)),
         Err(e) => Some(Err(e)),
     }
 }
