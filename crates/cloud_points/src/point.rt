@@ -21,8 +21,7 @@ const MOST_NANO: i128 = 4_000_000_000_000_000_000;
 /// Coordinates and extra values are whole counts of nanounits, 10^-9 of the file's unit, and the angle of 10^-9 degree.
 /// The GPS time is carried as its binary64 word. A dimension that a record lacks is 0.
 ///
-/// It takes 128 bytes, two lines of a cache: 13 numbers of 8 bytes, 6 of 2 and 11 of 1 are 127, and the wide ones stand
-/// first, so that no room is lost between them.
+/// It takes 128 bytes, two lines of a cache. The wide fields stand first, so that no room is lost between them.
 #[derive(Clone, Copy, Debug, Default, PartialEq, Eq)]
 pub struct Point {
     /// X coordinate in nanounits.
@@ -72,6 +71,8 @@ pub struct Point {
     /// For the user.
     pub user_data: u8,
 }
+
+const _: () = prove!(size_of::<Point>() == 128);
 
 impl Point {
     /// The point that has 0 in every dimension.
