@@ -167,7 +167,8 @@ impl ExtraNames {
 pub fn dim_of(name: &str, names: &ExtraNames) -> Option<Dim>
     ensures dim { result ≡ dim_in name.now names.now }
     ensures named { IfSome result (λ dim. IsNamed dim names.now) }
-    ensures own { (dim : Dim) → is_standard dim ≡ true → same_name name.now (name_of dim) ≡ true → result ≡ Some dim }
+    ensures own { (dim : Dim) → is_standard dim ≡ true → same_name name.now (name_of dim) ≡ true
+        → result ≡ Some dim }
 {
     match standard_dim(name) {
         Some(dim) => Some(dim),
