@@ -1,6 +1,9 @@
--- Two lists of marks are joined, one place after another.
-use Rattle.std.proofs.Common.{◌≡◌, ℕ, ◌+◌, ◌<◌, Bool, false, ◌||◌, List, length, set, get_or, nat_lt, if◌then◌else◌, arith}
+-- A list of no marks, and two lists of marks that are joined, one place after another.
+use Rattle.std.proofs.Common.{◌≡◌, ℕ, ◌+◌, ◌<◌, Bool, false, ◌||◌, List, length, set, get_or, replicate, nat_lt, if◌then◌else◌, arith}
 use Rattle.std.proofs.lemmas.Grind.{common_steps}
+
+pub no_mark : (n k : ℕ) → get_or (replicate n false) k false ≡ false
+no_mark n k = grind (arith, common_steps)
 
 pub record Joined (k : ℕ) (before other after : List Bool) : Type 0 where
   pub size : length after ≡ length before

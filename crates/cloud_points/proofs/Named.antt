@@ -8,7 +8,7 @@ use Rattle.std.proofs.lemmas.Bool.{lt-ltb, ltb-false}
 use Rattle.std.proofs.lemmas.List.Sums.{prefix_len-le-length, fails_before_first, position_or_len_is}
 use Rattle.std.proofs.lemmas.List.Quantifiers.{all_pairs_push}
 use Rattle.cloud_points.specs.ExtraNames.{same_name, DifferentNames, NoneStandard, place_in, dim_in}
-use Rattle.cloud_points.specs.declared.names.AnyDim.TheVariants.{Extra}
+use Rattle.cloud_points.specs.declared.dims.Dim.TheVariants.{Extra}
 
 same_itself : (name : List ℕ) → same_name name name ≡ true
 same_itself name = search (rules, bytes_eq-Decides)

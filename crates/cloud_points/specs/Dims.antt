@@ -1,9 +1,13 @@
 -- The dimensions of a point: how their values are counted, their ranges and their names.
-use Rattle.std.specs.Prelude.{ℕ, ◌*◌, ◌^◌, ℤ, pos, neg_ℤ, List, codes}
+use Rattle.std.specs.Prelude.{ℕ, ◌+◌, ◌*◌, ◌^◌, min, ℤ, pos, neg_ℤ, List, [], ◌∷◌, ◌++◌, codes}
 use Rattle.cloud_points.specs.declared.dims.Kind.{Kind}
 use Rattle.cloud_points.specs.declared.dims.Kind.TheVariants.{Fixed, Whole, Word}
 use Rattle.cloud_points.specs.declared.dims.Dim.{Dim}
-use Rattle.cloud_points.specs.declared.dims.Dim.TheVariants.{X, Y, Z, Intensity, ReturnNumber, NumberOfReturns, ScanDirectionFlag, EdgeOfFlightLine, Classification, Synthetic, KeyPoint, Withheld, Overlap, ScanChannel, ScanAngleRank, UserData, PointSourceId, GpsTime, Red, Green, Blue, Infrared}
+use Rattle.cloud_points.specs.declared.dims.Dim.TheVariants.{X, Y, Z, Intensity, ReturnNumber, NumberOfReturns, ScanDirectionFlag, EdgeOfFlightLine, Classification, Synthetic, KeyPoint, Withheld, Overlap, ScanChannel, ScanAngleRank, UserData, PointSourceId, GpsTime, Red, Green, Blue, Infrared, Extra}
+
+-- the place of an extra dimension among the eight; a number beyond them stands for the last
+abbrev pub extra_place : ℕ → ℕ
+extra_place k = min k 7
 
 -- the place of a dimension among all, from 0
 abbrev pub number_of : Dim → ℕ
@@ -29,36 +33,19 @@ number_of Red = 18
 number_of Green = 19
 number_of Blue = 20
 number_of Infrared = 21
+number_of (Extra k) = 22 + extra_place k
 
 abbrev pub kind_of : Dim → Kind
 kind_of X = Fixed
 kind_of Y = Fixed
 kind_of Z = Fixed
-kind_of Intensity = Whole
-kind_of ReturnNumber = Whole
-kind_of NumberOfReturns = Whole
-kind_of ScanDirectionFlag = Whole
-kind_of EdgeOfFlightLine = Whole
-kind_of Classification = Whole
-kind_of Synthetic = Whole
-kind_of KeyPoint = Whole
-kind_of Withheld = Whole
-kind_of Overlap = Whole
-kind_of ScanChannel = Whole
 kind_of ScanAngleRank = Fixed
-kind_of UserData = Whole
-kind_of PointSourceId = Whole
+kind_of (Extra k) = Fixed
 kind_of GpsTime = Word
-kind_of Red = Whole
-kind_of Green = Whole
-kind_of Blue = Whole
-kind_of Infrared = Whole
+kind_of _ = Whole
 
--- the greatest number of a dimension of whole numbers
+-- the greatest number of a dimension of whole numbers, and 0 for the others
 abbrev pub greatest : Dim → ℕ
-greatest X = 0
-greatest Y = 0
-greatest Z = 0
 greatest Intensity = 65535
 greatest ReturnNumber = 15
 greatest NumberOfReturns = 15
@@ -70,64 +57,32 @@ greatest KeyPoint = 1
 greatest Withheld = 1
 greatest Overlap = 1
 greatest ScanChannel = 3
-greatest ScanAngleRank = 0
 greatest UserData = 255
 greatest PointSourceId = 65535
-greatest GpsTime = 0
 greatest Red = 65535
 greatest Green = 65535
 greatest Blue = 65535
 greatest Infrared = 65535
+greatest _ = 0
 
--- the least and the greatest number of nanounits of a fixed dimension
+-- the least and the greatest number of nanounits of a fixed dimension, and 0 for the others
 abbrev pub low_of : Dim → ℤ
 low_of X = neg_ℤ (pos (4 * 10 ^ 18))
 low_of Y = neg_ℤ (pos (4 * 10 ^ 18))
 low_of Z = neg_ℤ (pos (4 * 10 ^ 18))
-low_of Intensity = pos 0
-low_of ReturnNumber = pos 0
-low_of NumberOfReturns = pos 0
-low_of ScanDirectionFlag = pos 0
-low_of EdgeOfFlightLine = pos 0
-low_of Classification = pos 0
-low_of Synthetic = pos 0
-low_of KeyPoint = pos 0
-low_of Withheld = pos 0
-low_of Overlap = pos 0
-low_of ScanChannel = pos 0
+low_of (Extra k) = neg_ℤ (pos (4 * 10 ^ 18))
 low_of ScanAngleRank = neg_ℤ (pos 196608000000)
-low_of UserData = pos 0
-low_of PointSourceId = pos 0
-low_of GpsTime = pos 0
-low_of Red = pos 0
-low_of Green = pos 0
-low_of Blue = pos 0
-low_of Infrared = pos 0
+low_of _ = pos 0
 
 abbrev pub high_of : Dim → ℤ
 high_of X = pos (4 * 10 ^ 18)
 high_of Y = pos (4 * 10 ^ 18)
 high_of Z = pos (4 * 10 ^ 18)
-high_of Intensity = pos 0
-high_of ReturnNumber = pos 0
-high_of NumberOfReturns = pos 0
-high_of ScanDirectionFlag = pos 0
-high_of EdgeOfFlightLine = pos 0
-high_of Classification = pos 0
-high_of Synthetic = pos 0
-high_of KeyPoint = pos 0
-high_of Withheld = pos 0
-high_of Overlap = pos 0
-high_of ScanChannel = pos 0
+high_of (Extra k) = pos (4 * 10 ^ 18)
 high_of ScanAngleRank = pos 196602000000
-high_of UserData = pos 0
-high_of PointSourceId = pos 0
-high_of GpsTime = pos 0
-high_of Red = pos 0
-high_of Green = pos 0
-high_of Blue = pos 0
-high_of Infrared = pos 0
+high_of _ = pos 0
 
+-- the name; that of an extra dimension ends with its place as a digit
 abbrev pub name_of : Dim → List ℕ
 name_of X = codes "X"
 name_of Y = codes "Y"
@@ -151,3 +106,4 @@ name_of Red = codes "Red"
 name_of Green = codes "Green"
 name_of Blue = codes "Blue"
 name_of Infrared = codes "Infrared"
+name_of (Extra k) = codes "Extra" ++ (48 + extra_place k) ∷ []

@@ -1,12 +1,12 @@
 -- What a point has in each dimension.
-use Rattle.std.specs.Prelude.{ℕ, ◌*◌, ◌^◌, ℤ, pos, int_le, Bool, ◌&&◌, unsigned_abs, Option, Some, None, if◌then◌else◌}
+use Rattle.std.specs.Prelude.{ℕ, ◌*◌, ◌^◌, ℤ, pos, int_le, Bool, ◌&&◌, unsigned_abs, Option, Some, None, if◌then◌else◌, get_or, set, replicate}
 use Rattle.exact_numbers.specs.Rounding.{half_away}
 use Rattle.ieee_words.specs.Order.{order_number}
-use Rattle.cloud_points.specs.Dims.{kind_of, greatest, low_of, high_of}
+use Rattle.cloud_points.specs.Dims.{extra_place, kind_of, greatest, low_of, high_of}
 use Rattle.cloud_points.specs.declared.dims.Kind.{Kind}
 use Rattle.cloud_points.specs.declared.dims.Kind.TheVariants.{Fixed, Whole, Word}
 use Rattle.cloud_points.specs.declared.dims.Dim.{Dim}
-use Rattle.cloud_points.specs.declared.dims.Dim.TheVariants.{X, Y, Z, Intensity, ReturnNumber, NumberOfReturns, ScanDirectionFlag, EdgeOfFlightLine, Classification, Synthetic, KeyPoint, Withheld, Overlap, ScanChannel, ScanAngleRank, UserData, PointSourceId, GpsTime, Red, Green, Blue, Infrared}
+use Rattle.cloud_points.specs.declared.dims.Dim.TheVariants.{X, Y, Z, Intensity, ReturnNumber, NumberOfReturns, ScanDirectionFlag, EdgeOfFlightLine, Classification, Synthetic, KeyPoint, Withheld, Overlap, ScanChannel, ScanAngleRank, UserData, PointSourceId, GpsTime, Red, Green, Blue, Infrared, Extra}
 use Rattle.cloud_points.specs.declared.point.Point.{Point}
 
 -- a whole number in nanounits
@@ -37,37 +37,19 @@ get p Red = whole p.red
 get p Green = whole p.green
 get p Blue = whole p.blue
 get p Infrared = whole p.infrared
+get p (Extra k) = get_or p.extra (extra_place k) (pos 0)
 
 -- the point with this many nanounits in a fixed dimension
 abbrev pub with_fixed : Point → Dim → ℤ → Point
 with_fixed p X v = record p { x = v }
 with_fixed p Y v = record p { y = v }
 with_fixed p Z v = record p { z = v }
-with_fixed p Intensity v = p
-with_fixed p ReturnNumber v = p
-with_fixed p NumberOfReturns v = p
-with_fixed p ScanDirectionFlag v = p
-with_fixed p EdgeOfFlightLine v = p
-with_fixed p Classification v = p
-with_fixed p Synthetic v = p
-with_fixed p KeyPoint v = p
-with_fixed p Withheld v = p
-with_fixed p Overlap v = p
-with_fixed p ScanChannel v = p
 with_fixed p ScanAngleRank v = record p { scan_angle_rank = v }
-with_fixed p UserData v = p
-with_fixed p PointSourceId v = p
-with_fixed p GpsTime v = p
-with_fixed p Red v = p
-with_fixed p Green v = p
-with_fixed p Blue v = p
-with_fixed p Infrared v = p
+with_fixed p (Extra k) v = record p { extra = set p.extra (extra_place k) v }
+with_fixed p _ v = p
 
 -- the point with this number in a dimension of whole numbers
 abbrev pub with_whole : Point → Dim → ℕ → Point
-with_whole p X n = p
-with_whole p Y n = p
-with_whole p Z n = p
 with_whole p Intensity n = record p { intensity = n }
 with_whole p ReturnNumber n = record p { return_number = n }
 with_whole p NumberOfReturns n = record p { number_of_returns = n }
@@ -79,14 +61,13 @@ with_whole p KeyPoint n = record p { key_point = n }
 with_whole p Withheld n = record p { withheld = n }
 with_whole p Overlap n = record p { overlap = n }
 with_whole p ScanChannel n = record p { scan_channel = n }
-with_whole p ScanAngleRank n = p
 with_whole p UserData n = record p { user_data = n }
 with_whole p PointSourceId n = record p { point_source_id = n }
-with_whole p GpsTime n = p
 with_whole p Red n = record p { red = n }
 with_whole p Green n = record p { green = n }
 with_whole p Blue n = record p { blue = n }
 with_whole p Infrared n = record p { infrared = n }
+with_whole p _ n = p
 
 abbrev pub is_between : ℤ → ℤ → ℤ → Bool
 is_between low high v = int_le low v && int_le v high
@@ -103,28 +84,8 @@ point_with p d v = point_with_kind (kind_of d) p d v
 
 -- a number in whose order the values of a dimension stand
 abbrev pub key_of : Point → Dim → ℤ
-key_of p X = get p X
-key_of p Y = get p Y
-key_of p Z = get p Z
-key_of p Intensity = get p Intensity
-key_of p ReturnNumber = get p ReturnNumber
-key_of p NumberOfReturns = get p NumberOfReturns
-key_of p ScanDirectionFlag = get p ScanDirectionFlag
-key_of p EdgeOfFlightLine = get p EdgeOfFlightLine
-key_of p Classification = get p Classification
-key_of p Synthetic = get p Synthetic
-key_of p KeyPoint = get p KeyPoint
-key_of p Withheld = get p Withheld
-key_of p Overlap = get p Overlap
-key_of p ScanChannel = get p ScanChannel
-key_of p ScanAngleRank = get p ScanAngleRank
-key_of p UserData = get p UserData
-key_of p PointSourceId = get p PointSourceId
 key_of p GpsTime = pos (order_number p.gps_time)
-key_of p Red = get p Red
-key_of p Green = get p Green
-key_of p Blue = get p Blue
-key_of p Infrared = get p Infrared
+key_of p dim = get p dim
 
 abbrev pub zero_point : Point
 zero_point = record {
@@ -133,6 +94,7 @@ zero_point = record {
   z = pos 0;
   scan_angle_rank = pos 0;
   gps_time = 0;
+  extra = replicate 8 (pos 0);
   intensity = 0;
   point_source_id = 0;
   red = 0;

@@ -1,9 +1,10 @@
 //! The dimensions of a point.
 
-ghost use Rattle.std.specs.Prelude.{◌≡◌, ◌≤◌, ◌<◌, length};
-ghost use Rattle.cloud_points.specs.Dims.{number_of, kind_of, greatest, low_of, high_of, name_of};
+ghost use Rattle.std.specs.Prelude.{◌≡◌, ◌≤◌, ◌<◌, ◌+◌, [], ◌∷◌, ◌++◌, length, codes};
+ghost use Rattle.cloud_points.specs.Dims.{extra_place, number_of, kind_of, greatest, low_of, high_of, name_of};
 
-/// A dimension of a point, by its name in the ASPRS LAS Specification 1.4 R15 ("Point Data Records").
+/// A dimension of a point: one of the 22 by their names in the ASPRS LAS Specification 1.4 R15 ("Point Data Records"), or
+/// one of 8 extra ones.
 #[derive(Clone, Copy, Debug, PartialEq, Eq)]
 pub enum Dim {
     /// X coordinate.
@@ -50,10 +51,36 @@ pub enum Dim {
     Blue,
     /// Near infrared image channel.
     Infrared,
+    /// An extra dimension, by its place among the extra names, 0 to 7. A number beyond them stands for the last.
+    Extra(u8),
 }
 
 /// How many dimensions there are.
-pub(crate) const COUNT: usize = 22;
+pub(crate) const COUNT: usize = 30;
+
+/// The place of an extra dimension among the eight.
+pub(crate) fn extra_place(place: u8) -> usize
+    ensures { result ≡ extra_place place }
+{
+    place.min(7) as usize
+}
+
+/// The name of an extra dimension.
+fn extra_name(place: u8) -> &'static str
+    ensures name { result.now ≡ codes "Extra" ++ (48 + extra_place place) ∷ [] }
+    ensures len { length result.now ≤ 6 }
+{
+    match place {
+        0 => "Extra0",
+        1 => "Extra1",
+        2 => "Extra2",
+        3 => "Extra3",
+        4 => "Extra4",
+        5 => "Extra5",
+        6 => "Extra6",
+        _ => "Extra7",
+    }
+}
 
 /// How the values of a dimension are counted.
 #[derive(Clone, Copy, Debug, PartialEq, Eq)]
@@ -76,7 +103,7 @@ impl Dim {
     // Its place among all, from 0.
     pub(crate) fn number(self) -> usize
         ensures number { result ≡ number_of self }
-        ensures small { result < 22 }
+        ensures small { result < 30 }
     {
         match self {
             Dim::X => 0,
@@ -101,6 +128,7 @@ impl Dim {
             Dim::Green => 19,
             Dim::Blue => 20,
             Dim::Infrared => 21,
+            Dim::Extra(place) => 22 + extra_place(place),
         }
     }
 
@@ -109,32 +137,13 @@ impl Dim {
         ensures { result ≡ kind_of self }
     {
         match self {
-            Dim::X => Kind::Fixed,
-            Dim::Y => Kind::Fixed,
-            Dim::Z => Kind::Fixed,
-            Dim::Intensity => Kind::Whole,
-            Dim::ReturnNumber => Kind::Whole,
-            Dim::NumberOfReturns => Kind::Whole,
-            Dim::ScanDirectionFlag => Kind::Whole,
-            Dim::EdgeOfFlightLine => Kind::Whole,
-            Dim::Classification => Kind::Whole,
-            Dim::Synthetic => Kind::Whole,
-            Dim::KeyPoint => Kind::Whole,
-            Dim::Withheld => Kind::Whole,
-            Dim::Overlap => Kind::Whole,
-            Dim::ScanChannel => Kind::Whole,
-            Dim::ScanAngleRank => Kind::Fixed,
-            Dim::UserData => Kind::Whole,
-            Dim::PointSourceId => Kind::Whole,
+            Dim::X | Dim::Y | Dim::Z | Dim::ScanAngleRank | Dim::Extra(_) => Kind::Fixed,
             Dim::GpsTime => Kind::Word,
-            Dim::Red => Kind::Whole,
-            Dim::Green => Kind::Whole,
-            Dim::Blue => Kind::Whole,
-            Dim::Infrared => Kind::Whole,
+            _ => Kind::Whole,
         }
     }
 
-    /// The name, spelled as in the enum.
+    /// The name, spelled as in the enum; that of an extra dimension is `Extra0` to `Extra7`.
     pub fn name(self) -> &'static str
         ensures name { result.now ≡ name_of self }
         ensures len { length result.now ≤ 17 }
@@ -162,6 +171,7 @@ impl Dim {
             Dim::Green => "Green",
             Dim::Blue => "Blue",
             Dim::Infrared => "Infrared",
+            Dim::Extra(place) => extra_name(place),
         }
     }
 
@@ -170,28 +180,14 @@ impl Dim {
         ensures { result ≡ greatest self }
     {
         match self {
-            Dim::X => 0,
-            Dim::Y => 0,
-            Dim::Z => 0,
-            Dim::Intensity => 65535,
-            Dim::ReturnNumber => 15,
-            Dim::NumberOfReturns => 15,
-            Dim::ScanDirectionFlag => 1,
-            Dim::EdgeOfFlightLine => 1,
-            Dim::Classification => 255,
-            Dim::Synthetic => 1,
-            Dim::KeyPoint => 1,
-            Dim::Withheld => 1,
-            Dim::Overlap => 1,
+            Dim::Intensity | Dim::PointSourceId => 65535,
+            Dim::Red | Dim::Green | Dim::Blue | Dim::Infrared => 65535,
+            Dim::ReturnNumber | Dim::NumberOfReturns => 15,
+            Dim::Classification | Dim::UserData => 255,
+            Dim::ScanDirectionFlag | Dim::EdgeOfFlightLine => 1,
+            Dim::Synthetic | Dim::KeyPoint | Dim::Withheld | Dim::Overlap => 1,
             Dim::ScanChannel => 3,
-            Dim::ScanAngleRank => 0,
-            Dim::UserData => 255,
-            Dim::PointSourceId => 65535,
-            Dim::GpsTime => 0,
-            Dim::Red => 65535,
-            Dim::Green => 65535,
-            Dim::Blue => 65535,
-            Dim::Infrared => 65535,
+            _ => 0,
         }
     }
 
@@ -200,26 +196,9 @@ impl Dim {
         ensures { result ≡ low_of self }
     {
         match self {
-            Dim::X | Dim::Y | Dim::Z => -4_000_000_000_000_000_000,
+            Dim::X | Dim::Y | Dim::Z | Dim::Extra(_) => -4_000_000_000_000_000_000,
             Dim::ScanAngleRank => -196_608_000_000,
-            Dim::Intensity
-            | Dim::ReturnNumber
-            | Dim::NumberOfReturns
-            | Dim::ScanDirectionFlag
-            | Dim::EdgeOfFlightLine
-            | Dim::Classification
-            | Dim::Synthetic
-            | Dim::KeyPoint
-            | Dim::Withheld
-            | Dim::Overlap
-            | Dim::ScanChannel
-            | Dim::UserData
-            | Dim::PointSourceId
-            | Dim::GpsTime
-            | Dim::Red
-            | Dim::Green
-            | Dim::Blue
-            | Dim::Infrared => 0,
+            _ => 0,
         }
     }
 
@@ -228,26 +207,9 @@ impl Dim {
         ensures { result ≡ high_of self }
     {
         match self {
-            Dim::X | Dim::Y | Dim::Z => 4_000_000_000_000_000_000,
+            Dim::X | Dim::Y | Dim::Z | Dim::Extra(_) => 4_000_000_000_000_000_000,
             Dim::ScanAngleRank => 196_602_000_000,
-            Dim::Intensity
-            | Dim::ReturnNumber
-            | Dim::NumberOfReturns
-            | Dim::ScanDirectionFlag
-            | Dim::EdgeOfFlightLine
-            | Dim::Classification
-            | Dim::Synthetic
-            | Dim::KeyPoint
-            | Dim::Withheld
-            | Dim::Overlap
-            | Dim::ScanChannel
-            | Dim::UserData
-            | Dim::PointSourceId
-            | Dim::GpsTime
-            | Dim::Red
-            | Dim::Green
-            | Dim::Blue
-            | Dim::Infrared => 0,
+            _ => 0,
         }
     }
 }

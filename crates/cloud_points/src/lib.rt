@@ -18,7 +18,7 @@ pub use faults::{Make, PointFault, StageFault};
 pub use flow::flow_laws;
 pub use item::{Body, Item};
 pub use layout::Layout;
-pub use names::{AddFault, AnyDim, ExtraNames, dim_of, name_of};
+pub use names::{AddFault, ExtraNames, dim_of, name_of};
 pub use point::Point;
 pub use spread::{MOST_POINTS, Spread, put_points};
 pub use work::Work;

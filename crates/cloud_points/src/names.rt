@@ -2,13 +2,11 @@
 
 ghost use Rattle.std.specs.Prelude.{◌≡◌, ◌<◌, ◌≤◌, ◌↔◌, ℕ, [], length, slice_index_or, true, Some, None, Ok, IfOk, IfSome, OnErr, IsErrOf};
 ghost use Rattle.cloud_points.specs.Dims.{name_of};
-ghost use Rattle.cloud_points.specs.ExtraNames.{same_name, DifferentNames, NoneStandard, place_in, dim_named, dim_in, name_in, IsNamed, added};
+ghost use Rattle.cloud_points.specs.ExtraNames.{same_name, DifferentNames, NoneStandard, is_standard, place_in, dim_named, dim_in, name_in, IsNamed, added};
 ghost use Rattle.cloud_points.specs.declared.dims.Dim.{Dim};
-ghost use Rattle.cloud_points.specs.declared.names.AnyDim.TheVariants.{Standard};
 ghost use Rattle.cloud_points.specs.declared.names.AddFault.TheVariants.{Full, Memory};
 
 use crate::Dim;
-use crate::dims::COUNT;
 use file_devices::Name;
 use std::alloc::{AllocError, Global};
 use std::marker::Model;
@@ -16,8 +14,8 @@ use std::marker::Model;
 /// The most names of extra dimensions.
 const MOST_NAMES: usize = 8;
 
-/// The dimensions that have a name of their own, in the order of the enum.
-const ALL: [Dim; COUNT] = [
+/// The dimensions of the standard, in the order of the enum.
+const STANDARD: [Dim; 22] = [
     Dim::X,
     Dim::Y,
     Dim::Z,
@@ -41,13 +39,6 @@ const ALL: [Dim; COUNT] = [
     Dim::Blue,
     Dim::Infrared,
 ];
-
-/// A dimension that the standard names, or an extra one by its place among the extra names, counted from 0.
-#[derive(Clone, Copy, Debug, PartialEq, Eq)]
-pub enum AnyDim {
-    Standard(Dim),
-    Extra(u8),
-}
 
 /// Why a name isn't added.
 #[derive(Clone, Copy, Debug, PartialEq, Eq)]
@@ -105,7 +96,8 @@ fn place_among(name: &str, names: &[Name]) -> Option<usize>
 fn standard_dim(name: &str) -> Option<Dim>
     ensures { result ≡ dim_named name.now }
 {
-    ALL.iter()
+    STANDARD
+        .iter()
         .copied()
         .find(|dim| is_same_name(name, dim.name()))
 }
@@ -172,14 +164,15 @@ impl ExtraNames {
 
 /// The dimension with this name, without regard to the case of ASCII letters: one of the standard's, else an extra one. None
 /// exactly where there is neither.
-pub fn dim_of(name: &str, names: &ExtraNames) -> Option<AnyDim>
+pub fn dim_of(name: &str, names: &ExtraNames) -> Option<Dim>
     ensures dim { result ≡ dim_in name.now names.now }
     ensures named { IfSome result (λ dim. IsNamed dim names.now) }
-    ensures own { (dim : Dim) → same_name name.now (name_of dim) ≡ true → result ≡ Some (Standard dim) }
+    ensures own { (dim : Dim) → is_standard dim ≡ true → same_name name.now (name_of dim) ≡ true
+        → result ≡ Some dim }
 {
     match standard_dim(name) {
-        Some(dim) => Some(AnyDim::Standard(dim)),
-        None => names.place(name).map(AnyDim::Extra),
+        Some(dim) => Some(dim),
+        None => names.place(name).map(Dim::Extra),
     }
 }
 
@@ -187,13 +180,13 @@ pub fn dim_of(name: &str, names: &ExtraNames) -> Option<AnyDim>
 ///
 /// Where no extra name is one of the standard's, `dim_of` leads from it back to the dimension.
 #[tactic(auto, using(crate::proofs::Named::extra_back))]
-pub fn name_of(dim: AnyDim, names: &ExtraNames) -> &str
+pub fn name_of(dim: Dim, names: &ExtraNames) -> &str
     requires { IsNamed dim names.now }
     ensures name { result.now ≡ name_in dim names.now }
     ensures back { NoneStandard names.now → dim_in result.now names.now ≡ Some dim }
 {
     match dim {
-        AnyDim::Standard(dim) => dim.name(),
-        AnyDim::Extra(place) => names.spelling(place),
+        Dim::Extra(place) => names.spelling(place),
+        _ => dim.name(),
     }
 }

@@ -5,6 +5,7 @@ ghost use Rattle.cloud_points.specs.Dims.{kind_of, greatest, low_of, high_of};
 ghost use Rattle.cloud_points.specs.Points.{get, with_fixed, with_whole, point_with, point_with_kind, key_of, zero_point};
 ghost use Rattle.cloud_points.specs.declared.dims.Kind.TheVariants.{Fixed, Whole};
 
+use crate::dims::extra_place;
 use crate::{Dim, Kind, OutOfRange};
 use exact_numbers::half_away;
 use ieee_words::word_order;
@@ -15,10 +16,12 @@ const NANO: i128 = 1_000_000_000;
 /// More than any dimension of whole numbers holds, in nanounits.
 const MOST_NANO: i128 = 4_000_000_000_000_000_000;
 
-/// A point: what an ASPRS LAS point data record holds, in the units of `Dim`.
+/// A point: what an ASPRS LAS point data record holds, and eight extra values, in the units of `Dim`.
 ///
-/// Coordinates are whole counts of nanounits, 10^-9 of the file's unit, and the angle of 10^-9 degree. The GPS time is
-/// carried as its binary64 word. A dimension that a record lacks is 0.
+/// Coordinates and extra values are whole counts of nanounits, 10^-9 of the file's unit, and the angle of 10^-9 degree.
+/// The GPS time is carried as its binary64 word. A dimension that a record lacks is 0.
+///
+/// It takes 128 bytes, two lines of a cache. The wide fields stand first, so that no room is lost between them.
 #[derive(Clone, Copy, Debug, Default, PartialEq, Eq)]
 pub struct Point {
     /// X coordinate in nanounits.
@@ -31,6 +34,8 @@ pub struct Point {
     pub scan_angle_rank: i64,
     /// Time as a binary64 word.
     pub gps_time: u64,
+    /// The extra dimensions in their order, in nanounits.
+    pub extra: [i64; 8],
     /// Pulse return magnitude.
     pub intensity: u16,
     /// The file that the point came from.
@@ -67,6 +72,8 @@ pub struct Point {
     pub user_data: u8,
 }
 
+const _: () = prove!(size_of::<Point>() == 128);
+
 impl Point {
     /// The point that has 0 in every dimension.
     pub fn zero() -> Self
@@ -78,6 +85,7 @@ impl Point {
             z: 0,
             scan_angle_rank: 0,
             gps_time: 0,
+            extra: [0; 8],
             intensity: 0,
             point_source_id: 0,
             red: 0,
@@ -126,6 +134,7 @@ impl Point {
             Dim::Green => self.green as i128 * NANO,
             Dim::Blue => self.blue as i128 * NANO,
             Dim::Infrared => self.infrared as i128 * NANO,
+            Dim::Extra(place) => self.extra[extra_place(place)] as i128,
         }
     }
 
@@ -209,24 +218,8 @@ impl Point {
             Dim::Y => self.y = nano,
             Dim::Z => self.z = nano,
             Dim::ScanAngleRank => self.scan_angle_rank = nano,
-            Dim::Intensity
-            | Dim::ReturnNumber
-            | Dim::NumberOfReturns
-            | Dim::ScanDirectionFlag
-            | Dim::EdgeOfFlightLine
-            | Dim::Classification
-            | Dim::Synthetic
-            | Dim::KeyPoint
-            | Dim::Withheld
-            | Dim::Overlap
-            | Dim::ScanChannel
-            | Dim::UserData
-            | Dim::PointSourceId
-            | Dim::GpsTime
-            | Dim::Red
-            | Dim::Green
-            | Dim::Blue
-            | Dim::Infrared => {}
+            Dim::Extra(place) => self.extra[extra_place(place)] = nano,
+            _ => {}
         }
     }
 
@@ -252,7 +245,7 @@ impl Point {
             Dim::Green => self.green = number,
             Dim::Blue => self.blue = number,
             Dim::Infrared => self.infrared = number,
-            Dim::X | Dim::Y | Dim::Z | Dim::ScanAngleRank | Dim::GpsTime => {}
+            _ => {}
         }
     }
 }

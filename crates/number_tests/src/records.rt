@@ -69,6 +69,7 @@ fn point_of(text: &str) -> Result<Point, Fail> {
         user_data: number(&mut words)?,
         point_source_id: number(&mut words)?,
         gps_time: number(&mut words)?,
+        extra: [0; 8],
         red: number(&mut words)?,
         green: number(&mut words)?,
         blue: number(&mut words)?,

@@ -76,17 +76,17 @@ all_keep F8 grid p t h = keep_more grid p new_items (colours ++ Number Infrared 
 -- where the dimensions that the format lacks are 0, all others are all of the point
 all_copied : (format : Format) (grid : Grid) (p : Point) → IsOfFormat format grid p → copied p zero_point (items format) ≡ p
 all_copied F0 grid p h = let o = h.others in
-    λ i. record p { overlap = sym o.0 i; scan_channel = sym o.1.0 i; gps_time = sym o.1.1.0 i; red = sym o.1.1.1.0 i; green = sym o.1.1.1.1.0 i; blue = sym o.1.1.1.1.1.0 i; infrared = sym o.1.1.1.1.1.1.0 i }
+    λ i. record p { extra = sym h.extra i; overlap = sym o.0 i; scan_channel = sym o.1.0 i; gps_time = sym o.1.1.0 i; red = sym o.1.1.1.0 i; green = sym o.1.1.1.1.0 i; blue = sym o.1.1.1.1.1.0 i; infrared = sym o.1.1.1.1.1.1.0 i }
 all_copied F1 grid p h = let o = h.others in
-    λ i. record p { overlap = sym o.0 i; scan_channel = sym o.1.0 i; red = sym o.1.1.0 i; green = sym o.1.1.1.0 i; blue = sym o.1.1.1.1.0 i; infrared = sym o.1.1.1.1.1.0 i }
+    λ i. record p { extra = sym h.extra i; overlap = sym o.0 i; scan_channel = sym o.1.0 i; red = sym o.1.1.0 i; green = sym o.1.1.1.0 i; blue = sym o.1.1.1.1.0 i; infrared = sym o.1.1.1.1.1.0 i }
 all_copied F2 grid p h = let o = h.others in
-    λ i. record p { overlap = sym o.0 i; scan_channel = sym o.1.0 i; gps_time = sym o.1.1.0 i; infrared = sym o.1.1.1.0 i }
+    λ i. record p { extra = sym h.extra i; overlap = sym o.0 i; scan_channel = sym o.1.0 i; gps_time = sym o.1.1.0 i; infrared = sym o.1.1.1.0 i }
 all_copied F3 grid p h = let o = h.others in
-    λ i. record p { overlap = sym o.0 i; scan_channel = sym o.1.0 i; infrared = sym o.1.1.0 i }
+    λ i. record p { extra = sym h.extra i; overlap = sym o.0 i; scan_channel = sym o.1.0 i; infrared = sym o.1.1.0 i }
 all_copied F6 grid p h = let o = h.others in
-    λ i. record p { red = sym o.0 i; green = sym o.1.0 i; blue = sym o.1.1.0 i; infrared = sym o.1.1.1.0 i }
-all_copied F7 grid p h = λ i. record p { infrared = sym h.others.0 i }
-all_copied F8 grid p h = refl
+    λ i. record p { extra = sym h.extra i; red = sym o.0 i; green = sym o.1.0 i; blue = sym o.1.1.0 i; infrared = sym o.1.1.1.0 i }
+all_copied F7 grid p h = λ i. record p { extra = sym h.extra i; infrared = sym h.others.0 i }
+all_copied F8 grid p h = λ i. record p { extra = sym h.extra i }
 
 pub read_back : (format : Format) (grid : Grid) (p : Point) (bytes : List ℕ) → HasSteps grid → FitsTypes p → encoded format grid p ≡ Ok bytes
     → IsOfFormat format grid p → decoded format grid bytes ≡ p

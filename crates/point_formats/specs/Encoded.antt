@@ -4,7 +4,7 @@ use Rattle.std.specs.Int.{Width, w32, w64, byte_len, to_le_bytes, cast_unsigned}
 use Rattle.exact_numbers.specs.Rounding.{half_away}
 use Rattle.decimal_coords.specs.Grid.{nearest_step}
 use Rattle.cloud_points.specs.declared.dims.Dim.{Dim}
-use Rattle.cloud_points.specs.declared.dims.Dim.TheVariants.{X, Y, Z, Intensity, ReturnNumber, NumberOfReturns, ScanDirectionFlag, EdgeOfFlightLine, Classification, Synthetic, KeyPoint, Withheld, Overlap, ScanChannel, ScanAngleRank, UserData, PointSourceId, GpsTime, Red, Green, Blue, Infrared}
+use Rattle.cloud_points.specs.declared.dims.Dim.TheVariants.{Intensity, ReturnNumber, NumberOfReturns, ScanDirectionFlag, EdgeOfFlightLine, Classification, Synthetic, KeyPoint, Withheld, Overlap, ScanChannel, ScanAngleRank, UserData, PointSourceId, Red, Green, Blue, Infrared}
 use Rattle.cloud_points.specs.declared.point.Point.{Point}
 use Rattle.cloud_points.specs.Points.{get, is_between}
 use Rattle.las_header.specs.declared.form.Format.{Format}
@@ -15,11 +15,8 @@ use Rattle.point_formats.specs.declared.grid.Grid.{Grid}
 use Rattle.point_formats.specs.Grids.{scale_on, offset_on}
 use Rattle.point_formats.specs.Formats.{BitField, Item, Coordinate, Angle, Time, Number, Bits, items}
 
--- the number of a point in a dimension of whole numbers
+-- the number of a point in a dimension of whole numbers, and 0 in the others
 abbrev pub number_of : Point → Dim → ℕ
-number_of p X = 0
-number_of p Y = 0
-number_of p Z = 0
 number_of p Intensity = p.intensity
 number_of p ReturnNumber = p.return_number
 number_of p NumberOfReturns = p.number_of_returns
@@ -31,14 +28,13 @@ number_of p KeyPoint = p.key_point
 number_of p Withheld = p.withheld
 number_of p Overlap = p.overlap
 number_of p ScanChannel = p.scan_channel
-number_of p ScanAngleRank = 0
 number_of p UserData = p.user_data
 number_of p PointSourceId = p.point_source_id
-number_of p GpsTime = 0
 number_of p Red = p.red
 number_of p Green = p.green
 number_of p Blue = p.blue
 number_of p Infrared = p.infrared
+number_of p _ = 0
 
 -- a signed number in so many bits, or the fault where it leaves them
 abbrev pub signed_bytes : Width → EncodeFault → ℤ → Result (List ℕ) EncodeFault

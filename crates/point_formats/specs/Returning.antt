@@ -4,6 +4,7 @@ use Rattle.std.specs.List.{AllByRecursion}
 use Rattle.cloud_points.specs.declared.dims.Dim.{Dim}
 use Rattle.cloud_points.specs.declared.dims.Dim.TheVariants.{Overlap, ScanChannel, GpsTime, Red, Green, Blue, Infrared}
 use Rattle.cloud_points.specs.declared.point.Point.{Point}
+use Rattle.cloud_points.specs.Points.{zero_point}
 use Rattle.las_header.specs.declared.form.Format.{Format}
 use Rattle.las_header.specs.declared.form.Format.TheVariants.{F0, F1, F2, F3, F6, F7, F8}
 use Rattle.point_formats.specs.declared.grid.Grid.{Grid}
@@ -40,7 +41,7 @@ angle_step F6 = 6000000
 angle_step F7 = 6000000
 angle_step F8 = 6000000
 
--- the dimensions that a format lacks
+-- the dimensions of the standard that a format lacks
 abbrev pub lacking : Format → List Dim
 lacking F0 = Overlap ∷ ScanChannel ∷ GpsTime ∷ Red ∷ Green ∷ Blue ∷ Infrared ∷ []
 lacking F1 = Overlap ∷ ScanChannel ∷ Red ∷ Green ∷ Blue ∷ Infrared ∷ []
@@ -61,4 +62,5 @@ pub record IsOfFormat (format : Format) (grid : Grid) (p : Point) : Type 0 where
   pub y : IsOnAxis grid 1 p.y
   pub z : IsOnAxis grid 2 p.z
   pub angle : IsWholeSteps (angle_step format) p.scan_angle_rank
+  pub extra : p.extra ≡ zero_point.extra
   pub others : AllByRecursion (λ dim. word_of p dim ≡ 0) (lacking format)

@@ -298,7 +298,8 @@ fn put_record(format: Format, p: &Point, grid: &Grid, out: &mut [u8]) -> Result<
 /// the order of the record is told, and `out` is then as it was. Dimensions that the format lacks aren't written.
 ///
 /// A point is what `decode` reads from its record where its coordinates are those of raw numbers, its angle is a whole
-/// number of the steps in which the format counts angles, and the dimensions that the format lacks are 0.
+/// number of the steps in which the format counts angles, and the dimensions that the format lacks are 0, the extra ones
+/// among them.
 pub fn encode(format: Format, p: &Point, grid: &Grid, out: &mut [u8]) -> Result<usize, EncodeFault>
     requires room { format_size format ≤ length out.old }
     requires near { IsNear grid.now }

@@ -1,24 +1,19 @@
 //! Names of dimensions.
 
-use cloud_points::{AddFault, AnyDim, Dim, ExtraNames, dim_of, name_of};
+use cloud_points::{AddFault, Dim, ExtraNames, dim_of, name_of};
 
-/// Names, and their dimensions where there are no further ones.
-const NAMES: [(&str, Option<AnyDim>); 6] = [
-    (
-        "classification",
-        Some(AnyDim::Standard(Dim::Classification)),
-    ),
-    (
-        "CLASSIFICATION",
-        Some(AnyDim::Standard(Dim::Classification)),
-    ),
-    ("Z", Some(AnyDim::Standard(Dim::Z))),
-    ("infraRed", Some(AnyDim::Standard(Dim::Infrared))),
+/// Names, and their dimensions where there are no extra ones.
+const NAMES: [(&str, Option<Dim>); 7] = [
+    ("classification", Some(Dim::Classification)),
+    ("CLASSIFICATION", Some(Dim::Classification)),
+    ("Z", Some(Dim::Z)),
+    ("infraRed", Some(Dim::Infrared)),
+    ("Extra0", None),
     ("zz", None),
     ("", None),
 ];
 
-/// Further names that are added one after the other, and the place of each.
+/// Extra names that are added one after the other, and the place of each.
 const ADDED: [(&str, u8); 4] = [
     ("HeightAboveGround", 0),
     ("Slope", 1),
@@ -60,7 +55,7 @@ fn names_are_read_in_any_case(rt: HostRuntime) {
 fn is_added(names: &mut ExtraNames, name: &str, place: u8) -> bool {
     names.add(name) == Ok(place)
         && names.place(name) == Some(place)
-        && dim_of(name, names) == Some(AnyDim::Extra(place))
+        && dim_of(name, names) == Some(Dim::Extra(place))
 }
 
 /// Whether a name leads to a dimension of this name.

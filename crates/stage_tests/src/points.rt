@@ -5,7 +5,7 @@ use cloud_points::{Body, Chunk, Dim, Item, Layout, Point, Spread, flow_laws, put
 const UNIT: i128 = 1_000_000_000;
 
 /// The least and the greatest value of each dimension that has a number, times 10^9.
-const RANGES: [(Dim, i128, i128); 21] = [
+const RANGES: [(Dim, i128, i128); 23] = [
     (Dim::X, -4_000_000_000 * UNIT, 4_000_000_000 * UNIT),
     (Dim::Y, -4_000_000_000 * UNIT, 4_000_000_000 * UNIT),
     (Dim::Z, -4_000_000_000 * UNIT, 4_000_000_000 * UNIT),
@@ -27,6 +27,20 @@ const RANGES: [(Dim, i128, i128); 21] = [
     (Dim::Green, 0, 65_535 * UNIT),
     (Dim::Blue, 0, 65_535 * UNIT),
     (Dim::Infrared, 0, 65_535 * UNIT),
+    (Dim::Extra(0), -4_000_000_000 * UNIT, 4_000_000_000 * UNIT),
+    (Dim::Extra(7), -4_000_000_000 * UNIT, 4_000_000_000 * UNIT),
+];
+
+/// Extra dimensions, a value of each, and its name.
+const EXTRAS: [(u8, i128, &str); 8] = [
+    (0, 196_602_000_001, "Extra0"),
+    (1, -2_986_326_983_384_558_377, "Extra1"),
+    (2, -196_608_000_000, "Extra2"),
+    (3, 0, "Extra3"),
+    (4, 65_535_500_000_000, "Extra4"),
+    (5, 65_535_499_999_999, "Extra5"),
+    (6, -499_999_999, "Extra6"),
+    (7, -2_639_780_678_549_896_284, "Extra7"),
 ];
 
 /// Values that a classification is set to one after the other, whether each is taken, and the number that stands then.
@@ -77,6 +91,41 @@ fn whole_numbers_are_rounded_half_away(rt: HostRuntime) {
         );
         assert_eq!(rt; point.classification, number, "{nano}");
     }
+}
+
+/// A point that has its value in each extra dimension, as far as it takes it.
+fn extra_point() -> Point {
+    let mut point = Point::zero();
+    for (place, nano, _) in EXTRAS {
+        let _ = point.set(Dim::Extra(place), nano);
+    }
+    point
+}
+
+#[test]
+fn extra_dimensions_stand_apart(rt: HostRuntime) {
+    let point = extra_point();
+    for (place, nano, name) in EXTRAS {
+        let dim = Dim::Extra(place);
+        assert_eq!(rt; point.get(dim), nano, "{place}");
+        assert_eq!(rt; dim.name(), name, "{place}");
+        assert_eq!(rt; point.extra[place as usize] as i128, nano, "{place}");
+    }
+}
+
+#[test]
+fn a_number_beyond_the_eight_stands_for_the_last(rt: HostRuntime) {
+    let mut point = extra_point();
+    for place in [8, 255] {
+        let dim = Dim::Extra(place);
+        assert_eq!(rt;
+            (point.get(dim), dim.name()),
+            (EXTRAS[7].1, "Extra7"),
+            "{place}"
+        );
+    }
+    assert_eq!(rt; point.set(Dim::Extra(200), 5), Ok(()));
+    assert_eq!(rt; point.extra[7], 5);
 }
 
 /// The key of no time; and of another one its word, its key, its number, and whether a number is refused.
@@ -161,7 +210,7 @@ fn only_an_end_ends(rt: HostRuntime) {
 }
 
 /// The dimensions of a set, and a further one of which it is joined; whether some are in the one set and in the other.
-fn sets() -> ([bool; 3], [bool; 3], [bool; 4]) {
+fn sets() -> ([bool; 3], [bool; 3], [bool; 6]) {
     flow_laws();
     let mut colours = Layout::none();
     let colour = [Dim::Red, Dim::Green, Dim::Blue];
@@ -171,13 +220,29 @@ fn sets() -> ([bool; 3], [bool; 3], [bool; 4]) {
     }
     let mut all = Layout::none();
     all.add(Dim::X);
+    all.add(Dim::Extra(3));
     all.join(&colours);
     let after = colour.map(|dim| colours.has(dim));
-    let joined = [Dim::X, Dim::Y, Dim::Red, Dim::Infrared].map(|dim| all.has(dim));
+    let asked = [
+        Dim::X,
+        Dim::Y,
+        Dim::Red,
+        Dim::Infrared,
+        Dim::Extra(3),
+        Dim::Extra(4),
+    ];
+    let joined = asked.map(|dim| all.has(dim));
     (before, after, joined)
 }
 
 #[test]
 fn a_set_has_the_dimensions_that_were_put_in(rt: HostRuntime) {
-    assert_eq!(rt; sets(), ([false; 3], [true; 3], [true, false, true, false]));
+    assert_eq!(rt;
+        sets(),
+        (
+            [false; 3],
+            [true; 3],
+            [true, false, true, false, true, false]
+        )
+    );
 }
