@@ -12,8 +12,9 @@ use Rattle.run_report.specs.declared.report.StageCount.{StageCount}
 use Rattle.stage_runs.proofs.Works.{op-at-start}
 use Rattle.cloud_points.specs.declared.faults.PointFault.{PointFault}
 use Rattle.stage_kinds.specs.declared.kind.Kind.{Kind}
-use Rattle.stage_kinds.specs.declared.kind.Kind.TheVariants.{Reader, Head, Text}
-use Rattle.stage_kinds.specs.Held.{op_of}
+use Rattle.stage_kinds.specs.declared.held.Held.{Held}
+use Rattle.stage_kinds.specs.declared.held.Held.TheVariants.{Nothing, Source, Sink}
+use Rattle.stage_kinds.specs.Held.{op_of, held_by, op_on}
 use Rattle.stage_options.specs.Roles.{Role, Reads, Filters, Writes, is_writing}
 use Rattle.stage_options.specs.declared.stage.StageSpec.{StageSpec}
 use Rattle.run_report.specs.Reports.{report_of}
@@ -116,20 +117,20 @@ module _ {S K : Type 0} (s : source.Ghosts S) (faults : Kind S K → ℕ) (map :
   turns-to-cause (of.NotBuilt k) c = absurd c
 
 -- no device fails in a keeping while stages take turns
-op-early : {S K : Type 0} (i : ℕ) (w : Kind S K) (o : Op) → op_of w ≡ Some o → IsEarly (of.Device (at.Stage i) o)
-op-early i (Reader r) op.Keep e = cc
-op-early i (Head h) op.Keep e = cc
-op-early i (Text t) op.Keep e = cc
-op-early i w op.Open e = tt
-op-early i w op.Read e = tt
-op-early i w op.Create e = tt
-op-early i w op.Write e = tt
-op-early i w op.Patch e = tt
+op-early : {S K : Type 0} (i : ℕ) (h : Held S K) (o : Op) → op_on h ≡ Some o → IsEarly (of.Device (at.Stage i) o)
+op-early i Nothing o e = cc
+op-early i (Source s) op.Keep e = cc
+op-early i (Sink k) op.Keep e = cc
+op-early i h op.Open e = tt
+op-early i h op.Read e = tt
+op-early i h op.Create e = tt
+op-early i h op.Write e = tt
+op-early i h op.Patch e = tt
 
 pub turns-early : {S K : Type 0} (s : source.Ghosts S) (faults : Kind S K → ℕ) (stages : List StageSpec) (old new : List (Kind S K)) (r : Refusal) → IsTurnsCause s faults stages old new r → IsEarly r
 turns-early s faults stages old new of.Memory c = tt
 turns-early s faults stages old new (of.Data i f) c = tt
-turns-early s faults stages old new (of.Device (at.Stage i) o) c = op-early i c.before o c.does
+turns-early s faults stages old new (of.Device (at.Stage i) o) c = op-early i (held_by c.before) o c.does
 turns-early s faults stages old new (of.Device at.PipelineFile o) c = tt
 turns-early s faults stages old new (of.Device at.Out o) c = absurd c
 turns-early s faults stages old new (of.Pipeline f) c = tt

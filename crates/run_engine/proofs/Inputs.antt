@@ -8,16 +8,15 @@ use Rattle.pipeline_json.specs.Trees.{IsTree}
 use Rattle.pipeline_json.proofs.Taken.{times-append}
 use Rattle.stage_names.specs.Kinds as names
 use Rattle.stage_kinds.specs.declared.kind.Kind.{Kind}
-use Rattle.stage_kinds.specs.declared.kind.Kind.TheVariants.{Reader, Head, Text}
 use Rattle.stage_kinds.specs.Stages.{is_reader}
-use Rattle.stage_options.specs.Kinds.{kind_of, HaveOwnOptions}
+use Rattle.stage_options.specs.Kinds.{HaveOwnOptions}
 use Rattle.stage_options.specs.Shapes.{shape, shapes}
-use Rattle.stage_options.specs.declared.options.Options.{Options}
-use Rattle.stage_options.specs.declared.options.Options.TheVariants.{ReadersLas, FiltersHead, WritersText}
 use Rattle.stage_options.specs.declared.stage.StageSpec.{StageSpec}
+use Rattle.file_devices.specs.declared.devices.Source as source
 use Rattle.network_core.proofs.Opened.{some_at}
 use Rattle.answer_model.specs.Values.{stage_at, options_at}
 use Rattle.stage_runs.specs.Works.{IsAtStart}
+use Rattle.stage_runs.proofs.Works.{start-reads}
 use Rattle.run_engine.proofs.Opening.{stage-is}
 
 -- how often the numbers below one stand in a list
@@ -98,18 +97,7 @@ few-inputs stages i s tree lt e =
     let b = tally-most i s.ins (λ j l. let once = tree.once j (omega (arith, l, lt, size)) in let le = times-taken (shapes stages) i j (shape s) at in omega (arith, once, le)) in
     omega (arith, a, b)
 
--- a reader's work is that of a stage which takes none
-start-reads : {S K : Type 0} (bytes : K → Option (List ℕ)) (o : Options) (w : Kind S K) → IsAtStart bytes o w → is_reader w ≡ names.is_reader (kind_of o)
-start-reads bytes (ReadersLas o) (Reader r) start = refl
-start-reads bytes (ReadersLas o) (Head h) start = absurd start
-start-reads bytes (ReadersLas o) (Text w) start = absurd start
-start-reads bytes (FiltersHead o) (Reader r) start = absurd start
-start-reads bytes (FiltersHead o) (Head h) start = refl
-start-reads bytes (FiltersHead o) (Text w) start = absurd start
-start-reads bytes (WritersText o) (Reader r) start = absurd start
-start-reads bytes (WritersText o) (Head h) start = absurd start
-start-reads bytes (WritersText o) (Text w) start = refl
-
+-- a reader takes none, and any other stage takes some
 empty-none : (xs : List ℕ) → is_empty xs ≡ true → length xs ≡ 0
 empty-none [] e = refl
 empty-none (x ∷ xs) e = absurd (true≢false (sym e))
@@ -118,10 +106,10 @@ none-empty : (xs : List ℕ) → length xs ≡ 0 → is_empty xs ≡ true
 none-empty [] e = refl
 none-empty (x ∷ xs) e = absurd (omega (arith, e))
 
-leaf-inputs : {S K : Type 0} (bytes : K → Option (List ℕ)) (stages : List StageSpec) (i : ℕ) (s : StageSpec) (w : Kind S K) → IsTree (shapes stages) → HaveOwnOptions stages → slice_get stages i ≡ Some s → IsAtStart bytes s.options w
+leaf-inputs : {S K : Type 0} (source : source.Ghosts S) (bytes : K → Option (List ℕ)) (stages : List StageSpec) (i : ℕ) (s : StageSpec) (w : Kind S K) → IsTree (shapes stages) → HaveOwnOptions stages → slice_get stages i ≡ Some s → IsAtStart bytes s.options w
     → (is_reader w ≡ true → length s.ins ≡ 0) × (length s.ins ≡ 0 → is_reader w ≡ true)
-leaf-inputs bytes stages i s w tree own e start =
-    let reads : is_empty s.ins ≡ is_reader w = tree.readers i (shape s) (shape-at stages i s e) ∙ sym (start-reads bytes s.options w start ∙ ap names.is_reader (own i s e)) in
+leaf-inputs source bytes stages i s w tree own e start =
+    let reads : is_empty s.ins ≡ is_reader w = tree.readers i (shape s) (shape-at stages i s e) ∙ sym (start-reads source bytes s.options w start ∙ ap names.is_reader (own i s e)) in
     (λ h. empty-none s.ins (reads ∙ h), λ h. sym reads ∙ none-empty s.ins h)
 
 -- the stage at a place takes fewer than 2 ^ 32
@@ -132,10 +120,10 @@ input-count stages i s tree lt e =
     let c = shapes-size stages in
     omega (arith, a, b, c, lt)
 
-pub leaf-at : {S K : Type 0} (bytes : K → Option (List ℕ)) (stages : List StageSpec) (i : ℕ) (w : Kind S K) → IsTree (shapes stages) → HaveOwnOptions stages → i < length stages → IsAtStart bytes (options_at stages i) w
+pub leaf-at : {S K : Type 0} (source : source.Ghosts S) (bytes : K → Option (List ℕ)) (stages : List StageSpec) (i : ℕ) (w : Kind S K) → IsTree (shapes stages) → HaveOwnOptions stages → i < length stages → IsAtStart bytes (options_at stages i) w
     → (is_reader w ≡ true → length ((stage_at stages i).ins) ≡ 0) × (length ((stage_at stages i).ins) ≡ 0 → is_reader w ≡ true)
-leaf-at bytes stages i w tree own lt start =
+leaf-at source bytes stages i w tree own lt start =
     let s = some_at stages i lt in
     let is = stage-is stages i s.0 s.1 in
     subst (λ (t : StageSpec). (is_reader w ≡ true → length t.ins ≡ 0) × (length t.ins ≡ 0 → is_reader w ≡ true)) (sym is)
-    (leaf-inputs bytes stages i s.0 w tree own s.1 (subst (λ (t : StageSpec). IsAtStart bytes t.options w) is start))
+    (leaf-inputs source bytes stages i s.0 w tree own s.1 (subst (λ (t : StageSpec). IsAtStart bytes t.options w) is start))

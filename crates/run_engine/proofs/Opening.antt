@@ -1,5 +1,5 @@
 -- The readers of the first stages are opened.
-use Rattle.std.proofs.Common.{◌≡◌, ℕ, ◌<◌, List, length, slice_get, Option, Some, None, Err, IsOk, refl, ap, sym, subst, ◌∙◌, arith, inl, inr}
+use Rattle.std.proofs.Common.{◌≡◌, ℕ, ◌<◌, List, length, slice_get, Option, Some, None, Err, IsOk, refl, ap, sym, subst, ◌∙◌, arith, inl, inr, true}
 use Rattle.std.specs.Prelude.{⊤}
 use Rattle.std.proofs.lemmas.Option.{get_or_from_slice_get}
 use Rattle.network_core.proofs.Opened.{some_at}
@@ -10,9 +10,8 @@ use Rattle.file_devices.specs.declared.devices.Source as source
 use Rattle.file_devices.specs.declared.devices.Sink as sink
 use Rattle.las_reader.specs.declared.reader.LasReader.{LasReader}
 use Rattle.stage_kinds.specs.declared.kind.Kind.TheVariants.{Reader}
-use Rattle.stage_options.specs.Roles.{Role, Reads, Filters, Writes, role_of}
+use Rattle.stage_options.specs.Roles.{Role, Reads, Filters, Writes, role_of, is_reading}
 use Rattle.stage_options.specs.declared.options.Options.{Options}
-use Rattle.stage_options.specs.declared.options.Options.TheVariants.{ReadersLas, FiltersHead, WritersText}
 use Rattle.stage_options.specs.declared.stage.StageSpec.{StageSpec}
 use Rattle.run_report.specs.declared.refusal.Refusal.{Refusal}
 use Rattle.run_report.specs.declared.refusal.Refusal.TheVariants as of
@@ -20,8 +19,9 @@ use Rattle.run_report.specs.declared.refusal.Place.TheVariants as at
 use Rattle.answer_model.specs.Values.{stage_at, role_at, evaluated}
 use Rattle.answer_model.specs.Runs.{AreRead, holds, unread, unread_at, unless_unread, run_with, run_of, opened_in}
 use Rattle.stage_runs.specs.Works.{Tells}
+use Rattle.stage_runs.proofs.Works.{reader-start}
 use Rattle.answer_model.proofs.Least.{least-at}
-use Rattle.run_engine.specs.Begun.{IsOpened, AreOpened, IsWork}
+use Rattle.run_engine.specs.Begun.{IsReading, IsOpened, AreOpened, IsWork}
 use Rattle.run_engine.specs.Cause.{IsCause, IsUnopened, AtRole}
 
 -- a stage that stands at a place
@@ -88,6 +88,15 @@ unopened-cause rose map stages i refusal lt read why = go (role_at stages i) ref
 
 -- an opened reader is the work of its stage
 pub reader-work : {S K : Type 0} (s : source.Ghosts S) (k : sink.Ghosts K) (map : Option Names) (i : ℕ) (o : Options) (r : LasReader S) → IsOpened s map i (role_of o) (Some r) → IsWork s k map i o (Reader r)
-reader-work s k map i (ReadersLas o) r is = record { start = is.start; tells = λ m e q w. (let same : r ≡ q = cc in subst (λ (x : LasReader _). Tells s (λ j. holds m j (role_of (ReadersLas o))) i x) same (is.tells m e)) }
-reader-work s k map i (FiltersHead o) r is = absurd is
-reader-work s k map i (WritersText o) r is = absurd is
+reader-work {S} s k map i o r is = record {
+  start = reader-start s k.bytes o r (opened.0) (opened.1.start);
+  tells = λ m e q w. (let same : r ≡ q = cc in subst (λ (x : LasReader S). Tells s (λ j. holds m j (role_of o)) i x) same (opened.1.tells m e));
+}
+  where
+    by_role : (role : Role) → IsOpened s map i role (Some r) → (is_reading role ≡ true) × IsReading s map i role r
+    by_role (Reads name) h = (refl, h)
+    by_role Filters h = absurd h
+    by_role (Writes name) h = absurd h
+
+    opened : (is_reading (role_of o) ≡ true) × IsReading s map i (role_of o) r
+    opened = by_role (role_of o) is

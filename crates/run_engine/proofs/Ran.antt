@@ -11,9 +11,8 @@ use Rattle.cloud_points.specs.declared.faults.PointFault.{PointFault}
 use Rattle.cloud_points.specs.declared.faults.StageFault.{StageFault}
 use Rattle.cloud_points.specs.declared.faults.StageFault.TheVariants as stage
 use Rattle.cloud_points.specs.Events.{is_device, IsOf}
-use Rattle.cloud_points.specs.Flows.{Flow, points}
+use Rattle.cloud_points.specs.Flows.{points}
 use Rattle.cloud_points.specs.Queue.{up_to_limit}
-use Rattle.las_reader.specs.Files.{Las}
 use Rattle.network_core.specs.declared.node.Node.{Node}
 use Rattle.network_core.specs.Shown.{work_of}
 use Rattle.network_solo.specs.Trees.{NoneCame}
@@ -21,29 +20,22 @@ use Rattle.stage_kinds.specs.declared.kind.Kind.{Kind}
 use Rattle.stage_kinds.specs.Held.{op_of, faults_of}
 use Rattle.stage_kinds.specs.Stages.{holds_of}
 use Rattle.stage_options.specs.Roles.{role_of, target_of}
-use Rattle.stage_options.specs.declared.options.Options.{Options}
-use Rattle.stage_options.specs.declared.options.Options.TheVariants.{ReadersLas, FiltersHead, WritersText}
 use Rattle.stage_options.specs.declared.stage.StageSpec.{StageSpec}
 use Rattle.run_report.specs.declared.report.StageCount.{StageCount}
 use Rattle.run_report.specs.declared.refusal.Refusal.{Refusal}
 use Rattle.run_report.specs.declared.refusal.Refusal.TheVariants as of
 use Rattle.run_report.specs.declared.refusal.Place.TheVariants as at
 use Rattle.run_report.specs.declared.refusal.Fault.TheVariants as fault
-use Rattle.answer_model.specs.Values.{Opened, IsDown, stage_at, options_at, role_at, value_of, stage_input, stage_fault, count_at, counts_of, least_fault}
+use Rattle.answer_model.specs.Values.{Opened, IsDown, stage_at, options_at, role_at, stage_input, stage_fault, count_at, counts_of, least_fault}
 use Rattle.answer_model.proofs.Values.{value-input}
 use Rattle.answer_model.proofs.Least.{least-at, least-nowhere}
 use Rattle.stage_runs.specs.Works.{as_works, AreNewStages, ReadersTell}
+use Rattle.stage_runs.proofs.Works.{written-count}
 use Rattle.stage_runs.specs.Ran.{EndsAsStage, AreRanStages}
 use Rattle.run_engine.specs.Outcomes.{device_op, point_fault, HasFirst, NoFault, node_count, AreCounted, IsOutcome}
 use Rattle.run_engine.specs.Turns.{WorksTell, AreLater, KeepHolding, FailedAt, CameToEnd, IsTurnsCause, IsUnfinished}
 use Rattle.run_engine.proofs.Lists.{mapped-at, map-at, length-mapped, same-lists, range-at}
 use Rattle.run_engine.proofs.Opening.{stage-is}
-
--- what a writer takes it gives on
-written-count : (o : Options) (las : Las) (flow : Flow _) → option_map (λ (name : List ℕ). up_to_limit (length (points (value_of o las flow)))) (target_of (role_of o)) ≡ option_map (λ name. up_to_limit (length (points flow))) (target_of (role_of o))
-written-count (ReadersLas o) las flow = refl
-written-count (FiltersHead o) las flow = refl
-written-count (WritersText o) las flow = refl
 
 no-point : (o : Option PointFault) → None ≡ option_map stage.Point o → o ≡ None
 no-point None e = refl

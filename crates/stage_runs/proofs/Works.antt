@@ -1,10 +1,14 @@
 -- What the work of each type of stage tells and makes: one row for each type.
 use Rattle.std.proofs.Common.{◌≡◌, ℕ, true, false, List, [], Option, Some, refl, ap, sym, subst, ◌∙◌, true≢false}
-use Rattle.std.specs.Prelude.{option_map}
+use Rattle.std.specs.Prelude.{option_map, length}
+use Rattle.las_reader.specs.declared.reader.Progress.TheVariants.{Records}
+use Rattle.stage_names.specs.Kinds as names
+use Rattle.stage_options.specs.Kinds.{kind_of}
 use Rattle.file_devices.specs.declared.devices.Source as source
 use Rattle.cloud_points.specs.declared.point.Point.{Point}
 use Rattle.cloud_points.specs.declared.faults.StageFault.TheVariants as stage
-use Rattle.cloud_points.specs.Flows.{Flow}
+use Rattle.cloud_points.specs.Flows.{Flow, points}
+use Rattle.cloud_points.specs.Queue.{up_to_limit}
 use Rattle.cloud_points.specs.Marks.{flow_marks}
 use Rattle.las_reader.specs.Files.{Las}
 use Rattle.las_reader.specs.Flows.{las_flow, las_fault}
@@ -21,8 +25,8 @@ use Rattle.stage_options.specs.declared.options.Options.{Options}
 use Rattle.stage_options.specs.declared.options.Options.TheVariants.{ReadersLas, FiltersHead, WritersText}
 use Rattle.answer_model.specs.Rows.{row_of, value_on}
 use Rattle.answer_model.specs.Rows as rows
-use Rattle.answer_model.specs.Values.{Opened}
-use Rattle.stage_options.specs.Roles.{role_of, is_reading}
+use Rattle.answer_model.specs.Values.{Opened, value_of}
+use Rattle.stage_options.specs.Roles.{role_of, target_of, is_reading}
 use Rattle.file_devices.specs.Told.{IsAsTold}
 use Rattle.text_writer.proofs.Held.{held_text}
 use Rattle.stage_runs.specs.Works.{IsAtStart, op_for, Tells}
@@ -92,3 +96,27 @@ module _ {S K : Type 0} (s : source.Ghosts S) (bytes : K → Option (List ℕ)) 
   written-is (ReadersLas o) (Text w) ps is holds = cc
   written-is (FiltersHead o) (Text w) ps is holds = cc
   written-is (WritersText o) (Text w) ps is holds = held_text (bytes w.sink) ps holds
+
+  -- its work is a reader's exactly where the stage's type is
+  pub start-reads : (o : Options) (w : Kind S K) → IsAtStart bytes o w → is_reader w ≡ names.is_reader (kind_of o)
+  start-reads (ReadersLas o) (Reader r) start = refl
+  start-reads (ReadersLas o) (Head h) start = absurd start
+  start-reads (ReadersLas o) (Text w) start = absurd start
+  start-reads (FiltersHead o) (Reader r) start = absurd start
+  start-reads (FiltersHead o) (Head h) start = refl
+  start-reads (FiltersHead o) (Text w) start = absurd start
+  start-reads (WritersText o) (Reader r) start = absurd start
+  start-reads (WritersText o) (Head h) start = absurd start
+  start-reads (WritersText o) (Text w) start = refl
+
+  -- a reader that gave nothing yet is the work of a stage that reads
+  pub reader-start : (o : Options) (r : LasReader S) → is_reading (role_of o) ≡ true → r.progress ≡ Records 0 → IsAtStart bytes o (Reader r)
+  reader-start (ReadersLas o) r reads start = start
+  reader-start (FiltersHead o) r reads start = absurd (true≢false (sym reads))
+  reader-start (WritersText o) r reads start = absurd (true≢false (sym reads))
+
+-- what a writer takes it gives on
+pub written-count : (o : Options) (las : Las) (flow : Flow Point) → option_map (λ (name : List ℕ). up_to_limit (length (points (value_of o las flow)))) (target_of (role_of o)) ≡ option_map (λ name. up_to_limit (length (points flow))) (target_of (role_of o))
+written-count (ReadersLas o) las flow = refl
+written-count (FiltersHead o) las flow = refl
+written-count (WritersText o) las flow = refl
