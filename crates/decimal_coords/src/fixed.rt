@@ -2,8 +2,9 @@ ghost use Rattle.std.specs.Prelude.{◌≡◌, ℕ, ◌+◌, ◌-◌, ◌*◌, �
 ghost use Rattle.arrayvec.specs.ArrayString.{array_string_len};
 ghost use Rattle.decimal_coords.specs.Fixed.{fixed_text, places_text};
 
-use crate::powers::{power_of_ten, split, zeros};
+use crate::powers::{split, zeros};
 use arrayvec::ArrayString;
+use exact_numbers::power_of_ten;
 use itoa::Buffer;
 
 /// Appends `n`, in 64 bits where it has no more.

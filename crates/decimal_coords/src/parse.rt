@@ -4,8 +4,8 @@ ghost use Rattle.decimal_coords.specs.Grammar.{IsADecimal, IsBadPlace};
 ghost use Rattle.decimal_coords.specs.Parsed.{IsParsed, ParsedIsOne};
 ghost use Rattle.decimal_coords.specs.Scanning.{accepts, after, digits_in, places_in};
 
-use crate::powers::power_of_ten;
 use crate::scan::Scan;
+use exact_numbers::power_of_ten;
 use thiserror::Error;
 
 /// Why a text isn't read as a decimal.

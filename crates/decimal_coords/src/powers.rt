@@ -1,25 +1,6 @@
 ghost use Rattle.std.specs.Prelude.{◌≡◌, ◌/◌, ◌%◌, ◌^◌, ◌<◌, ◌≤◌, replicate};
 
-/// `10^k`.
-pub const fn power_of_ten(k: u32) -> u64
-    requires { k ≤ 9 }
-    ensures value { result ≡ 10 ^ k }
-    ensures positive { 1 ≤ result }
-    ensures bound { result ≤ 1_000_000_000 }
-{
-    match k {
-        0 => 1,
-        1 => 10,
-        2 => 100,
-        3 => 1_000,
-        4 => 10_000,
-        5 => 100_000,
-        6 => 1_000_000,
-        7 => 10_000_000,
-        8 => 100_000_000,
-        _ => 1_000_000_000,
-    }
-}
+use exact_numbers::power_of_ten;
 
 /// A text of `count` zeros.
 pub fn zeros(count: usize) -> &'static str

@@ -1,7 +1,8 @@
 ghost use Rattle.std.specs.Prelude.{◌≡◌, ℕ, ◌+◌, ◌-◌, ◌*◌, ◌/◌, ◌%◌, ◌^◌, ◌<◌, ◌≤◌, ◌∷◌, ◌++◌, length, take, drop, slice_range, decimal, unsigned_abs};
 ghost use Rattle.decimal_coords.specs.Fixed.{fixed_text, padded_digits, places_text};
 
-use crate::powers::{divided, power_of_ten};
+use crate::powers::divided;
+use exact_numbers::power_of_ten;
 use itoa::write_digits;
 
 /// Writes the two digits of a number below 100 at `at`.

@@ -1,8 +1,29 @@
-//! Exact arithmetic on whole numbers: quotients rounded half away from zero.
+//! Exact arithmetic on whole numbers: powers of ten, and quotients rounded half away from zero.
 #![tactic(auto)]
 
 ghost use Rattle.std.specs.Prelude.{◌≡◌, ◌^◌, ◌≤◌, pos, ◌≤ℤ◌, unsigned_abs};
 ghost use Rattle.exact_numbers.specs.Rounding.{half_away, HalfAwayIsOne, IsHalfAway};
+
+/// The powers of ten that a nanounit needs: `10^k`, `k` from 0 to 9.
+pub const fn power_of_ten(k: u32) -> u64
+    requires { k ≤ 9 }
+    ensures value { result ≡ 10 ^ k }
+    ensures positive { 1 ≤ result }
+    ensures bound { result ≤ 1_000_000_000 }
+{
+    match k {
+        0 => 1,
+        1 => 10,
+        2 => 100,
+        3 => 1_000,
+        4 => 10_000,
+        5 => 100_000,
+        6 => 1_000_000,
+        7 => 10_000_000,
+        8 => 100_000_000,
+        _ => 1_000_000_000,
+    }
+}
 
 /// The quotient `num / den` rounded to a whole number, a half away from zero.
 ///

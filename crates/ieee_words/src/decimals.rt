@@ -6,7 +6,7 @@ ghost use Rattle.ieee_words.specs.Dec.{DecimalIsOne, IsDecimalOf};
 ghost use Rattle.ieee_words.specs.DecimalOfWord.{decimal_of_word, DecimalOfWordIsDecimal};
 
 use crate::near;
-use crate::rounding::power_of_ten;
+use exact_numbers::power_of_ten;
 use thiserror::Error;
 
 /// The decimal of a word: a number of nanounits (10^-9), and whether it is exact, that is,

@@ -1,26 +1,7 @@
 ghost use Rattle.std.specs.Prelude.{◌≡◌, ◌≢◌, ℕ, ◌+◌, ◌-◌, ◌*◌, ◌/◌, ◌%◌, ◌^◌, ◌<◌, ◌≤◌};
 ghost use Rattle.ieee_words.specs.Sizes.{IsNearestSize};
 
-/// The powers of ten that a nanounit needs.
-pub const fn power_of_ten(k: u32) -> u64
-    requires { k ≤ 9 }
-    ensures value { result ≡ 10 ^ k }
-    ensures positive { 1 ≤ result }
-    ensures bound { result ≤ 1_000_000_000 }
-{
-    match k {
-        0 => 1,
-        1 => 10,
-        2 => 100,
-        3 => 1_000,
-        4 => 10_000,
-        5 => 100_000,
-        6 => 1_000_000,
-        7 => 10_000_000,
-        8 => 100_000_000,
-        _ => 1_000_000_000,
-    }
-}
+use exact_numbers::power_of_ten;
 
 /// `size * 2^up = quotient * divisor + rest`, with 97 to 127 bits in the quotient.
 #[derive(Clone, Copy)]

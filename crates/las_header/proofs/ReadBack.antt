@@ -7,7 +7,7 @@ use Rattle.las_header.specs.declared.form.Format.{Format}
 use Rattle.las_header.specs.declared.faults.HeaderFault.TheVariants.{NotLas, VersionNotRead, HeaderSize, Compressed, RecordTooShort, PointsInHeader}
 use Rattle.byte_numbers.specs.Bytes.{number_at}
 use Rattle.las_header.specs.Formats.{format_of, format_size}
-use Rattle.las_header.specs.Headers.{has_signature, has_version, has_block, holds_fields, has_points_behind, format_known, record_format, format_in, header_with, header_of}
+use Rattle.las_header.specs.Headers.{block_size, has_signature, has_version, has_block, holds_fields, has_points_behind, format_known, record_format, format_in, header_with, header_of}
 use Rattle.las_header.specs.Standing.{Stands, HasNoFault}
 use Rattle.las_header.specs.Steps.{◌>>=◌, wants}
 
@@ -51,7 +51,7 @@ format_again h bytes s d n =
     let major = d.major ∙ n.major in
     let minor = d.minor ∙ n.minor in
     let version : has_version bytes ≡ true = λ i. nat_lt (s.size i) 26 || ((major i == 1) && (minor i == 4)) in
-    let block : has_block bytes ≡ true = (λ i. nat_le 375 (s.size i) && nat_le 375 (d.header_size i)) ∙ le-leb 375 h.header_size n.block in
+    let block : has_block bytes ≡ true = (λ i. nat_le block_size (s.size i) && nat_le block_size (d.header_size i)) ∙ le-leb block_size h.header_size n.block in
     let format = record_again h bytes s d n in
     λ i. wants (signature i) NotLas >>= (λ _. wants (version i) VersionNotRead >>= (λ _. wants (block i) HeaderSize >>= (λ _. format i)))
 

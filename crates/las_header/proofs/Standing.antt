@@ -6,7 +6,7 @@ use Rattle.las_header.specs.declared.block.Header.{Header}
 use Rattle.las_header.specs.declared.form.Format.{Format}
 use Rattle.las_header.specs.declared.form.Format.TheVariants.{F0, F1, F2, F3, F6, F7, F8}
 use Rattle.las_header.specs.Formats.{format_of, format_number}
-use Rattle.las_header.specs.Headers.{header_with}
+use Rattle.las_header.specs.Headers.{block_size, header_with}
 use Rattle.las_header.specs.Sizes.{HasFileSizes, HasRecordSizes, HasGridSizes, HasCountSizes}
 use Rattle.las_header.specs.Standing.{Stands}
 use Rattle.las_header.specs.WordOffsets.{IsWordOffset}
@@ -84,7 +84,7 @@ header_again h bytes tail f = λ i. record {
 }
 
 -- the bytes of a header stand for it
-pub header_stands : (h : Header) (bytes : List ℕ) → HasSizes h → bytes ≡ header_bytes h → length bytes ≡ 375 → All IsWordOffset h.offset → Stands bytes h
+pub header_stands : (h : Header) (bytes : List ℕ) → HasSizes h → bytes ≡ header_bytes h → length bytes ≡ block_size → All IsWordOffset h.offset → Stands bytes h
 header_stands h bytes sizes is long words =
     let f = all_fields h bytes sizes is in
     record {

@@ -18,6 +18,10 @@ use Rattle.las_header.specs.Formats.{format_of, format_size}
 use Rattle.las_header.specs.ScaleWords.{scale_read}
 use Rattle.las_header.specs.Steps.{◌>>=◌, wants}
 
+-- the bytes of the block
+abbrev pub block_size : ℕ
+block_size = 375
+
 -- the file signature
 abbrev pub has_signature : List ℕ → Bool
 has_signature bytes = bytes_eq (take 4 bytes) (codes "LASF")
@@ -26,9 +30,9 @@ has_signature bytes = bytes_eq (take 4 bytes) (codes "LASF")
 abbrev pub has_version : List ℕ → Bool
 has_version bytes = nat_lt (length bytes) 26 || ((number_at 24 1 bytes == 1) && (number_at 25 1 bytes == 4))
 
--- the block is there, and its size is given as 375 bytes or more
+-- the block is there, and its size is given as no less
 abbrev pub has_block : List ℕ → Bool
-has_block bytes = nat_le 375 (length bytes) && nat_le 375 (number_at 94 2 bytes)
+has_block bytes = nat_le block_size (length bytes) && nat_le block_size (number_at 94 2 bytes)
 
 abbrev pub format_known : Option Format → Result Format HeaderFault
 format_known (Some format) = Ok format

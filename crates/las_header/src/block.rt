@@ -6,6 +6,9 @@ ghost use Rattle.las_header.specs.Counts.{points_in};
 use crate::Format;
 use decimal_coords::Scale;
 
+/// The bytes of the public header block of LAS 1.4.
+pub const BLOCK_SIZE: usize = 375;
+
 /// The public header block, one field for each of its fields and in their order.
 #[derive(Clone, Copy, Debug, PartialEq, Eq)]
 pub struct Header {

@@ -9,7 +9,7 @@ mod reading;
 mod scales;
 mod writing;
 
-pub use block::Header;
+pub use block::{BLOCK_SIZE, Header};
 pub use faults::{Axis, HeaderFault, ScaleFault};
 pub use form::Format;
 pub use reading::read_header;

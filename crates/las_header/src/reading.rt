@@ -3,7 +3,7 @@
 ghost use Rattle.std.specs.Prelude.{◌≡◌, ◌+◌, ◌≤◌, length, Some, IfOk, OnOk};
 ghost use Rattle.ieee_words.specs.DecimalOfWord.{decimal_of_word};
 ghost use Rattle.byte_numbers.specs.Bytes.{number_at, numbers_at};
-ghost use Rattle.las_header.specs.Headers.{has_signature, has_version, has_block, holds_fields, has_points_behind, record_format, format_in, scale_on, scales_of, offset_on, offsets_of, header_with, header_of};
+ghost use Rattle.las_header.specs.Headers.{block_size, has_signature, has_version, has_block, holds_fields, has_points_behind, record_format, format_in, scale_on, scales_of, offset_on, offsets_of, header_with, header_of};
 ghost use Rattle.las_header.specs.Formats.{format_of, format_size};
 ghost use Rattle.las_header.specs.Offsets.{IsOffset};
 ghost use Rattle.las_header.specs.ScaleWords.{scale_read};
@@ -11,13 +11,10 @@ ghost use Rattle.las_header.specs.Sound.{IsSound};
 ghost use Rattle.las_header.specs.Standing.{Stands};
 ghost use Rattle.std.specs.List.{All};
 
-use crate::{Axis, Format, Header, HeaderFault, ScaleFault, scale_of_word};
+use crate::{Axis, BLOCK_SIZE, Format, Header, HeaderFault, ScaleFault, scale_of_word};
 use byte_numbers::{piece_at, u8_at, u16_at, u32_at, u64_at};
 use decimal_coords::Scale;
 use ieee_words::decimal;
-
-/// The bytes of the block.
-pub(crate) const HEADER_SIZE: u16 = 375;
 
 fn has_version(bytes: &[u8]) -> bool
     ensures { result ≡ has_version bytes.now }
@@ -28,18 +25,18 @@ fn has_version(bytes: &[u8]) -> bool
 fn has_block(bytes: &[u8]) -> bool
     ensures { result ≡ has_block bytes.now }
 {
-    bytes.len() >= HEADER_SIZE as usize && u16_at(bytes, 94) >= HEADER_SIZE
+    bytes.len() >= BLOCK_SIZE && u16_at(bytes, 94) as usize >= BLOCK_SIZE
 }
 
 fn holds_fields(bytes: &[u8], format: Format) -> bool
-    requires { HEADER_SIZE ≤ length bytes.now }
+    requires { block_size ≤ length bytes.now }
     ensures { result ≡ holds_fields format bytes.now }
 {
     u16_at(bytes, 105) >= format.size()
 }
 
 fn has_points_behind(bytes: &[u8]) -> bool
-    requires { HEADER_SIZE ≤ length bytes.now }
+    requires { block_size ≤ length bytes.now }
     ensures { result ≡ has_points_behind bytes.now }
 {
     u32_at(bytes, 96) >= u16_at(bytes, 94) as u32
@@ -47,7 +44,7 @@ fn has_points_behind(bytes: &[u8]) -> bool
 
 #[tactic(auto, unfolding(crate::specs::Headers::record_format))]
 fn record_format(bytes: &[u8]) -> Result<Format, HeaderFault>
-    requires { HEADER_SIZE ≤ length bytes.now }
+    requires { block_size ≤ length bytes.now }
     ensures value { result ≡ record_format bytes.now }
     ensures known { IfOk result (λ format. format_of (number_at 104 1 bytes.now) ≡ Some format) }
     ensures long { IfOk result (λ format. format_size format ≤ number_at 105 2 bytes.now) }
@@ -72,8 +69,8 @@ fn record_format(bytes: &[u8]) -> Result<Format, HeaderFault>
 #[tactic(auto, unfolding(crate::specs::Headers::format_in))]
 fn format_in(bytes: &[u8]) -> Result<Format, HeaderFault>
     ensures value { result ≡ format_in bytes.now }
-    ensures block { OnOk result (HEADER_SIZE ≤ length bytes.now) }
-    ensures size { OnOk result (HEADER_SIZE ≤ number_at 94 2 bytes.now) }
+    ensures block { OnOk result (block_size ≤ length bytes.now) }
+    ensures size { OnOk result (block_size ≤ number_at 94 2 bytes.now) }
     ensures known { IfOk result (λ format. format_of (number_at 104 1 bytes.now) ≡ Some format) }
     ensures long { IfOk result (λ format. format_size format ≤ number_at 105 2 bytes.now) }
     ensures behind { OnOk result (number_at 94 2 bytes.now ≤ number_at 96 4 bytes.now) }
@@ -114,7 +111,7 @@ fn offset_at(bytes: &[u8], at: usize, axis: Axis) -> Result<i64, HeaderFault>
 
 #[tactic(auto, unfolding(crate::specs::Headers::scales_of))]
 fn scales(bytes: &[u8]) -> Result<[Scale; 3], HeaderFault>
-    requires { HEADER_SIZE ≤ length bytes.now }
+    requires { block_size ≤ length bytes.now }
     ensures { result ≡ scales_of bytes.now }
 {
     let x = scale_at(bytes, 131, Axis::X)?;
@@ -125,7 +122,7 @@ fn scales(bytes: &[u8]) -> Result<[Scale; 3], HeaderFault>
 
 #[tactic(auto, unfolding(crate::specs::Headers::offsets_of))]
 fn offsets(bytes: &[u8]) -> Result<[i64; 3], HeaderFault>
-    requires { HEADER_SIZE ≤ length bytes.now }
+    requires { block_size ≤ length bytes.now }
     ensures value { result ≡ offsets_of bytes.now }
     ensures sizes { IfOk result (All IsOffset) }
 {
@@ -136,7 +133,7 @@ fn offsets(bytes: &[u8]) -> Result<[i64; 3], HeaderFault>
 }
 
 fn legacy_returns(bytes: &[u8]) -> [u32; 5]
-    requires { HEADER_SIZE ≤ length bytes.now }
+    requires { block_size ≤ length bytes.now }
     ensures { result ≡ numbers_at 111 5 4 bytes.now }
 {
     [
@@ -149,7 +146,7 @@ fn legacy_returns(bytes: &[u8]) -> [u32; 5]
 }
 
 fn bounds(bytes: &[u8]) -> [u64; 6]
-    requires { HEADER_SIZE ≤ length bytes.now }
+    requires { block_size ≤ length bytes.now }
     ensures { result ≡ numbers_at 179 6 8 bytes.now }
 {
     [
@@ -163,7 +160,7 @@ fn bounds(bytes: &[u8]) -> [u64; 6]
 }
 
 fn returns(bytes: &[u8]) -> [u64; 15]
-    requires { HEADER_SIZE ≤ length bytes.now }
+    requires { block_size ≤ length bytes.now }
     ensures { result ≡ numbers_at 255 15 8 bytes.now }
 {
     [
@@ -187,7 +184,7 @@ fn returns(bytes: &[u8]) -> [u64; 15]
 
 #[tactic(auto, unfolding(crate::specs::Headers::header_with))]
 fn header_with(format: Format, scale: [Scale; 3], offset: [i64; 3], bytes: &[u8]) -> Header
-    requires { HEADER_SIZE ≤ length bytes.now }
+    requires { block_size ≤ length bytes.now }
     ensures value { result ≡ header_with format scale offset bytes.now }
     ensures size { result.header_size ≡ number_at 94 2 bytes.now }
     ensures points_at { result.points_at ≡ number_at 96 4 bytes.now }
@@ -233,7 +230,7 @@ fn header_with(format: Format, scale: [Scale; 3], offset: [i64; 3], bytes: &[u8]
 pub fn read_header(bytes: &[u8]) -> Result<Header, HeaderFault>
     ensures value { result ≡ header_of bytes.now }
     ensures sound { IfOk result IsSound }
-    ensures stands { IfOk result (λ header. length bytes.now ≤ 375 → Stands bytes.now header) }
+    ensures stands { IfOk result (λ header. length bytes.now ≤ block_size → Stands bytes.now header) }
 {
     let format = format_in(bytes)?;
     let scale = scales(bytes)?;

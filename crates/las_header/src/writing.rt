@@ -9,7 +9,7 @@ ghost use Rattle.las_header.specs.Standing.{Stands, HasNoFault};
 ghost use Rattle.las_header.specs.WordOffsets.{IsWordOffset};
 ghost use Rattle.las_header.specs.Written.{nano_bytes, scale_bytes, file_part, record_part, grid_part, count_part, header_bytes};
 
-use crate::Header;
+use crate::{BLOCK_SIZE, Header};
 use arrayvec::ArrayVec;
 use byte_numbers::{put, put_u32s, put_u64s};
 use decimal_coords::Scale;
@@ -106,12 +106,12 @@ fn count_part(h: &Header) -> ArrayVec<u8, 148>
 ///
 /// Where each offset is below 10^9 units in size and a decimal of at most 15 digits and 9 places, the bytes stand for
 /// the header, and where it has no fault either `read_header` gives it back.
-pub fn write_header(h: &Header, out: &mut [u8; 375])
+pub fn write_header(h: &Header, out: &mut [u8; BLOCK_SIZE])
     ensures bytes { out.new ≡ header_bytes h.now }
     ensures stands { All IsWordOffset h.now.offset → Stands out.new h.now }
     ensures read_back { All IsWordOffset h.now.offset → HasNoFault h.now → header_of out.new ≡ Ok h.now }
 {
-    let mut block = ArrayVec::<u8, 375>::new();
+    let mut block = ArrayVec::<u8, BLOCK_SIZE>::new();
     put(&mut block, &file_part(h));
     put(&mut block, &record_part(h));
     put(&mut block, &grid_part(h));

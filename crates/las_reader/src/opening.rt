@@ -2,13 +2,14 @@
 
 ghost use Rattle.std.specs.Prelude.{◌≡◌, ◌≢◌, ◌≤◌, ℕ, List, max, Some, Ok, IfOk, IfErr};
 ghost use Rattle.file_devices.specs.Counts.{Rose};
+ghost use Rattle.las_header.specs.Headers.{block_size};
 ghost use Rattle.las_header.specs.Sound.{IsSound};
 ghost use Rattle.las_reader.specs.Frames.{header_in, frame_of};
 ghost use Rattle.las_reader.specs.Lists.{HasLists};
 ghost use Rattle.las_reader.specs.Opening.{IsOpening, opening_of};
 
 use file_devices::{Source, fill};
-use las_header::{Header, HeaderFault, read_header};
+use las_header::{BLOCK_SIZE, Header, HeaderFault, read_header};
 use las_vlr::{VlrErr, VlrFault, VlrList, read_evlrs, read_vlrs};
 use std::alloc::Global;
 
@@ -47,9 +48,6 @@ pub(crate) struct Frame {
     pub(crate) evlrs: VlrList,
 }
 
-/// The bytes of the header block.
-const HEADER_SIZE: usize = 375;
-
 /// Reads the header block of a file.
 fn read_block<S: Source>(source: &mut S) -> Result<Header, OpenErr>
     ensures ok { IfOk result (λ header. (file : List ℕ) → S.bytes source.old ≡ Some file → header_in file ≡ Ok header) }
@@ -58,10 +56,10 @@ fn read_block<S: Source>(source: &mut S) -> Result<Header, OpenErr>
     ensures failed { IfErr result (λ e. e ≡ OpenErr.ReadFailed → Rose (S.faults source.old) (S.faults source.new)) }
     ensures not_memory { IfErr result (λ e. e ≢ OpenErr.Memory) }
     ensures later { S.faults source.old ≤ S.faults source.new }
-    ensures reached { S.reached source.new ≤ max (S.reached source.old) 375 }
+    ensures reached { S.reached source.new ≤ max (S.reached source.old) block_size }
     ensures bytes { S.bytes source.new ≡ S.bytes source.old }
 {
-    let mut block = [0u8; HEADER_SIZE];
+    let mut block = [0u8; BLOCK_SIZE];
     let Ok(held) = fill(source, 0, &mut block) else {
         return Err(OpenErr::ReadFailed);
     };

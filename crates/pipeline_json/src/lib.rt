@@ -11,6 +11,6 @@ mod tree;
 
 pub use elements::member;
 pub use laws::{piles_are_taken, stages_are_judged};
-pub use reading::read_pipeline;
+pub use reading::{MOST_BYTES, read_pipeline};
 pub use stage::{RawStage, StageList};
 pub use tree::RawTree;

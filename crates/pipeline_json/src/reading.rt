@@ -19,8 +19,8 @@ use serde_json::{Map, Value};
 use stage_names::{KindName, PipeErr, PipeFault};
 use std::alloc::{AllocError, Global};
 
-/// The most bytes of a text.
-const MOST_BYTES: usize = 1_048_576;
+/// The most bytes of a pipeline's text.
+pub const MOST_BYTES: usize = 1_048_576;
 
 /// The most stages.
 const MOST_STAGES: usize = 64;

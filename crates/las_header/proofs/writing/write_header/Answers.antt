@@ -1,4 +1,5 @@
 use Rattle.std.proofs.Common.{◌≡◌, length, rules}
+use Rattle.las_header.specs.Headers.{block_size}
 use Rattle.las_header.specs.Written.{header_bytes}
 use Rattle.las_header.proofs.Standing.{HasSizes, header_stands}
 use Rattle.las_header.proofs.ReadBack.{is_read_back}
@@ -7,7 +8,7 @@ use Rattle.las_header.proofs.writing.write_header.Goals as goal
 pub returns-clause-stands : goal.returns-clause-stands
 returns-clause-stands c =
     let is : c.copy_from_slice.new.self ≡ header_bytes c.args.h.now = search rules in
-    let size : length c.copy_from_slice.new.self ≡ 375 = search rules in
+    let size : length c.copy_from_slice.new.self ≡ block_size = search rules in
     let sizes : HasSizes c.args.h.now = record {
       file = c.file_part.ensures.sizes;
       recorded = c.record_part.ensures.sizes;
