@@ -8,14 +8,14 @@ use Rattle.run_report.specs.declared.refusal.Place.{Place}
 use Rattle.run_report.specs.declared.refusal.Place.TheVariants.{PipelineFile, Stage, Out}
 use Rattle.run_report.specs.declared.refusal.Refusal.{Refusal}
 use Rattle.run_report.specs.declared.refusal.Refusal.TheVariants.{Usage, Pipeline, Data, Device, Memory, NotBuilt}
-use Rattle.run_engine.specs.Runs.{Run}
-use Rattle.run_engine.specs.Cause.{Because, AtText, AtReader, AtWriter}
+use Rattle.answer_model.specs.Runs.{Run}
+use Rattle.run_engine.specs.Cause.{Because}
 use Rattle.lasline_top.specs.declared.status.Status.{Status}
 use Rattle.lasline_top.specs.declared.status.Status.TheVariants as status
 use Rattle.lasline_top.specs.Refusals.{status_for}
 use Rattle.lasline_top.specs.Words.{Task, Run_file, Print}
-use Rattle.lasline_top.specs.Answer.{plan_in, las_in, ran, status_of}
-use Rattle.lasline_top.specs.Cause.{AtOut, AtRun, AtTask}
+use Rattle.lasline_top.specs.Answer.{plan_in, ran, status_of}
+use Rattle.lasline_top.specs.Cause.{AtText, AtOut, AtRun, AtTask}
 
 no_text : (files : Type 0) (o : Op) → (files → ⊥) → AtText files PipelineFile o → ⊥
 no_text files Open none h = none h
@@ -25,22 +25,6 @@ no_text files Write none h = h
 no_text files Patch none h = h
 no_text files Keep none h = h
 
-no_reader : (files : Type 0) (o : Op) → (files → ⊥) → AtReader files o → ⊥
-no_reader files Open none h = none h
-no_reader files Read none h = none h
-no_reader files Create none h = h
-no_reader files Write none h = h
-no_reader files Patch none h = h
-no_reader files Keep none h = h
-
-no_writer : (files read right : Type 0) (o : Op) → (files → ⊥) → AtWriter files read right o → ⊥
-no_writer files read right Open none h = h
-no_writer files read right Read none h = h
-no_writer files read right Create none h = none h.0
-no_writer files read right Write none h = none h.0
-no_writer files read right Patch none h = h
-no_writer files read right Keep none h = none h.0
-
 no_out : (out right : Type 0) (o : Op) → (out → ⊥) → AtOut (out × right) o → ⊥
 no_out out right Open none h = h
 no_out out right Read none h = h
@@ -49,12 +33,10 @@ no_out out right Write none h = none h.0
 no_out out right Patch none h = h
 no_out out right Keep none h = h
 
-no_device : (files out : Type 0) (plan : Result (List StageSpec) Refusal) (read right : Type 0) (p : Place) (o : Op) → (files → ⊥) → (out → ⊥) → AtRun files out plan read right p o → ⊥
-no_device files out plan read right PipelineFile o no_files no_output h = no_text files o no_files h
-no_device files out (Ok stages) read right (Stage i) o no_files no_output (inl h) = no_reader files o no_files h.1
-no_device files out (Ok stages) read right (Stage i) o no_files no_output (inr h) = no_writer files read right o no_files h.1
-no_device files out (Err s) read right (Stage i) o no_files no_output h = h
-no_device files out plan read right Out o no_files no_output h = no_out out right o no_output h
+no_device : (files out : Type 0) (m : Names) (plan : Result (List StageSpec) Refusal) (right : Type 0) (p : Place) (o : Op) → (files → ⊥) → (out → ⊥) → AtRun files out m plan right p o → ⊥
+no_device files out m plan right PipelineFile o no_files no_output h = no_text files o no_files h
+no_device files out m plan right (Stage i) o no_files no_output h = no_files h.0
+no_device files out m plan right Out o no_files no_output h = no_out out right o no_output h
 
 no_page : (out : Type 0) (o : Op) → (out → ⊥) → AtOut out o → ⊥
 no_page out Open none h = h
@@ -65,7 +47,7 @@ no_page out Patch none h = h
 no_page out Keep none h = h
 
 no_task : (files out : Type 0) (m : Names) (task : Result Task Refusal) (p : Place) (o : Op) → (files → ⊥) → (out → ⊥) → AtTask files out m task p o → ⊥
-no_task files out m (Ok (Run_file file chunk queue)) p o no_files no_output h = no_device files out (plan_in m file) (IsOk (las_in m file)) (IsOk (ran m file)) p o no_files no_output h
+no_task files out m (Ok (Run_file file chunk queue)) p o no_files no_output h = no_device files out m (plan_in m file) (IsOk (ran m file)) p o no_files no_output h
 no_task files out m (Ok (Print text)) p o no_files no_output h = no_page out o no_output h.1
 no_task files out m (Err refusal) p o no_files no_output h = h
 

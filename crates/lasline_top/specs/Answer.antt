@@ -1,7 +1,6 @@
 -- What a command answers, over the map of the files.
 use Rattle.std.specs.Prelude.{ℕ, List, [], Result, Ok, Err, if◌then◌else◌}
 use Rattle.file_devices.specs.Named.{Names}
-use Rattle.las_reader.specs.Files.{Las}
 use Rattle.stage_names.specs.declared.faults.PipeFault.{PipeFault}
 use Rattle.pipeline_json.specs.Stages.{Stage}
 use Rattle.pipeline_json.specs.Trees.{tree_of}
@@ -10,8 +9,8 @@ use Rattle.stage_options.specs.TypedTree.{are_built, typed_tree}
 use Rattle.run_report.specs.declared.refusal.Place.TheVariants.{PipelineFile}
 use Rattle.run_report.specs.declared.refusal.Refusal.{Refusal}
 use Rattle.run_report.specs.declared.refusal.Refusal.TheVariants.{Pipeline, NotBuilt}
-use Rattle.run_engine.specs.Refusals.{and_then}
-use Rattle.run_engine.specs.Runs.{Run, opened, las_at, run_of, source_of}
+use Rattle.answer_model.specs.Steps.{and_then}
+use Rattle.answer_model.specs.Runs.{Run, file_at, run_of}
 use Rattle.lasline_top.specs.declared.status.Status.{Status}
 use Rattle.lasline_top.specs.declared.status.Status.TheVariants.{Ok as Done}
 use Rattle.lasline_top.specs.Refusals.{status_for}
@@ -24,7 +23,7 @@ piped (Err f) = Err (Pipeline f)
 
 -- the stages that a pipeline's file names, with options that no one has looked at yet
 abbrev pub raw_in : Names → List ℕ → Result (List Stage) Refusal
-raw_in m file = and_then (opened (m file) PipelineFile) (λ text. piped (tree_of text))
+raw_in m file = and_then (file_at (m file) PipelineFile) (λ text. piped (tree_of text))
 
 -- stages with their options, as far as they are built
 abbrev pub typed : List Stage → Result (List StageSpec) Refusal
@@ -37,10 +36,6 @@ plan_in m file = and_then (raw_in m file) typed
 -- what the run of a pipeline's file comes to
 abbrev pub ran : Names → List ℕ → Result Run Refusal
 ran m file = and_then (plan_in m file) (run_of m)
-
--- what its reader reads
-abbrev pub las_in : Names → List ℕ → Result Las Refusal
-las_in m file = and_then (plan_in m file) (λ stages. las_at (m (source_of stages)))
 
 -- a page is printed, and nothing is kept
 abbrev pub printed : List ℕ → Run

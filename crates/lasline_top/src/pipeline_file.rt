@@ -4,9 +4,10 @@ ghost use Rattle.std.specs.Prelude.{◌≡◌, Some, None, Ok, IfOk, IfErr};
 ghost use Rattle.file_devices.specs.Counts.{Rose};
 ghost use Rattle.file_devices.specs.Named.{Names};
 ghost use Rattle.lasline_top.specs.Answer.{raw_in};
-ghost use Rattle.run_engine.specs.Runs.{opened};
+ghost use Rattle.answer_model.specs.Runs.{file_at};
 ghost use Rattle.run_report.specs.declared.refusal.Place.{Place};
-ghost use Rattle.run_engine.specs.Cause.{Because, AtText, Risen, IsInside, IsSettled};
+ghost use Rattle.run_engine.specs.Cause.{Because, IsSettled};
+ghost use Rattle.lasline_top.specs.Cause.{AtText, Risen, IsInside};
 
 use file_devices::{DeviceErr, Files, Op, WholeErr, read_whole};
 use run_report::{Place, Refusal};
@@ -23,7 +24,7 @@ pub(crate) fn read_text<F: Files>(
     files: &mut F,
     name: &str,
 ) -> Result<Vec<u8>, Refusal>
-    ensures ok { IfOk result (λ text. (m : Names) → F.map files.old ≡ Some m → opened (m name.now) Place.PipelineFile ≡ Ok text.items) }
+    ensures ok { IfOk result (λ text. (m : Names) → F.map files.old ≡ Some m → file_at (m name.now) Place.PipelineFile ≡ Ok text.items) }
     ensures err { IfErr result (λ refusal. (m : Names) → F.map files.old ≡ Some m
         → Because (raw_in m name.now) (AtText (Rose (F.faults files.old) (F.faults files.new))) refusal) }
     ensures inside { IfErr result IsInside }

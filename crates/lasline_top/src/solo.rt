@@ -6,17 +6,16 @@ ghost use Rattle.file_devices.specs.Content.{Appends, AppendsPart};
 ghost use Rattle.file_devices.specs.Named.{Names};
 ghost use Rattle.file_devices.specs.declared.devices.Op.{Op};
 ghost use Rattle.stage_names.specs.declared.faults.PipeFault.{PipeFault};
-ghost use Rattle.stage_options.specs.Chained.{IsChain};
 ghost use Rattle.stage_options.specs.TreeShown.{specs_view};
 ghost use Rattle.run_report.specs.declared.refusal.Fault.{Fault};
 ghost use Rattle.run_report.specs.declared.refusal.Place.{Place};
 ghost use Rattle.run_report.specs.declared.refusal.Refusal.{Refusal};
 ghost use Rattle.run_report.specs.Faults.{fault_line};
-ghost use Rattle.run_engine.specs.Cause.{Because, Risen, RisenAt, IsInside, IsDone, IsPartDone, AtText, WerePut, IsLeft, IsSettled};
+ghost use Rattle.run_engine.specs.Cause.{Because, IsDone, IsPartDone, WerePut, IsLeft, IsSettled};
 ghost use Rattle.lasline_top.specs.Words.{Print, task_of};
 ghost use Rattle.lasline_top.specs.Answer.{plan_in, ran, answer, status_of};
 ghost use Rattle.lasline_top.specs.Refusals.{refusal_of, status_for};
-ghost use Rattle.lasline_top.specs.Cause.{ToldWhy, AtFile, AtTask, IsOfFiles};
+ghost use Rattle.lasline_top.specs.Cause.{Risen, RisenAt, IsInside, AtText, ToldWhy, AtFile, AtTask, IsOfFiles};
 
 use crate::pipeline_file::read_text;
 use crate::status::Status;
@@ -42,7 +41,6 @@ fn refusal_of(e: PipeErr) -> Refusal
 /// The pipeline in a file: its stages with their options.
 fn read_plan<F: Files>(alloc: Global, files: &mut F, name: &str) -> Result<Tree, Refusal>
     ensures ok { IfOk result (λ tree. (m : Names) → F.map files.old ≡ Some m → plan_in m name.now ≡ Ok (specs_view tree)) }
-    ensures chain { IfOk result (λ tree. IsChain (specs_view tree)) }
     ensures err { IfErr result (λ refusal. (m : Names) → F.map files.old ≡ Some m
         → Because (plan_in m name.now) (AtText (Rose (F.faults files.old) (F.faults files.new))) refusal) }
     ensures inside { IfErr result IsInside }
@@ -86,7 +84,10 @@ fn run_file<F: Files, K: Sink>(
     ensures later { F.faults files.old ≤ F.faults files.new }
 {
     let tree = read_plan(alloc, files, name)?;
-    let report = run_pipeline(alloc, files, tree.as_slice(), shape)?;
+    let report = match run_pipeline(alloc, files, tree.as_slice(), shape) {
+        Ok(report) => report,
+        Err(refusal) => return Err(refusal),
+    };
     match report_text(report.as_slice(), out) {
         Ok(()) => Ok(()),
         Err(_) => Err(Refusal::Device(Place::Out, Op::Write)),
