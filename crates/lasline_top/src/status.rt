@@ -27,7 +27,7 @@ pub enum Status {
     /// There was no memory.
     Memory,
 
-    /// What was asked isn't built yet: 1 the command, 4 a stage of the pipeline, an option of it, or its second input.
+    /// What was asked isn't built yet: 1 the command, 4 a stage of the pipeline, or an option of it.
     NotBuilt(u8),
 }
 

@@ -1,5 +1,4 @@
 pub mod Again
-pub mod Chains
 pub mod Keys
 pub mod Own
 pub mod Places

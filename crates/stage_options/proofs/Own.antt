@@ -1,5 +1,5 @@
 -- The typed stages of stages that are built have the options of their types.
-use Rattle.std.proofs.Common.{ℕ, zero, suc, ◌≡◌, List, [], ◌∷◌, true≢false, Option, unwrap_or, nat_le, length, refl, ap, sym, subst}
+use Rattle.std.proofs.Common.{ℕ, zero, suc, ◌≡◌, List, [], ◌∷◌, true≢false, Option, unwrap_or, refl, ap, sym, subst}
 use Rattle.std.specs.Bool.{IsTrue}
 use Rattle.std.proofs.lemmas.Bool.{and_parts}
 use Rattle.std.proofs.lemmas.Option.{none-some}
@@ -21,7 +21,6 @@ own_kind k filename ms h = absurd (true≢false (sym h))
 pub have_own : (stages : List Stage) → IsTrue (are_built stages) → HaveOwnOptions (specs_of stages)
 have_own [] built i t e = absurd (none-some t e)
 have_own (s ∷ later) built zero t e =
-    let b = (and_parts (is_stage_built s) (are_built later) built).0 in
-    let one = (and_parts (is_built s.kind s.members) (nat_le (length s.ins) 1) b).0 in
+    let one = (and_parts (is_stage_built s) (are_built later) built).0 in
     subst (λ u. kind_of u.options ≡ u.kind) (ap (λ o. unwrap_or o t) e) (own_kind s.kind s.filename s.members one)
 have_own (s ∷ later) built (suc i) t e = have_own later (and_parts (is_stage_built s) (are_built later) built).1 i t e

@@ -1,4 +1,3 @@
-pub mod Chained
 pub mod Faults
 pub mod Kinds
 pub mod Outputs

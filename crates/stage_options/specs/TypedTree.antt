@@ -1,5 +1,5 @@
 -- The typed stages of a tree, or their first fault.
-use Rattle.std.specs.Prelude.{ℕ, ◌+◌, ◌&&◌, nat_le, Bool, List, [], ◌∷◌, map, length, Option, Some, None, option_map, Result, Ok, Err, ◌≡◌, ⊤}
+use Rattle.std.specs.Prelude.{ℕ, ◌+◌, Bool, List, [], ◌∷◌, map, Option, Some, None, option_map, Result, Ok, Err, ◌≡◌, ⊤}
 use Rattle.std.specs.Option.{unwrap_or}
 use Rattle.std.specs.List.{list_all}
 use Rattle.stage_names.specs.declared.faults.PipeFault.{PipeFault}
@@ -14,9 +14,9 @@ use Rattle.stage_options.specs.Faults.{first_fault, or_else}
 use Rattle.stage_options.specs.Outputs.{same_output}
 use Rattle.stage_options.specs.Typed.{typed_of, is_built}
 
--- whether a stage is built: its type, with its options, and one input at most
+-- whether a stage is built: its type, with its options
 abbrev pub is_stage_built : Stage → Bool
-is_stage_built s = is_built s.kind s.members && nat_le (length s.ins) 1
+is_stage_built s = is_built s.kind s.members
 
 abbrev pub are_built : List Stage → Bool
 are_built stages = list_all is_stage_built stages

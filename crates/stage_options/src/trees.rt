@@ -4,7 +4,6 @@ ghost use Rattle.std.specs.Prelude.{◌≡◌, ◌≤◌, length, option_map, Ok
 ghost use Rattle.pipeline_json.specs.Shown.{stage_view, stages_view};
 ghost use Rattle.pipeline_json.specs.Trees.{IsTree};
 ghost use Rattle.pipeline_json.specs.TreeShown.{tree_view};
-ghost use Rattle.stage_options.specs.Chained.{IsChain};
 ghost use Rattle.stage_options.specs.Faults.{IsFaultOf};
 ghost use Rattle.stage_options.specs.Kinds.{HaveOwnOptions};
 ghost use Rattle.stage_options.specs.Shapes.{shapes};
@@ -20,11 +19,11 @@ use pipeline_json::{RawStage, RawTree, StageList};
 use stage_names::{PipeErr, PipeFault};
 use std::alloc::{AllocError, Global};
 
-/// Whether a stage is built: its type, with its options, and one input at most.
+/// Whether a stage is built: its type, with its options.
 fn is_stage_built(raw: &RawStage) -> bool
     ensures { result ≡ is_stage_built (stage_view raw.now) }
 {
-    is_built(raw.kind, &raw.options) && raw.ins.as_slice().len() <= 1
+    is_built(raw.kind, &raw.options)
 }
 
 /// Whether all of these stages are built.
@@ -39,7 +38,7 @@ fn are_built(list: &[RawStage]) -> bool
     true
 }
 
-/// Whether a tree is built: each stage's type with the options that it has, and no stage takes more than one.
+/// Whether a tree is built: each stage's type with the options that it has.
 pub fn is_tree_built(raw: &RawTree) -> bool
     ensures { result ≡ are_built (tree_view raw.now) }
 {
@@ -96,15 +95,13 @@ fn type_stages(alloc: Global, list: &[RawStage]) -> Result<Vec<StageSpec>, PipeE
 
 /// The tree with its options typed. The first fault is told: of the stages in their order, of each as `type_stage` tells
 /// it, and then `SameOutput` with the least number of a writer whose file an earlier one names. `Memory` comes only where
-/// there was none. Each stage has the options of its type. Each that is built takes one stage at most, so that the stages stand
-/// in a line: a reader, and each other stage takes the one before it.
+/// there was none. Each stage has the options of its type.
 pub fn type_tree(alloc: Global, raw: &RawTree) -> Result<Tree, PipeErr>
     requires { IsTrue (are_built (tree_view raw.now)) }
     ensures ok { IfOk result (λ tree. typed_tree (tree_view raw.now) ≡ Ok (specs_view tree)) }
     ensures fault { IfErr result (IsToldFault (typed_tree (tree_view raw.now))) }
     ensures is_tree { IfOk result (λ tree. IsTree (shapes (specs_view tree))) }
     ensures own { IfOk result (λ tree. HaveOwnOptions (specs_view tree)) }
-    ensures chain { IfOk result (λ tree. IsChain (specs_view tree)) }
 {
     let specs = type_stages(alloc, raw.as_slice())?;
     if let Some(i) = first_same_output(&specs) {

@@ -1,11 +1,9 @@
-use Rattle.std.proofs.Common.{◌∙◌, IsTrue, sym, subst}
+use Rattle.std.proofs.Common.{IsTrue, sym, subst}
 use Rattle.pipeline_json.specs.Shown.{stages_view}
 use Rattle.pipeline_json.specs.Trees.{IsTree}
-use Rattle.stage_options.specs.Chained.{IsChain}
 use Rattle.stage_options.specs.Kinds.{HaveOwnOptions}
 use Rattle.stage_options.specs.Shapes.{shapes}
 use Rattle.stage_options.specs.TypedTree.{are_built}
-use Rattle.stage_options.proofs.Chains.{chained}
 use Rattle.stage_options.proofs.Own.{have_own}
 use Rattle.stage_options.proofs.Shaped.{shaped_tree}
 use Rattle.stage_options.proofs.trees.type_tree.Goals as goal
@@ -16,9 +14,3 @@ new-requires c = record {
   own = subst HaveOwnOptions (sym c.in_ok-specs.ensures.ok)
       (have_own (stages_view c.as_slice.result.now) (subst (λ ss. IsTrue (are_built ss)) (sym c.as_slice.ensures.stages) c.requires));
 }
-
-pub returns-clause-chain : goal.returns-clause-chain
-returns-clause-chain c =
-    let stages = stages_view c.as_slice.result.now in
-    let built = subst (λ ss. IsTrue (are_built ss)) (sym c.as_slice.ensures.stages) c.requires in
-    subst IsChain (sym (c.new.ensures ∙ c.in_ok-specs.ensures.ok)) (chained stages c.as_slice.ensures.is_tree built)

@@ -14,7 +14,7 @@ ghost use Rattle.lasline_top.specs.Answer.{answer, printed};
 ghost use Rattle.run_report.specs.declared.refusal.Refusal.{Refusal};
 ghost use Rattle.run_report.specs.declared.refusal.Fault.{Fault};
 ghost use Rattle.run_report.specs.declared.refusal.Place.{Place};
-ghost use Rattle.worked_rows.specs.Rows.{run_p, run_p_in_pieces, head_of_1, head_of_0, file_a, file_of_format_6, file_of_a_vlr, file_of_many_vlrs, file_of_a_far_evlr, file_compressed, file_of_neighbour, file_far, file_with_x, file_without_points, files, files_with, tagged_head, reader_alone, writer_between, pipeline_alone, two_points, far_point, no_points, first_point, none_pass, only_read, all_and_first};
+ghost use Rattle.worked_examples.specs.Rows.{run_p, run_p_in_pieces, head_of_1, head_of_0, file_a, file_of_format_6, file_of_a_vlr, file_of_many_vlrs, file_of_a_far_evlr, file_compressed, file_of_neighbour, file_far, file_with_x, file_without_points, files, files_with, tagged_head, reader_alone, writer_between, pipeline_alone, two_points, far_point, no_points, first_point, none_pass, only_read, all_and_first, twice, second_absent, two_points_twice};
 
 /// A file of two points becomes 49 bytes of text and a report of three lines, and so it does in longer records of another
 /// format. A point far from 0 keeps each digit, and a file of no points becomes the names of the columns.
@@ -37,6 +37,13 @@ pub fn heads_let_the_first_points_pass()
 pub fn chains_keep_what_their_writers_take()
     ensures reader_alone { answer run_p (files_with reader_alone file_a) ≡ Ok only_read }
     ensures writer_between { answer run_p (files_with writer_between file_a) ≡ Ok all_and_first }
+{}
+
+/// A stage takes its inputs one behind the other: two readers before a writer are one text, also where they name one file. The
+/// first reader whose file can't be read is named.
+pub fn inputs_are_joined()
+    ensures one_file_twice { answer run_p (files_with twice file_a) ≡ Ok two_points_twice }
+    ensures second_absent { answer run_p (files_with second_absent file_a) ≡ Err (Refusal.Device (Place.Stage 1) Op.Open) }
 {}
 
 /// The pieces that a run is cut into change nothing, whatever files there are.
@@ -78,7 +85,6 @@ pub fn pipelines_are_refused()
     ensures a_count_too_large { answer run_p (files_with (codes "[\"in.las\",{\"type\":\"filters.head\",\"count\":4294967296},\"o.txt\"]") file_a) ≡ Err (Refusal.Pipeline (PipeFault.OptionValue 1 (codes "count"))) }
     ensures two_writers_of_a_name { answer run_p (files_with (codes "[\"in.las\",{\"type\":\"writers.text\",\"filename\":\"o.txt\"},\"o.txt\"]") file_a) ≡ Err (Refusal.Pipeline (PipeFault.SameOutput 2)) }
     ensures a_sort { answer run_p (files_with (codes "[\"in.las\",{\"type\":\"filters.sort\",\"dimension\":\"Z\"},\"o.txt\"]") file_a) ≡ Err (Refusal.NotBuilt 4) }
-    ensures two_inputs { answer run_p (files_with (codes "[\"in.las\",\"b.las\",\"o.txt\"]") file_a) ≡ Err (Refusal.NotBuilt 4) }
 {}
 
 /// Words that are no command are refused for the first one that is wrong or missing, whatever files there are, and some

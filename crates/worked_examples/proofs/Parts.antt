@@ -1,5 +1,5 @@
 -- The parts of the examples.
-use Rattle.std.proofs.Common.{◌≡◌, ℕ, List, [], ◌∷◌, take, codes, true, Some, None, Result, Ok, Err, refl, pos, negsuc, ap, ◌∙◌}
+use Rattle.std.proofs.Common.{◌≡◌, ℕ, List, [], ◌∷◌, take, length, codes, true, Option, Some, None, Result, Ok, Err, refl, pos, negsuc, ap, ◌∙◌}
 use Rattle.std.specs.Fmt.{digits}
 use Rattle.std.specs.Str.{is_utf8, chars}
 use Rattle.std.specs.Float.Numeral.{scan_numeral}
@@ -29,20 +29,26 @@ use Rattle.stage_names.specs.declared.faults.PipeFault.TheVariants.{Empty, NotJs
 use Rattle.stage_options.specs.declared.options.Options.TheVariants.{ReadersLas, FiltersHead, WritersText}
 use Rattle.stage_options.specs.declared.stage.StageSpec.{StageSpec}
 use Rattle.pipeline_json.specs.Trees.{tree_of}
-use Rattle.run_engine.specs.Refusals.{and_then}
-use Rattle.run_engine.specs.Runs.{las_read, converted, run_of}
+use Rattle.answer_model.specs.Steps.{and_then}
+use Rattle.stage_options.specs.Roles.{Role, Reads}
+use Rattle.answer_model.specs.Steps.{why}
+use Rattle.answer_model.specs.Values.{role_at, or_later, least_from, evaluated}
+use Rattle.answer_model.specs.Runs.{Run, las_read, las_or, no_las, unless_unread, run_with, run_of, opened_in}
 use Rattle.command_words.specs.Machine.{command_of}
 use Rattle.lasline_top.specs.Words.{Run_file, task_of}
 use Rattle.lasline_top.specs.Answer.{piped, typed, ran, done, answer}
-use Rattle.worked_rows.specs.Rows.{run_p, files, files_with, pipeline_alone, pipeline_text, head_of_1, head_of_0, tagged_head, reader_alone, writer_between, file_a, file_of_format_6, file_of_a_vlr, file_of_many_vlrs, file_of_a_far_evlr, file_compressed, file_of_neighbour, file_far, file_with_x, file_without_points, first_point, none_pass, only_read, all_and_first}
+use Rattle.worked_examples.specs.Rows.{run_p, files, files_with, pipeline_alone, pipeline_text, head_of_1, head_of_0, tagged_head, reader_alone, writer_between, file_a, file_of_format_6, file_of_a_vlr, file_of_many_vlrs, file_of_a_far_evlr, file_compressed, file_of_neighbour, file_far, file_with_x, file_without_points, first_point, none_pass, only_read, all_and_first, twice, second_absent, two_points_twice}
 
 -- the stages of a text, with their options
 abbrev pub planned : List ℕ → Result (List StageSpec) Refusal
 planned text = and_then (piped (tree_of text)) typed
 
--- stages behind the reader of the LAS file
+-- a reader, and stages behind the reader of the LAS file
+abbrev reader_of : List ℕ → StageSpec
+reader_of name = record { kind = kind.ReadersLas; ins = []; options = ReadersLas (record { filename = name }) }
+
 abbrev from_las : List StageSpec → List StageSpec
-from_las later = record { kind = kind.ReadersLas; ins = []; options = ReadersLas (record { filename = codes "in.las" }) } ∷ later
+from_las later = reader_of (codes "in.las") ∷ later
 
 -- a head, and a writer, behind the stage with this number
 abbrev head_after : ℕ → ℕ → StageSpec
@@ -50,6 +56,19 @@ head_after i count = record { kind = kind.FiltersHead; ins = i ∷ []; options =
 
 abbrev writer_after : ℕ → List ℕ → StageSpec
 writer_after i name = record { kind = kind.WritersText; ins = i ∷ []; options = WritersText (record { filename = name }) }
+
+-- ---- what the run of stages comes to whose readers all read this
+
+abbrev unread_by : Result Las LasFault → ℕ → Role → Option Refusal
+unread_by read i (Reads name) = why (las_read i read)
+unread_by read i role = None
+
+abbrev holds_by : Result Las LasFault → ℕ → Role → Las
+holds_by read i (Reads name) = las_or (las_read i read)
+holds_by read i role = no_las
+
+abbrev pub run_by : Result Las LasFault → List StageSpec → Result Run Refusal
+run_by read stages = unless_unread (least_from (λ i. unread_by read i (role_at stages i)) (length stages) 0) (run_with (evaluated stages (λ i. holds_by read i (role_at stages i))))
 
 chain_is : planned pipeline_text ≡ Ok (from_las (writer_after 0 (codes "o.txt") ∷ []))
 unfolding is_utf8 chars encode value punctuate lex content
@@ -127,9 +146,17 @@ pub a_sort : planned (codes "[\"in.las\",{\"type\":\"filters.sort\",\"dimension\
 unfolding is_utf8 chars encode value punctuate lex content
 a_sort = refl
 
-pub two_inputs : planned (codes "[\"in.las\",\"b.las\",\"o.txt\"]") ≡ Err (NotBuilt 4)
+-- two readers and the writer that takes both
+abbrev joining : List ℕ → List StageSpec
+joining name = from_las (reader_of name ∷ record { kind = kind.WritersText; ins = 0 ∷ 1 ∷ []; options = WritersText (record { filename = codes "o.txt" }) } ∷ [])
+
+twice_is : planned twice ≡ Ok (joining (codes "in.las"))
 unfolding is_utf8 chars encode value punctuate lex content
-two_inputs = refl
+twice_is = refl
+
+absent_is : planned second_absent ≡ Ok (joining (codes "b.las"))
+unfolding is_utf8 chars encode value punctuate lex content
+absent_is = refl
 
 pub two_read : las_of file_a ≡ Ok (record { points = record zero_point { x = pos 1000000000; y = pos 2000000000; z = pos 3000000000; return_number = 1; number_of_returns = 1; classification = 2 } ∷ record zero_point { x = negsuc 9999999; y = pos 0; z = pos 50000000; return_number = 1; number_of_returns = 1; classification = 2 } ∷ []; cut = None })
 unfolding header_of format_in record_format scales_of offsets_of header_with scale_of_word decimal_of_word entries_from point_of points_from
@@ -201,38 +228,48 @@ run_is m = ap (λ task. and_then task (done m)) asked
 
 -- the run of a pipeline over a LAS file
 pub run_over : (pipeline las : List ℕ) {later : List StageSpec} {read : Result Las LasFault} → planned pipeline ≡ Ok (from_las later) → las_of las ≡ read
-    → answer run_p (files_with pipeline las) ≡ and_then (las_read read) (converted (from_las later))
-run_over pipeline las {later} plan is = run_is (files_with pipeline las) ∙ ap (λ stages. and_then stages (run_of (files_with pipeline las))) plan
-    ∙ ap (λ r. and_then (las_read r) (converted (from_las later))) is
+    → run_of (files_with pipeline las) (from_las later) ≡ run_by (las_of las) (from_las later) → answer run_p (files_with pipeline las) ≡ run_by read (from_las later)
+run_over pipeline las {later} plan is same = run_is (files_with pipeline las) ∙ ap (λ stages. and_then stages (run_of (files_with pipeline las))) plan
+    ∙ same ∙ ap (λ r. run_by r (from_las later)) is
 
 -- the run of the example's pipeline
-pub run_whole : (las : List ℕ) {read : Result Las LasFault} → las_of las ≡ read → answer run_p (files las) ≡ and_then (las_read read) (converted (from_las (writer_after 0 (codes "o.txt") ∷ [])))
-run_whole las is = run_over _ las chain_is is
+pub run_whole : (las : List ℕ) {read : Result Las LasFault} → las_of las ≡ read → answer run_p (files las) ≡ run_by read (from_las (writer_after 0 (codes "o.txt") ∷ []))
+unfolding evaluated
+run_whole las is = run_over _ las chain_is is refl
 
 -- a pipeline that is refused
 pub refused : (pipeline : List ℕ) {refusal : Refusal} → planned pipeline ≡ Err refusal → answer run_p (files_with pipeline file_a) ≡ Err refusal
 refused pipeline plan = run_is (files_with pipeline file_a) ∙ ap (λ stages. and_then stages (run_of (files_with pipeline file_a))) plan
 
 pub one_passes : answer run_p (files_with head_of_1 file_a) ≡ Ok first_point
-unfolding digits
-one_passes = run_over _ _ one_is two_read
+unfolding digits evaluated
+one_passes = run_over _ _ one_is two_read refl
 
 pub no_point_passes : answer run_p (files_with head_of_0 file_a) ≡ Ok none_pass
-unfolding digits
-no_point_passes = run_over _ _ zero_is two_read
+unfolding digits evaluated
+no_point_passes = run_over _ _ zero_is two_read refl
 
 pub tagged_passes : answer run_p (files_with tagged_head file_a) ≡ Ok first_point
-unfolding digits
-tagged_passes = run_over _ _ tagged_is two_read
+unfolding digits evaluated
+tagged_passes = run_over _ _ tagged_is two_read refl
 
 pub reader_reads : answer run_p (files_with reader_alone file_a) ≡ Ok only_read
-unfolding digits
-reader_reads = run_over _ _ reader_is two_read
+unfolding digits evaluated
+reader_reads = run_over _ _ reader_is two_read refl
 
 pub both_write : answer run_p (files_with writer_between file_a) ≡ Ok all_and_first
-unfolding digits
-both_write = run_over _ _ between_is two_read
+unfolding digits evaluated
+both_write = run_over _ _ between_is two_read refl
 
 -- the pipeline's file is there, and its LAS file isn't
 pub absent_las : answer run_p pipeline_alone ≡ Err (Device (Stage 0) Open)
 absent_las = run_is pipeline_alone ∙ ap (λ stages. and_then stages (run_of pipeline_alone)) chain_is
+
+pub twice_read : answer run_p (files_with twice file_a) ≡ Ok two_points_twice
+unfolding digits evaluated
+twice_read = run_over _ _ twice_is two_read refl
+
+-- the first file can be read, and the second isn't there
+pub second_unread : answer run_p (files_with second_absent file_a) ≡ Err (Device (Stage 1) Open)
+second_unread = run_is (files_with second_absent file_a) ∙ ap (λ stages. and_then stages (run_of (files_with second_absent file_a))) absent_is
+    ∙ ap (λ r. unless_unread (or_later 0 (why (las_read 0 r)) (Some (1, Device (Stage 1) Open))) (run_with (evaluated (joining (codes "b.las")) (opened_in (files_with second_absent file_a) (joining (codes "b.las")))))) two_read

@@ -2,7 +2,7 @@
 use Rattle.std.specs.Prelude.{ℕ, ◌+◌, List, [], ◌∷◌, ◌++◌, replicate, take, drop, length, codes, Some, None, if◌then◌else◌}
 use Rattle.std.specs.Str.{bytes_eq}
 use Rattle.file_devices.specs.Named.{Names}
-use Rattle.run_engine.specs.Runs.{Run}
+use Rattle.answer_model.specs.Runs.{Run}
 
 -- the binary64 word nearest to 0.01
 abbrev pub cent : List ℕ
@@ -122,6 +122,19 @@ abbrev pub two_points : Run
 two_points = record {
   outputs = record { stage = 1; name = codes "o.txt"; bytes = codes "\"X\",\"Y\",\"Z\"\n1.000,2.000,3.000\n-0.010,0.000,0.050\n" } ∷ [];
   report = codes "stage 0 readers.las views 1 points 2\nstage 1 writers.text views 1 points 2 wrote 2\noutputs 1\n";
+}
+
+-- two readers before a writer, of one file, and of a second one that isn't there
+abbrev pub twice : List ℕ
+twice = codes "[\"in.las\",\"in.las\",\"o.txt\"]"
+
+abbrev pub second_absent : List ℕ
+second_absent = codes "[\"in.las\",\"b.las\",\"o.txt\"]"
+
+abbrev pub two_points_twice : Run
+two_points_twice = record {
+  outputs = record { stage = 2; name = codes "o.txt"; bytes = codes "\"X\",\"Y\",\"Z\"\n1.000,2.000,3.000\n-0.010,0.000,0.050\n1.000,2.000,3.000\n-0.010,0.000,0.050\n" } ∷ [];
+  report = codes "stage 0 readers.las views 1 points 2\nstage 1 readers.las views 1 points 2\nstage 2 writers.text views 2 points 4 wrote 4\noutputs 1\n";
 }
 
 abbrev pub far_point : Run

@@ -1,7 +1,7 @@
 use Rattle.std.proofs.Common.{refl, None, ◌∙◌}
-use Rattle.worked_rows.proofs.Parts as parts
-use Rattle.worked_rows.proofs.Parts.{run_is, refused}
-use Rattle.worked_rows.proofs.pipelines_are_refused.Goals as goal
+use Rattle.worked_examples.proofs.Parts as parts
+use Rattle.worked_examples.proofs.Parts.{run_is, refused}
+use Rattle.worked_examples.proofs.pipelines_are_refused.Goals as goal
 
 pub returns : goal.returns
 returns c = record {
@@ -19,5 +19,4 @@ returns c = record {
   a_count_too_large = refused _ parts.a_count_too_large;
   two_writers_of_a_name = refused _ parts.two_writers_of_a_name;
   a_sort = refused _ parts.a_sort;
-  two_inputs = refused _ parts.two_inputs;
 }

@@ -1,5 +1,0 @@
-use Rattle.worked_rows.proofs.Parts.{reader_reads, both_write}
-use Rattle.worked_rows.proofs.chains_keep_what_their_writers_take.Goals as goal
-
-pub returns : goal.returns
-returns c = record { reader_alone = reader_reads; writer_between = both_write }

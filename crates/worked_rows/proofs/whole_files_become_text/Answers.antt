@@ -1,7 +1,0 @@
-use Rattle.std.specs.Fmt.{digits}
-use Rattle.worked_rows.proofs.Parts.{run_whole, two_read, longer_read, far_read, none_read}
-use Rattle.worked_rows.proofs.whole_files_become_text.Goals as goal
-
-pub returns : goal.returns
-unfolding digits
-returns c = record { two_points = run_whole _ two_read; longer_records = run_whole _ longer_read; far_point = run_whole _ far_read; no_points = run_whole _ none_read }
