@@ -90,6 +90,7 @@ reads_kind : (k : KindName) (filename : Option (List ℕ)) (ms : Members) → Is
     → is_reading (role_of (unwrap_or (typed_of k filename ms) (ReadersLas (record { filename = [] })))) ≡ is_reader k
 reads_kind kind.ReadersLas filename ms h = refl
 reads_kind kind.FiltersHead filename ms h = refl
+reads_kind kind.FiltersMerge filename ms h = refl
 reads_kind kind.WritersText filename ms h = refl
 reads_kind k filename ms h = absurd (true≢false (sym h))
 
