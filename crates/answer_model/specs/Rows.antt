@@ -1,10 +1,10 @@
 -- What each type of stage makes of whole flows: one row for each type. What it does with files is its role.
-use Rattle.std.specs.Prelude.{ℕ, List, [], take, Option, Some, None}
+use Rattle.std.specs.Prelude.{ℕ, true, false, if◌then◌else◌, List, [], ◌∷◌, take, Option, Some, None}
 use Rattle.cloud_points.specs.declared.point.Point.{Point}
 use Rattle.cloud_points.specs.declared.faults.PointFault.{PointFault}
-use Rattle.cloud_points.specs.Flows.{Flow, map_views, upto}
+use Rattle.cloud_points.specs.Flows.{Flow, points, map_views, upto}
 use Rattle.stage_options.specs.declared.options.Options.{Options}
-use Rattle.stage_options.specs.declared.options.Options.TheVariants.{ReadersLas, FiltersHead, WritersText}
+use Rattle.stage_options.specs.declared.options.Options.TheVariants.{ReadersLas, FiltersHead, FiltersMerge, WritersText}
 use Rattle.text_writer.specs.TextOutput.{text_output}
 
 -- a type of stage
@@ -24,6 +24,15 @@ reader = record { stop = λ flow. None; made = λ flow. flow; bytes = λ points.
 abbrev pub each_view : (List Point → List Point) → Row
 each_view f = record { stop = λ flow. None; made = map_views f; bytes = λ points. [] }
 
+-- one view of all points, also where there are none; of a cut flow no view, and all points in the open one
+abbrev pub merged : Flow Point → Flow Point
+merged flow = if flow.cut then record { views = []; open_view = points flow; cut = true }
+    else record { views = points flow ∷ []; open_view = []; cut = false }
+
+-- a filter that makes one view of all, and has no fault
+abbrev pub one_view : Row
+one_view = record { stop = λ flow. None; made = merged; bytes = λ points. [] }
+
 -- a writer that writes all points that it takes, and gives them on
 abbrev pub writer : (List Point → List ℕ) → Row
 writer bytes = record { stop = λ flow. None; made = λ flow. flow; bytes = bytes }
@@ -32,6 +41,7 @@ writer bytes = record { stop = λ flow. None; made = λ flow. flow; bytes = byte
 abbrev pub row_of : Options → Row
 row_of (ReadersLas o) = reader
 row_of (FiltersHead o) = each_view (take o.count)
+row_of (FiltersMerge o) = one_view
 row_of (WritersText o) = writer text_output
 
 -- what stands before the point at which a stage stops

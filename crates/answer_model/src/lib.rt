@@ -12,7 +12,7 @@ ghost use Rattle.stage_options.specs.declared.stage.StageSpec.{StageSpec};
 ghost use Rattle.answer_model.specs.Laws.{IsLeastFault};
 ghost use Rattle.answer_model.specs.Values.{Opened, IsDown, options_at, value_of, stage_value, stage_input, stage_fault, least_fault};
 
-pub use examples::{cut_inputs_run_on, inputs_are_joined};
+pub use examples::{cut_inputs_run_on, inputs_are_joined, inputs_are_merged};
 
 /// Where each stage takes earlier ones, as in every tree, the value of a stage is the one that it has on the flow that it
 /// takes.

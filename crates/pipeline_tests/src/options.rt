@@ -11,6 +11,7 @@ fn shown_options(alloc: Global, options: &Options) -> Result<String, AllocError>
     match options {
         Options::ReadersLas(options) => { format!(in alloc; "read {}", options.filename.as_str()) }
         Options::FiltersHead(options) => format!(in alloc; "head {}", options.count),
+        Options::FiltersMerge(_) => String::from_str(alloc, "merge"),
         Options::WritersText(options) => {
             format!(in alloc; "write {}", options.filename.as_str())
         }
@@ -74,6 +75,11 @@ const STAGES: &[(&str, &str)] = &[
     ("", "read a.las"),
     (r#",{"type":"filters.head"}"#, "head 10"),
     (r#",{"type":"filters.head","count":3}"#, "head 3"),
+    (r#",{"type":"filters.merge"}"#, "merge"),
+    (
+        r#",{"type":"filters.merge","where":"X > 1"}"#,
+        "unknown 1 where",
+    ),
     (
         r#",{"type":"writers.text","filename":"a.las"}"#,
         "write a.las",
@@ -226,7 +232,7 @@ fn shown_stage(alloc: Global, tree: &Tree, i: usize) -> Result<String, AllocErro
 #[test]
 fn stages_keep_their_types_and_inputs(rt: HostRuntime) -> Result<(), Fail> {
     let alloc = rt.alloc();
-    let text = r#"["a.las",{"type":"filters.head","count":3},"o.txt"]"#;
+    let text = r#"["a.las",{"type":"filters.head","count":3},{"type":"filters.merge"},"o.txt"]"#;
     let Ok(raw) = read_pipeline(alloc, text.as_bytes()) else {
         assert!(rt; false, "no tree");
         return Ok(());
@@ -242,7 +248,8 @@ fn stages_keep_their_types_and_inputs(rt: HostRuntime) -> Result<(), Fail> {
     let wanted = [
         "readers.las readers.las takes 0 from 0 reads a.las",
         "filters.head filters.head takes 1 from 0 filters ",
-        "writers.text writers.text takes 1 from 1 writes o.txt",
+        "filters.merge filters.merge takes 1 from 1 filters ",
+        "writers.text writers.text takes 1 from 2 writes o.txt",
         "no stage",
     ];
     for (i, words) in wanted.iter().enumerate() {

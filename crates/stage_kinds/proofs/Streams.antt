@@ -1,15 +1,16 @@
 -- What the stages give for a flow.
-use Rattle.std.proofs.Common.{◌≡◌, ℕ, Bool, true, false, List, [], ◌∷◌, ◌++◌, map, take, None, refl, sym, ap, ◌∙◌, append_assoc}
+use Rattle.std.proofs.Common.{◌≡◌, ℕ, Bool, true, false, if◌then◌else◌, List, [], ◌∷◌, ◌++◌, map, take, None, refl, sym, ap, ◌∙◌, append_assoc}
+use Rattle.std.proofs.lemmas.List.{map-append, append-nil}
 use Rattle.cloud_points.specs.declared.point.Point.{Point}
 use Rattle.cloud_points.specs.declared.faults.StageFault.{StageFault}
 use Rattle.cloud_points.specs.Meaning.{Meaning, KeepsCutting}
-use Rattle.cloud_points.specs.Flows.{Flow, map_views}
+use Rattle.cloud_points.specs.Flows.{Flow, all_of, points, map_views}
 use Rattle.cloud_points.specs.Marks.{Mark, At, View_end, End, view_marks, flow_marks}
 use Rattle.network_theory.specs.Machine.{next, output, after_all}
 use Rattle.network_theory.proofs.MachineLaws.{after_all-append, output-append, chunked, after-chunk, output-chunk}
 use Rattle.stage_kinds.specs.declared.kind.StageState.{StageState}
-use Rattle.stage_kinds.specs.declared.kind.StageState.TheVariants.{Heading, Writing}
-use Rattle.stage_kinds.specs.Stages.{head_work, text_work, fresh}
+use Rattle.stage_kinds.specs.declared.kind.StageState.TheVariants.{Heading, Merging, Writing}
+use Rattle.stage_kinds.specs.Stages.{head_work, merge_work, text_work, fresh}
 use Rattle.stage_kinds.specs.Keeps.{head_keeps, text_keeps}
 
 -- a work that does the same to each view, and gives its end on
@@ -75,3 +76,53 @@ text_gives f = stream_gives text_work text_keeps Writing (λ v. v) (λ v. refl) 
 
 pub text_sound : (f : Flow Point) → (after_all text_work (fresh Writing) (flow_marks f)).fault ≡ None
 text_sound f = stream_sound text_work text_keeps Writing (λ v. v) (λ v. refl) (λ v. refl) (λ v. refl) (λ v cut. refl) f
+
+-- ---- a merge
+
+abbrev merge_run : List (Mark Point) → List (Mark Point)
+merge_run ms = output merge_work (fresh Merging) ms
+
+merge_points : (v : List Point) (ms : List (Mark Point)) → merge_run (map At v ++ ms) ≡ map At v ++ merge_run ms
+merge_points [] ms = refl
+merge_points (p ∷ v) ms = ap (λ z. At p ∷ z) (merge_points v ms)
+
+merge_views : (vs : List (List Point)) (ms : List (Mark Point)) → merge_run (view_marks vs ++ ms) ≡ map At (all_of vs) ++ merge_run ms
+merge_views [] ms = refl
+merge_views (v ∷ vs) ms = ap merge_run (append_assoc (map At v) (View_end ∷ view_marks vs) ms) ∙ merge_points v (View_end ∷ (view_marks vs ++ ms))
+    ∙ ap (λ z. map At v ++ z) (merge_views vs ms) ∙ sym (append_assoc (map At v) (map At (all_of vs)) (merge_run ms)) ∙ ap (λ z. z ++ merge_run ms) (sym (map-append At v (all_of vs)))
+
+-- one view of these points; of a cut flow an open one
+abbrev one_view : Bool → List Point → Flow Point
+one_view cut ps = if cut then record { views = []; open_view = ps; cut = true } else record { views = ps ∷ []; open_view = []; cut = false }
+
+merge_ends : (cut : Bool) (ps : List Point) → map At ps ++ merge_run (End cut ∷ []) ≡ flow_marks (one_view cut ps)
+merge_ends true ps = refl
+merge_ends false ps = sym (append_assoc (map At ps) (View_end ∷ []) (End false ∷ [])) ∙ ap (λ z. z ++ End false ∷ []) (sym (append-nil (map At ps ++ View_end ∷ [])))
+
+-- a merge makes one view of all points, and has no fault
+pub merge_gives : (f : Flow Point) → output merge_work (fresh Merging) (flow_marks f) ≡ flow_marks (one_view f.cut (points f))
+merge_gives f = ap merge_run (append_assoc (view_marks f.views) (map At f.open_view) (End f.cut ∷ []))
+    ∙ merge_views f.views (map At f.open_view ++ End f.cut ∷ [])
+    ∙ ap (λ z. map At (all_of f.views) ++ z) (merge_points f.open_view (End f.cut ∷ []))
+    ∙ sym (append_assoc (map At (all_of f.views)) (map At f.open_view) (merge_run (End f.cut ∷ [])))
+    ∙ ap (λ z. z ++ merge_run (End f.cut ∷ [])) (sym (map-append At (all_of f.views) f.open_view))
+    ∙ merge_ends f.cut (points f)
+
+pub merge_whole : (f : Flow Point) → f.cut ≡ false → output merge_work (fresh Merging) (flow_marks f) ≡ flow_marks (record { views = points f ∷ []; open_view = []; cut = false })
+merge_whole f h = merge_gives f ∙ ap (λ cut. flow_marks (one_view cut (points f))) h
+
+pub merge_cut : (f : Flow Point) → f.cut ≡ true → output merge_work (fresh Merging) (flow_marks f) ≡ flow_marks (record { views = []; open_view = points f; cut = true })
+merge_cut f h = merge_gives f ∙ ap (λ cut. flow_marks (one_view cut (points f))) h
+
+after_points_sound : (v : List Point) (ms : List (Mark Point)) → (after_all merge_work (fresh Merging) (map At v ++ ms)).fault ≡ (after_all merge_work (fresh Merging) ms).fault
+after_points_sound [] ms = refl
+after_points_sound (p ∷ v) ms = after_points_sound v ms
+
+after_views_sound : (vs : List (List Point)) (ms : List (Mark Point)) → (after_all merge_work (fresh Merging) (view_marks vs ++ ms)).fault ≡ (after_all merge_work (fresh Merging) ms).fault
+after_views_sound [] ms = refl
+after_views_sound (v ∷ vs) ms = ap (λ ts. (after_all merge_work (fresh Merging) ts).fault) (append_assoc (map At v) (View_end ∷ view_marks vs) ms)
+    ∙ after_points_sound v (View_end ∷ (view_marks vs ++ ms)) ∙ after_views_sound vs ms
+
+pub merge_sound : (f : Flow Point) → (after_all merge_work (fresh Merging) (flow_marks f)).fault ≡ None
+merge_sound f = ap (λ ts. (after_all merge_work (fresh Merging) ts).fault) (append_assoc (view_marks f.views) (map At f.open_view) (End f.cut ∷ []))
+    ∙ after_views_sound f.views (map At f.open_view ++ End f.cut ∷ []) ∙ after_points_sound f.open_view (End f.cut ∷ [])

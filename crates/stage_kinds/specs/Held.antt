@@ -5,13 +5,14 @@ use Rattle.file_devices.specs.declared.devices.Op.TheVariants.{Read, Write}
 use Rattle.stage_kinds.specs.declared.held.Held.{Held}
 use Rattle.stage_kinds.specs.declared.held.Held.TheVariants.{Nothing, Source, Sink}
 use Rattle.stage_kinds.specs.declared.kind.Kind.{Kind}
-use Rattle.stage_kinds.specs.declared.kind.Kind.TheVariants.{Reader, Head, Text}
+use Rattle.stage_kinds.specs.declared.kind.Kind.TheVariants.{Reader, Head, Merge, Text}
 
 module _ {S K : Type 0} where
   -- the device that a stage's work holds: one row for each kind
   abbrev pub held_by : Kind S K → Held S K
   held_by (Reader r) = Source r.source
   held_by (Head h) = Nothing
+  held_by Merge = Nothing
   held_by (Text w) = Sink w.sink
 
   -- what is done with a device while the stages take turns

@@ -15,6 +15,9 @@ pub enum StageState {
     /// A head still lets so many points of this view pass.
     Heading(u32),
 
+    /// A merge remembers nothing.
+    Merging,
+
     /// A writer remembers nothing of its points but what its sink holds.
     Writing,
 }
@@ -26,6 +29,9 @@ pub enum Kind<S, K> {
 
     /// Lets the first points of each view pass.
     Head(Head),
+
+    /// Makes one view of all points: no end of a view goes on, and one comes before an end that isn't cut.
+    Merge,
 
     /// Writes each point as a line of text, and lets it pass.
     Text(TextWriter<K>),
@@ -73,7 +79,7 @@ impl<S: Source, K: Sink> Work for Kind<S, K> {
     fn make(&mut self, chunk: usize, into: &mut Spread) -> Make {
         match self {
             Kind::Reader(reader) => reader.next(chunk, into),
-            Kind::Head(_) | Kind::Text(_) => unreachable!(),
+            Kind::Head(_) | Kind::Merge | Kind::Text(_) => unreachable!(),
         }
     }
 
@@ -84,6 +90,7 @@ impl<S: Source, K: Sink> Work for Kind<S, K> {
                 head.pass(points);
                 None
             }
+            Kind::Merge => None,
             Kind::Text(writer) => match writer.put(points) {
                 Ok(()) => None,
                 Err(_) => {
@@ -97,14 +104,17 @@ impl<S: Source, K: Sink> Work for Kind<S, K> {
     fn on_end_view(&mut self) -> bool {
         match self {
             Kind::Reader(_) => unreachable!(),
-            Kind::Head(head) => head.begin_view(),
-            Kind::Text(_) => {}
+            Kind::Head(head) => {
+                head.begin_view();
+                true
+            }
+            Kind::Merge => false,
+            Kind::Text(_) => true,
         }
-        true
     }
 
-    fn on_end(&mut self, _cut: bool) -> bool {
-        false
+    fn on_end(&mut self, cut: bool) -> bool {
+        matches!(self, Kind::Merge) && !cut
     }
 }
 
@@ -130,7 +140,7 @@ impl<S: Source, K: Sink> Kind<S, K> {
     {
         match self {
             Kind::Text(writer) => writer.finish(),
-            Kind::Reader(_) | Kind::Head(_) => Ok(()),
+            Kind::Reader(_) | Kind::Head(_) | Kind::Merge => Ok(()),
         }
     }
 
@@ -140,7 +150,7 @@ impl<S: Source, K: Sink> Kind<S, K> {
     {
         match self {
             Kind::Reader(reader) => Held::Source(reader.release()),
-            Kind::Head(_) => Held::Nothing,
+            Kind::Head(_) | Kind::Merge => Held::Nothing,
             Kind::Text(writer) => Held::Sink(writer.release()),
         }
     }

@@ -1,17 +1,23 @@
 //! Laws of the stages.
 
-ghost use Rattle.std.specs.Prelude.{◌≡◌, ℕ, None, take};
+ghost use Rattle.std.specs.Prelude.{◌≡◌, ℕ, true, false, [], ◌∷◌, None, take};
 ghost use Rattle.cloud_points.specs.declared.point.Point.{Point};
-ghost use Rattle.cloud_points.specs.Flows.{Flow, map_views};
+ghost use Rattle.cloud_points.specs.Flows.{Flow, points, map_views};
 ghost use Rattle.cloud_points.specs.Marks.{flow_marks};
 ghost use Rattle.network_theory.specs.Machine.{output, after_all};
-ghost use Rattle.stage_kinds.specs.declared.kind.StageState.TheVariants.{Heading, Writing};
-ghost use Rattle.stage_kinds.specs.Stages.{head_work, text_work, fresh};
+ghost use Rattle.stage_kinds.specs.declared.kind.StageState.TheVariants.{Heading, Merging, Writing};
+ghost use Rattle.stage_kinds.specs.Stages.{head_work, merge_work, text_work, fresh};
 
-/// A head gives the first points of each view of a flow, a text writer gives the flow itself, and neither has a fault.
+/// A head gives the first points of each view of a flow. A merge gives one view of all its points, or of a flow that is cut no
+/// view and all points in the open one. A text writer gives the flow itself. None of them has a fault.
 pub fn stages_stream()
     ensures head_gives { (n : ℕ) (f : Flow Point) → output (head_work n) (fresh (Heading n)) (flow_marks f) ≡ flow_marks (map_views (take n) f) }
     ensures head_sound { (n : ℕ) (f : Flow Point) → (after_all (head_work n) (fresh (Heading n)) (flow_marks f)).fault ≡ None }
+    ensures merge_gives { (f : Flow Point) → f.cut ≡ false
+        → output merge_work (fresh Merging) (flow_marks f) ≡ flow_marks (record { views = points f ∷ []; open_view = []; cut = false }) }
+    ensures merge_cut { (f : Flow Point) → f.cut ≡ true
+        → output merge_work (fresh Merging) (flow_marks f) ≡ flow_marks (record { views = []; open_view = points f; cut = true }) }
+    ensures merge_sound { (f : Flow Point) → (after_all merge_work (fresh Merging) (flow_marks f)).fault ≡ None }
     ensures text_gives { (f : Flow Point) → output text_work (fresh Writing) (flow_marks f) ≡ flow_marks f }
     ensures text_sound { (f : Flow Point) → (after_all text_work (fresh Writing) (flow_marks f)).fault ≡ None }
 {}

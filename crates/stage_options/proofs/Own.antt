@@ -15,6 +15,7 @@ use Rattle.stage_options.specs.TypedTree.{is_stage_built, are_built, specs_of}
 own_kind : (k : KindName) (filename : Option (List ℕ)) (ms : Members) → IsTrue (is_built k ms) → kind_of (unwrap_or (typed_of k filename ms) (ReadersLas (record { filename = [] }))) ≡ k
 own_kind kind.ReadersLas filename ms h = refl
 own_kind kind.FiltersHead filename ms h = refl
+own_kind kind.FiltersMerge filename ms h = refl
 own_kind kind.WritersText filename ms h = refl
 own_kind k filename ms h = absurd (true≢false (sym h))
 

@@ -20,7 +20,7 @@ pub record Rule : Type 0 where
   pub is_required : Bool
   pub form : Form
 
--- the options of a type, in the order in which they are looked at; a type that isn't built has none yet
+-- the options of a type, in the order in which they are looked at; a merge has none, and a type that isn't built has none yet
 abbrev pub rules_of : KindName → List Rule
 rules_of ReadersLas =
     (record { name = codes "filename"; is_required = true; form = source }

@@ -7,7 +7,7 @@ use Rattle.serde_json.specs.Find.{get_member}
 use Rattle.stage_names.specs.declared.kinds.KindName.{KindName}
 use Rattle.stage_names.specs.declared.kinds.KindName.TheVariants as kind
 use Rattle.stage_options.specs.declared.options.Options.{Options}
-use Rattle.stage_options.specs.declared.options.Options.TheVariants.{ReadersLas, FiltersHead, WritersText}
+use Rattle.stage_options.specs.declared.options.Options.TheVariants.{ReadersLas, FiltersHead, FiltersMerge, WritersText}
 use Rattle.stage_options.specs.Values.{whole_of}
 use Rattle.stage_options.specs.Rules.{Rule, rules_of}
 
@@ -19,6 +19,7 @@ whole_in name ms = option_and_then whole_of (get_member name ms)
 abbrev pub typed_of : KindName → Option (List ℕ) → Members → Option Options
 typed_of kind.ReadersLas filename ms = Some (ReadersLas (record { filename = unwrap_or filename [] }))
 typed_of kind.FiltersHead filename ms = Some (FiltersHead (record { count = unwrap_or (whole_in (codes "count") ms) 10 }))
+typed_of kind.FiltersMerge filename ms = Some (FiltersMerge (record {}))
 typed_of kind.WritersText filename ms = Some (WritersText (record { filename = unwrap_or filename [] }))
 typed_of _ filename ms = None
 
@@ -32,5 +33,6 @@ has_none_of rs ms = list_all (λ r. bytes_eq r.name (codes "filename") || is_non
 abbrev pub is_built : KindName → Members → Bool
 is_built kind.ReadersLas ms = true
 is_built kind.FiltersHead ms = is_none (get_member (codes "where") ms)
+is_built kind.FiltersMerge ms = true
 is_built kind.WritersText ms = has_none_of (rules_of kind.WritersText) ms
 is_built _ ms = false

@@ -27,7 +27,7 @@ pub fn is_built(kind: KindName, options: &Map<String, Value>) -> bool
     ensures { result ≡ is_built kind (members_view options.now.entries) }
 {
     match kind {
-        KindName::ReadersLas => true,
+        KindName::ReadersLas | KindName::FiltersMerge => true,
         KindName::FiltersHead => member(options, "where").is_none(),
         KindName::WritersText => has_none_of(rules(kind), options),
         _ => false,

@@ -18,7 +18,7 @@ mod walks;
 pub use built::is_built;
 pub use laws::roles_follow_types;
 pub use names::{SourceName, TargetName};
-pub use options::{HeadOptions, LasReaderOptions, Options, TextOptions};
+pub use options::{HeadOptions, LasReaderOptions, MergeOptions, Options, TextOptions};
 pub use outputs::first_same_output;
 pub use role::Role;
 pub use stage::StageSpec;

@@ -18,6 +18,9 @@ pub enum Options {
     /// Of `filters.head`.
     FiltersHead(HeadOptions),
 
+    /// Of `filters.merge`.
+    FiltersMerge(MergeOptions),
+
     /// Of `writers.text`.
     WritersText(TextOptions),
 }
@@ -36,6 +39,10 @@ pub struct HeadOptions {
     pub count: u32,
 }
 
+/// The options of `filters.merge`: it has none.
+#[derive(Drop)]
+pub struct MergeOptions {}
+
 /// The options of `writers.text`.
 #[derive(Drop)]
 pub struct TextOptions {
@@ -51,6 +58,7 @@ impl Options {
         match self {
             Options::ReadersLas(_) => KindName::ReadersLas,
             Options::FiltersHead(_) => KindName::FiltersHead,
+            Options::FiltersMerge(_) => KindName::FiltersMerge,
             Options::WritersText(_) => KindName::WritersText,
         }
     }
@@ -61,7 +69,7 @@ impl Options {
     {
         match self {
             Options::ReadersLas(options) => Role::Reads(options.filename.as_str()),
-            Options::FiltersHead(_) => Role::Filters,
+            Options::FiltersHead(_) | Options::FiltersMerge(_) => Role::Filters,
             Options::WritersText(options) => Role::Writes(options.filename.as_str()),
         }
     }

@@ -101,7 +101,7 @@ const WRITERS_TEXT: &[Rule] = &[
     },
 ];
 
-/// The options of a type, in the order in which they are looked at. Types that aren't built have none yet.
+/// The options of a type, in the order in which they are looked at. A merge has none, and types that aren't built have none yet.
 pub(crate) fn rules(kind: KindName) -> &'static [Rule]
     ensures { rules_view result.now ≡ rules_of kind }
 {

@@ -80,6 +80,13 @@ const FAULTS: &[(KindName, Option<&str>, &str, &str)] = &[
         r#"{"count":-1,"zz":1,"Z":2,"z":3}"#,
         "unknown 1 Z",
     ),
+    (KindName::FiltersMerge, None, "{}", "none"),
+    (
+        KindName::FiltersMerge,
+        Some("a"),
+        r#"{"where":"X > 1"}"#,
+        "unknown 1 filename",
+    ),
     (
         KindName::WritersText,
         None,

@@ -9,7 +9,7 @@ ghost use Rattle.stage_options.specs.Faults.{first_fault, IsFaultOf};
 ghost use Rattle.stage_options.specs.Values.{is_source, is_target};
 
 use crate::names::{SourceName, TargetName};
-use crate::options::{HeadOptions, LasReaderOptions, Options, TextOptions};
+use crate::options::{HeadOptions, LasReaderOptions, MergeOptions, Options, TextOptions};
 use crate::rules::rules;
 use crate::values::json_whole;
 use crate::walks::{name_of, refuse};
@@ -74,6 +74,7 @@ pub(crate) fn type_options(
     match kind {
         KindName::ReadersLas => Ok(readers_las(alloc, filename)?),
         KindName::FiltersHead => Ok(filters_head(options)),
+        KindName::FiltersMerge => Ok(Options::FiltersMerge(MergeOptions {})),
         KindName::WritersText => Ok(writers_text(alloc, filename)?),
         _ => unreachable!(),
     }

@@ -1,5 +1,5 @@
 -- The works of a tree's stages.
-use Rattle.std.specs.Prelude.{◌≡◌, ℕ, true, false, List, [], length, map, slice_get, Option, Some, None}
+use Rattle.std.specs.Prelude.{◌≡◌, ℕ, ⊤, true, false, List, [], length, map, slice_get, Option, Some, None}
 use Rattle.file_devices.specs.declared.devices.Op.{Op}
 use Rattle.file_devices.specs.declared.devices.Op.TheVariants.{Read, Write}
 use Rattle.file_devices.specs.declared.devices.Source as source
@@ -10,14 +10,14 @@ use Rattle.las_reader.specs.declared.reader.LasReader.{LasReader}
 use Rattle.las_reader.specs.declared.reader.Progress.TheVariants.{Records}
 use Rattle.text_writer.specs.TextOutput.{holds_text}
 use Rattle.stage_kinds.specs.declared.kind.Kind.{Kind}
-use Rattle.stage_kinds.specs.declared.kind.Kind.TheVariants.{Reader, Head, Text}
+use Rattle.stage_kinds.specs.declared.kind.Kind.TheVariants.{Reader, Head, Merge, Text}
 use Rattle.stage_kinds.specs.declared.kind.StageState.{StageState}
 use Rattle.stage_kinds.specs.Held.{op_of, faults_of}
 use Rattle.stage_kinds.specs.Stages.{state_of, meaning_of, is_reader, holds_of}
 use Rattle.stage_kinds.specs.Reads.{tells_of, told_of, told_fault_of, points_left_of, views_left_of}
 use Rattle.stage_options.specs.Roles.{Role, Reads, Filters, Writes}
 use Rattle.stage_options.specs.declared.options.Options.{Options}
-use Rattle.stage_options.specs.declared.options.Options.TheVariants.{ReadersLas, FiltersHead, WritersText}
+use Rattle.stage_options.specs.declared.options.Options.TheVariants.{ReadersLas, FiltersHead, FiltersMerge, WritersText}
 use Rattle.stage_options.specs.declared.stage.StageSpec.{StageSpec}
 use Rattle.network_theory.specs.Opening.{IsFresh}
 use Rattle.network_core.specs.declared.node.Node.{Node}
@@ -45,6 +45,7 @@ as_works source sink = record {
 abbrev pub IsAtStart : {S K : Type 0} → (K → Option (List ℕ)) → Options → Kind S K → Type 0
 IsAtStart bytes (ReadersLas o) (Reader r) = r.progress ≡ Records 0
 IsAtStart bytes (FiltersHead o) (Head h) = h ≡ record { limit = o.count; left = o.count }
+IsAtStart bytes (FiltersMerge o) Merge = ⊤
 IsAtStart bytes (WritersText o) (Text w) = holds_text (bytes w.sink) [] ≡ true
 IsAtStart bytes _ _ = ⊥
 

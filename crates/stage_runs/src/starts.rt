@@ -19,6 +19,7 @@ pub fn filter_work<S: Source, K: Sink>(options: &Options) -> Kind<S, K>
 {
     match options {
         Options::FiltersHead(options) => Kind::Head(Head::new(options.count)),
+        Options::FiltersMerge(_) => Kind::Merge,
         Options::ReadersLas(_) | Options::WritersText(_) => unreachable!(),
     }
 }
@@ -37,6 +38,6 @@ pub fn writer_work<S: Source, K: Sink>(options: &Options, sink: K) -> Result<Kin
             Ok(writer) => Ok(Kind::Text(writer)),
             Err((sink, _)) => Err(sink),
         },
-        Options::ReadersLas(_) | Options::FiltersHead(_) => Err(sink),
+        Options::ReadersLas(_) | Options::FiltersHead(_) | Options::FiltersMerge(_) => Err(sink),
     }
 }

@@ -58,7 +58,7 @@ fn hand<W: Work>(stage: &mut W, count: usize) -> (Option<StageFault>, usize)
 fn drop_stage(stage: Stage) {
     match stage {
         Kind::Reader(reader) => drop(reader.release()),
-        Kind::Head(_) => {}
+        Kind::Head(_) | Kind::Merge => {}
         Kind::Text(writer) => drop(writer.release()),
     }
 }
@@ -83,6 +83,24 @@ fn a_head_counts_over_chunks_and_begins_anew_with_a_view(rt: HostRuntime) {
         headed(),
         ([(None, 3), (None, 2), (None, 0), (None, 5)], true, false)
     );
+}
+
+/// What passes a merge of three points in a view and of two behind it; and whether the end of the view passes, one before an
+/// end that is cut, and one before an end that isn't.
+fn merged() -> ([(Option<StageFault>, usize); 2], bool, bool, bool) {
+    let mut stage: Stage = Kind::Merge;
+    let first = hand(&mut stage, 3);
+    let view = stage.on_end_view();
+    let second = hand(&mut stage, 2);
+    let cut = stage.on_end(true);
+    let whole = stage.on_end(false);
+    drop_stage(stage);
+    ([first, second], view, cut, whole)
+}
+
+#[test]
+fn a_merge_ends_its_view_with_an_end_that_is_not_cut(rt: HostRuntime) {
+    assert_eq!(rt; merged(), ([(None, 3), (None, 2)], false, false, true));
 }
 
 /// Whether the reader of so many first bytes of a file of two points is a leaf, and what it makes up to its end.

@@ -5,6 +5,9 @@ pub returns : goal.returns
 returns c = record {
   head_gives = streams.head_gives;
   head_sound = streams.head_sound;
+  merge_gives = streams.merge_whole;
+  merge_cut = streams.merge_cut;
+  merge_sound = streams.merge_sound;
   text_gives = streams.text_gives;
   text_sound = streams.text_sound;
 }
