@@ -55,10 +55,12 @@ def text(points):
     return "".join(line + "\n" for line in lines)
 
 
-def report(*stages):
-    """A report of stages, each with its type, the points that it gave on, and for a writer the points that it wrote."""
+def report(*stages, last_views=1):
+    """A report of stages, each with its type, the points that it gave on, and for a writer the points that it wrote. The last
+    one gave on so many views, each other one a single one."""
     lines = [
-        f"stage {number} {kind} views 1 points {count}" + (f" wrote {wrote[0]}" if wrote else "")
+        f"stage {number} {kind} views {last_views if number == len(stages) - 1 else 1} points {count}"
+        + (f" wrote {wrote[0]}" if wrote else "")
         for number, (kind, count, *wrote) in enumerate(stages)
     ]
     return "".join(line + "\n" for line in lines + [f"outputs {sum(len(stage) == 3 for stage in stages)}"])
@@ -116,6 +118,12 @@ def main():
             report((reader, every), (writer, every, every), (head, some), (writer, some, some)),
             "",
             {"all.txt": text(hill_points), "first.txt": text(hill_points[:some])},
+        ),
+        "joined": (
+            0,
+            report((reader, every), (reader, 5), (writer, every + 5, every + 5), last_views=2),
+            "",
+            {"all.txt": text(hill_points + coast_points)},
         ),
         "whole": (0, report((reader, every)), "", {}),
         "named": (0, report((reader, 5), (writer, 5, 5)), "", {"coast.asc": text(coast_points)}),

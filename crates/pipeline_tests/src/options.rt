@@ -149,7 +149,7 @@ const STAGES: &[(&str, &str)] = &[
         "not built",
     ),
     (r#",{"type":"writers.las","filename":"o"}"#, "not built"),
-    (r#","b.las","o.txt""#, "not built"),
+    (r#","b.las","o.txt""#, "write o.txt"),
 ];
 
 /// Counts of a head, and its options or its fault.
