@@ -10,15 +10,13 @@ ghost use Rattle.run_engine.specs.Cause.{Because, IsSettled};
 ghost use Rattle.lasline_top.specs.Cause.{AtText, Risen, IsInside};
 
 use file_devices::{DeviceErr, Files, Op, WholeErr, read_whole};
+use pipeline_json::MOST_BYTES;
 use run_report::{Place, Refusal};
 use stage_names::PipeFault;
 use std::alloc::Global;
 
-/// The most bytes of a pipeline's text.
-const LIMIT: usize = 1_048_576;
-
-/// The text in a pipeline's file. One of more than 1,048,576 bytes is a fault of the pipeline, and isn't read to its end. The file is given
-/// back.
+/// The text in a pipeline's file. One of more than `MOST_BYTES` is a fault of the pipeline, and isn't read to its end. The file is
+/// given back.
 pub(crate) fn read_text<F: Files>(
     alloc: Global,
     files: &mut F,
@@ -37,7 +35,7 @@ pub(crate) fn read_text<F: Files>(
         Err(DeviceErr::Memory) => return Err(Refusal::Memory),
         Err(_) => return Err(Refusal::Device(Place::PipelineFile, Op::Open)),
     };
-    let read = read_whole(alloc, &mut source, LIMIT);
+    let read = read_whole(alloc, &mut source, MOST_BYTES);
     files.done_in(source);
     match read {
         Ok(Some(text)) => Ok(text),
