@@ -38,6 +38,8 @@ pub fn writer_work<S: Source, K: Sink>(options: &Options, sink: K) -> Result<Kin
             Ok(writer) => Ok(Kind::Text(writer)),
             Err((sink, _)) => Err(sink),
         },
-        Options::ReadersLas(_) | Options::FiltersHead(_) | Options::FiltersMerge(_) => Err(sink),
+        Options::ReadersLas(_) | Options::FiltersHead(_) | Options::FiltersMerge(_) => {
+            unreachable!()
+        }
     }
 }
