@@ -1,7 +1,8 @@
 pub mod Again
 pub mod Keys
 pub mod Own
-pub mod Places
+pub mod Elements
+pub mod Scales
 pub mod Shaped
 pub mod Steps
 pub mod Texts

@@ -1,3 +1,4 @@
+pub mod Bounded
 pub mod Faults
 pub mod Kinds
 pub mod Outputs

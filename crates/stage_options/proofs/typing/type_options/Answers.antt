@@ -8,7 +8,3 @@ returns-in_ok-readers_las-in-ReadersLas-clause-ok c = rw c.in-ReadersLas.is (c.i
 
 pub returns-in-FiltersHead-clause-ok : goal.returns-in-FiltersHead-clause-ok
 returns-in-FiltersHead-clause-ok c = rw c.in-FiltersHead.is (c.filters_head.ensures (option_map (λ s. s.now) c.args.filename))
-
-pub returns-in_ok-writers_text-in-WritersText-clause-ok :
-    goal.returns-in_ok-writers_text-in-WritersText-clause-ok
-returns-in_ok-writers_text-in-WritersText-clause-ok c = rw c.in-WritersText.is (c.in_ok-writers_text-in-WritersText.ensures (members_view c.args.options.now.entries))
