@@ -22,7 +22,7 @@ column_with name places = if is_name name then Some (record { name = name; place
 abbrev pub column_of : List ℕ → Option NamedColumn
 column_of part =
     if has_colon part
-    then option_and_then (digit_of (trimmed (after_first is_colon part))) (λ d. column_with (trimmed (before_first is_colon part)) (Some d))
+    then option_and_then (λ d. column_with (trimmed (before_first is_colon part)) (Some d)) (digit_of (trimmed (after_first is_colon part)))
     else column_with (trimmed part) None
 
 -- 64 columns at most

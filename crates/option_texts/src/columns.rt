@@ -1,6 +1,6 @@
 //! The columns of a text file.
 
-ghost use Rattle.std.specs.Prelude.{◌≡◌, ◌≤◌, ◌++◌, ◌∷◌, [], List, Some, None, MatchOption, IfOk, is_some, length, nat_le};
+ghost use Rattle.std.specs.Prelude.{◌≡◌, ◌≤◌, ◌++◌, ◌∷◌, [], List, Some, None, false, true, MatchOption, IfOk, is_some, length, nat_le};
 ghost use Rattle.std.specs.List.{list_all};
 ghost use Rattle.option_texts.specs.Columns.{digit_of, column_with, column_of, columns_of};
 ghost use Rattle.option_texts.specs.Parts.{parts_of};

@@ -1,6 +1,6 @@
 //! Header fields that are taken over.
 
-ghost use Rattle.std.specs.Prelude.{◌≡◌, ◌++◌, ◌∷◌, [], ℕ, List, IfOk, is_some, bytes_eq};
+ghost use Rattle.std.specs.Prelude.{◌≡◌, ◌++◌, ◌∷◌, [], ℕ, List, false, true, MatchOption, IfOk, is_some, bytes_eq};
 ghost use Rattle.option_texts.specs.Forward.{is_field, field_of, forward_of};
 
 use crate::parts::trimmed;
@@ -59,16 +59,33 @@ pub fn is_forward(text: &str) -> bool
     text.split(',').all(|part| is_field(trimmed(part)))
 }
 
+/// Adds the field that a part names, or answers that it names none.
+fn add_field(alloc: Global, part: &str, names: &mut Vec<Name>) -> Result<bool, AllocError>
+    ensures { IfOk result (λ is_field. MatchOption (field_of part.now) (is_field ≡ false)
+        (λ n. (is_field ≡ true) × (names.new.items ≡ names.old.items ++ n ∷ []))) }
+{
+    let name = trimmed(part);
+    if !is_field(name) {
+        return Ok(false);
+    }
+    names.push(Name::new(String::from_str(alloc, name)?))?;
+    Ok(true)
+}
+
 /// The names that a text lists, without the spaces around them, or `None` where it doesn't list any, as `is_forward` says.
 pub fn forward_of(alloc: Global, text: &str) -> Result<Option<NameList>, AllocError>
     ensures { IfOk result (λ names. names ≡ forward_of text.now) }
 {
-    if !is_forward(text) {
-        return Ok(None);
-    }
     let mut names = Vec::new(alloc);
-    for part in text.split(',') {
-        names.push(Name::new(String::from_str(alloc, trimmed(part))?))?;
+    let mut rest = text;
+    while let Some((part, behind)) = rest.split_once(',') {
+        if !add_field(alloc, part, &mut names)? {
+            return Ok(None);
+        }
+        rest = behind;
+    }
+    if !add_field(alloc, rest, &mut names)? {
+        return Ok(None);
     }
     Ok(Some(NameList { items: names }))
 }
