@@ -36,7 +36,8 @@ byte_is at x bytes rest e =
     let alone : number_at 0 1 (x ∷ rest) ≡ x = omega arith in
     number_from 1 at bytes ∙ ap (number_at 0 1) e ∙ alone
 
-two_first : (x : ℕ) (rest : List ℕ) → x < 2 ^ 16 → number_at 0 2 (to_le_bytes w16 x ++ rest) ≡ x
+-- the number that two bytes stand for, or four, or eight
+pub two_first : (x : ℕ) (rest : List ℕ) → x < 2 ^ 16 → number_at 0 2 (to_le_bytes w16 x ++ rest) ≡ x
 two_first x rest h =
     let is : number_at 0 2 (to_le_bytes w16 x ++ rest) ≡ from_le_bytes w16 (to_le_bytes w16 x) = search rules in
     is ∙ from_le_bytes-to_le_bytes_2 x h
@@ -46,7 +47,7 @@ four_first x rest h =
     let is : number_at 0 4 (to_le_bytes w32 x ++ rest) ≡ from_le_bytes w32 (to_le_bytes w32 x) = search rules in
     is ∙ from_le_bytes-to_le_bytes_4 x h
 
-eight_first : (x : ℕ) (rest : List ℕ) → x < 2 ^ 64 → number_at 0 8 (to_le_bytes w64 x ++ rest) ≡ x
+pub eight_first : (x : ℕ) (rest : List ℕ) → x < 2 ^ 64 → number_at 0 8 (to_le_bytes w64 x ++ rest) ≡ x
 eight_first x rest h =
     let is : number_at 0 8 (to_le_bytes w64 x ++ rest) ≡ from_le_bytes w64 (to_le_bytes w64 x) = search rules in
     is ∙ from_le_bytes-to_le_bytes_8 x h

@@ -7,7 +7,7 @@ use Rattle.byte_numbers.specs.Bytes.{number_at}
 use Rattle.byte_numbers.proofs.Pieces.{byte_is, higher, over_one}
 
 -- behind `at` bytes
-number_past : (n k at : ℕ) (xs ys : List ℕ) → length xs ≡ at → number_at (at + k) n (xs ++ ys) ≡ number_at k n ys
+pub number_past : (n k at : ℕ) (xs ys : List ℕ) → length xs ≡ at → number_at (at + k) n (xs ++ ys) ≡ number_at k n ys
 number_past zero k at xs ys is = refl
 number_past (suc n) k at xs ys is =
     let next : at + k + 1 ≡ at + (k + 1) = omega arith in

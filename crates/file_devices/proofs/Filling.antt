@@ -1,7 +1,7 @@
 -- The loop that fills a slice.
-use Rattle.std.proofs.Common.{◌≡◌, min, ℕ, ◌+◌, ◌-◌, ◌<◌, ◌≤◌, max, List, [], ◌++◌, length, take, drop, Option, Some, sym, ap, ◌∙◌, arith, drop-drop, append-nil, length-drop}
+use Rattle.std.proofs.Common.{◌≡◌, min, ℕ, ◌+◌, ◌-◌, ◌<◌, ◌≤◌, max, List, [], ◌++◌, length, take, drop, Option, Some, sym, ap, ◌∙◌, arith, drop-drop, append-nil, length-append, length-drop}
 use Rattle.std.proofs.lemmas.List.{length-take-le, length-take, drop_all, take_all, take_min}
-use Rattle.std.proofs.Math.Seq.{drop-append-add, take-append-add, take-add, take-length}
+use Rattle.std.proofs.Math.Seq.{drop-append-add, take-append-add, take-append_seam, take-add}
 use Rattle.file_devices.specs.Content.{ReadsAt}
 use Rattle.file_devices.specs.Filled.{Fills}
 use borrow.Rule.Slice.PartMut.{put_mid}
@@ -79,14 +79,56 @@ filled_to_end before bytes bytes_after f0 f1 f2 r0 r1 r2 at d n old xs ys len sa
       all = λ b e. let past : length b ≤ at + d = (read.end b (was.same ∙ e) room).0 none in omega (arith, was.within, amount b xs at d inside (was.given b e));
     }
 
--- fewer bytes than there is room for are all
-pub all_is : (bytes : Option (List ℕ)) (b old new : List ℕ) (n limit : ℕ) → length old ≡ limit + 1 → n ≤ limit → bytes ≡ Some b → Fills bytes 0 n old new → (length b ≤ limit) × (take n new ≡ b)
-all_is bytes b old new n limit room within e fills =
-    let is : n ≡ length b = omega (arith, fills.all b e) in
-    (omega arith, fills.given b e ∙ ap (λ k. take k b) is ∙ take-length b)
-
 -- what was filled in front is the front of what is left, as far as the slice goes
 pub front_is : (bytes : Option (List ℕ)) (b old new : List ℕ) (at n k : ℕ) → length old ≡ k → Fills bytes at n old new → bytes ≡ Some b → take n new ≡ take k (drop at b)
 front_is bytes b old new at n k room fills e =
     let is : n ≡ min k (length (drop at b)) = omega (arith, fills.all b e, length-drop at b) in
     fills.given b e ∙ ap (λ j. take j (drop at b)) is ∙ take_min k (drop at b)
+
+-- a list whose end was filled, without what wasn't filled
+pub cut_off : (xs ys old rest : List ℕ) (start n room : ℕ) → take start xs ≡ old → start ≤ length xs → length ys ≡ length xs - start → room ≡ length xs
+    → take (start + n) (take room (put_mid start (length xs - start) xs ys ++ rest)) ≡ old ++ take n ys
+cut_off xs ys old rest start n room front inside full all =
+    let filled = take start xs ++ ys in
+    let size : length (take start xs) ≡ start = length-take-le start xs inside in
+    let whole : room ≡ length filled = omega (arith, length-append (take start xs) ys) in
+    rw (part_to_end xs ys start) (
+    ap (λ k. take (start + n) (take k (filled ++ rest))) whole ∙ ap (take (start + n)) (take-append_seam filled rest)
+    ∙ ap (λ k. take (k + n) filled) (sym size) ∙ take-append-add (take start xs) ys n ∙ ap (λ l. l ++ take n ys) front)
+
+-- the first bytes are there, so many as there is room for
+pub record Beginning (before bytes : Option (List ℕ)) (faults_before faults reached_before reached limit : ℕ) (items : List ℕ) : Type 0 where
+  pub same : bytes ≡ before
+  pub later : faults_before ≤ faults
+  pub got : reached ≤ max reached_before (limit + 1)
+  pub within : length items ≤ limit + 1
+  pub given : (b : List ℕ) → before ≡ Some b → items ≡ take (length items) b
+
+pub beginning_more : (before bytes bytes_after : Option (List ℕ)) (f0 f1 f2 r0 r1 r2 limit most : ℕ) (items after : List ℕ)
+    → Beginning before bytes f0 f1 r0 r1 limit items → length items + most ≤ limit + 1 → length items + most ≤ length after
+    → bytes_after ≡ bytes → f1 ≤ f2 → r2 ≤ max r1 (length items + most) → length after ≤ length items + most
+    → ((b : List ℕ) → bytes ≡ Some b → after ≡ items ++ take most (drop (length items) b))
+    → Beginning before bytes_after f0 f2 r0 r2 limit after
+beginning_more before bytes bytes_after f0 f1 f2 r0 r1 r2 limit most items after was room full same later got size read = record {
+  same = same ∙ was.same;
+  later = omega (arith, was.later);
+  got = omega (arith, was.got);
+  within = omega arith;
+  given = λ b e.
+      let len : length after ≡ length items + most = omega arith in
+      read b (was.same ∙ e) ∙ ap (λ l. l ++ take most (drop (length items) b)) (was.given b e)
+      ∙ sym (take-add (length items) most b) ∙ ap (λ n. take n b) (sym len);
+}
+
+-- fewer bytes than were asked for are the last ones
+pub ends_at : (before bytes : Option (List ℕ)) (f0 f1 r0 r1 limit most : ℕ) (items after b : List ℕ)
+    → Beginning before bytes f0 f1 r0 r1 limit items → before ≡ Some b → length items ≤ limit → length items + most ≤ limit + 1 → length after < length items + most
+    → after ≡ items ++ take most (drop (length items) b) → (length b ≤ limit) × (after ≡ b)
+ends_at before bytes f0 f1 r0 r1 limit most items after b was e low room few read =
+    let all : after ≡ take (length items + most) b = read ∙ ap (λ l. l ++ take most (drop (length items) b)) (was.given b e) ∙ sym (take-add (length items) most b) in
+    let size : length b < length items + most = omega (arith, ap length all, length-take (length items + most) b) in
+    (omega arith, all ∙ take_all (length items + most) b (omega arith))
+
+-- bytes past the limit
+pub passes : (before bytes : Option (List ℕ)) (f0 f1 r0 r1 limit : ℕ) (items b : List ℕ) → Beginning before bytes f0 f1 r0 r1 limit items → before ≡ Some b → limit < length items → limit < length b
+passes before bytes f0 f1 r0 r1 limit items b was e past = omega (arith, ap length (was.given b e), length-take (length items) b)

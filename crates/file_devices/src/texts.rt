@@ -1,7 +1,9 @@
 //! Small types over a text and over bytes, which contracts see as the list of their bytes.
-ghost use Rattle.std.specs.Prelude.{◌≡◌, ℕ, List};
+ghost use Rattle.std.specs.Prelude.{◌≡◌, ℕ, List, IfOk};
+ghost use Rattle.std.specs.Str.{bytes_eq};
 ghost use Rattle.std.specs.String.{string_bytes};
 
+use std::alloc::{AllocError, Global};
 use std::marker::Model;
 
 /// A name: a text that contracts see as the list of its bytes.
@@ -29,6 +31,21 @@ impl Name {
         ensures { result.now ≡ self.now }
     {
         self.text.as_str()
+    }
+
+    /// Whether it is this name, byte for byte.
+    pub fn is_same(&self, other: &Self) -> bool
+        ensures { result ≡ bytes_eq self.now other.now }
+    {
+        self.text == other.text
+    }
+
+    /// The same name once more, in memory of its own.
+    pub fn try_copy(&self, alloc: Global) -> Result<Self, AllocError>
+        ensures { IfOk result (λ copy. copy ≡ self.now) }
+    {
+        let text = String::from_str(alloc, self.as_str())?;
+        Ok(Name { text })
     }
 
     /// Gives the text back. It takes no memory.
@@ -64,6 +81,21 @@ impl Bytes {
         ensures { result.now ≡ self.now }
     {
         self.items.as_slice()
+    }
+
+    /// Whether they are these bytes.
+    pub fn is_same(&self, other: &Self) -> bool
+        ensures { result ≡ bytes_eq self.now other.now }
+    {
+        self.as_slice() == other.as_slice()
+    }
+
+    /// The same bytes once more, in memory of their own.
+    pub fn try_copy(&self, alloc: Global) -> Result<Self, AllocError>
+        ensures { IfOk result (λ copy. copy ≡ self.now) }
+    {
+        let items = Vec::from_slice(alloc, self.as_slice())?;
+        Ok(Bytes { items })
     }
 
     /// Gives the bytes back. It takes no memory.

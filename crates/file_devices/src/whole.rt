@@ -1,5 +1,5 @@
 //! Reading a source to its end, up to a limit.
-ghost use Rattle.std.specs.Prelude.{◌≡◌, ◌+◌, ◌≤◌, ◌<◌, ◌^◌, List, ℕ, length, max, Some, IfOk, IfErr, vec_len, MatchOption, Err};
+ghost use Rattle.std.specs.Prelude.{◌≡◌, ◌+◌, ◌++◌, ◌≤◌, ◌<◌, ◌^◌, List, ℕ, length, take, drop, max, Some, IfOk, OnOk, vec_len, Err};
 ghost use Rattle.file_devices.specs.Counts.{Rose};
 ghost use Rattle.file_devices.specs.Whole.{IsWhole};
 ghost use Rattle.file_devices.specs.declared.whole.WholeErr.TheVariants.{Memory, Failed as ReadFailed};
@@ -24,15 +24,34 @@ impl From<AllocError> for WholeErr {
     }
 }
 
-fn zeros(alloc: Global, count: usize) -> Result<Vec<u8>, AllocError>
-    ensures { IfOk result (λ v. vec_len v ≡ count) }
+/// The bytes that are asked for at first.
+const FIRST_PIECE: usize = 4096;
+
+/// Reads at most `most` bytes from the place behind those of a list, and puts them there. Fewer mean that the source has
+/// no more.
+fn read_more<S: Source>(source: &mut S, bytes: &mut Vec<u8>, most: usize) -> Result<(), WholeErr>
+    requires { vec_len bytes.old + most < 2 ^ 64 }
+    ensures items { OnOk result ((b : List ℕ) → S.bytes source.old ≡ Some b
+        → bytes.new.items ≡ bytes.old.items ++ take most (drop (length bytes.old.items) b)) }
+    ensures within { OnOk result (vec_len bytes.new ≤ vec_len bytes.old + most) }
+    ensures failed { result ≡ Err ReadFailed → Rose (S.faults source.old) (S.faults source.new) }
+    ensures later { S.faults source.old ≤ S.faults source.new }
+    ensures same { S.bytes source.new ≡ S.bytes source.old }
+    ensures reached { S.reached source.new ≤ max (S.reached source.old) (vec_len bytes.old + most) }
 {
-    vec![in alloc; 0u8; count]
+    let start = bytes.len();
+    bytes.resize(start + most, 0)?;
+    let Ok(count) = fill(source, start as u64, &mut bytes[start..]) else {
+        return Err(WholeErr::Failed);
+    };
+    bytes.truncate(start + count);
+    Ok(())
 }
 
 /// All bytes of a source, or None exactly where they are more than `limit`.
 ///
-/// At most `limit + 1` bytes are read, and memory for so many is taken.
+/// At most `limit + 1` bytes are read, in pieces: 4,096 bytes, and then as many again as were read before. So the memory
+/// that it takes is at most about twice what was read, or 4,096 bytes.
 pub fn read_whole<S: Source>(
     alloc: Global,
     source: &mut S,
@@ -45,13 +64,14 @@ pub fn read_whole<S: Source>(
     ensures same { S.bytes source.new ≡ S.bytes source.old }
     ensures reached { S.reached source.new ≤ max (S.reached source.old) (limit + 1) }
 {
-    let mut bytes = zeros(alloc, limit + 1)?;
-    let Ok(count) = fill(source, 0, &mut bytes) else {
-        return Err(WholeErr::Failed);
-    };
-    if count > limit {
-        return Ok(None);
+    let mut bytes = Vec::new(alloc);
+    while bytes.len() <= limit {
+        let start = bytes.len();
+        let most = start.max(FIRST_PIECE).min(limit + 1 - start);
+        read_more(source, &mut bytes, most)?;
+        if bytes.len() < start + most {
+            return Ok(Some(bytes));
+        }
     }
-    bytes.truncate(count);
-    Ok(Some(bytes))
+    Ok(None)
 }

@@ -1,3 +1,4 @@
 pub mod Vlrs
 pub mod Written
 pub mod Limits
+pub mod Same

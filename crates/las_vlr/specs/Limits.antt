@@ -3,16 +3,16 @@ use Rattle.std.specs.Prelude.{ℕ, ◌^◌, ◌<◌, ◌≤◌, List, length}
 use Rattle.std.specs.List.{All, sum_by}
 use Rattle.las_vlr.specs.Written.{IsVlr, IsEvlr, payload_size}
 use Rattle.las_vlr.specs.declared.entry.Vlr.{Vlr}
-use Rattle.las_vlr.specs.declared.entry.Form.{Form}
-use Rattle.las_vlr.specs.declared.entry.Form.TheVariants.{Plain, Extended}
+use Rattle.las_vlr.specs.declared.entry.ListKind.{ListKind}
+use Rattle.las_vlr.specs.declared.entry.ListKind.TheVariants.{Plain, Extended}
 
--- the length of a payload that a head of this form has room for
-abbrev pub IsShort : Form → ℕ → Type 0
+-- the length of a payload that a head of this kind has room for
+abbrev pub IsShort : ListKind → ℕ → Type 0
 IsShort (Plain points_at) size = size < 2 ^ 16
 IsShort Extended size = size < 2 ^ 64
 
--- a record that can be written in a list of this form
-abbrev pub IsOf : Form → Vlr → Type 0
+-- a record that can be written in a list of this kind
+abbrev pub IsOf : ListKind → Vlr → Type 0
 IsOf (Plain points_at) vlr = IsVlr vlr
 IsOf Extended vlr = IsEvlr vlr
 

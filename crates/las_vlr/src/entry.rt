@@ -1,9 +1,10 @@
 //! A variable length record, and why a list of them isn't read.
-ghost use Rattle.std.specs.Prelude.{◌≡◌};
+ghost use Rattle.std.specs.Prelude.{◌≡◌, IfOk};
+ghost use Rattle.las_vlr.specs.Same.{same_vlr};
 ghost use Rattle.las_vlr.specs.declared.entry.VlrErr.TheVariants.{Fault, Memory};
 
 use file_devices::Bytes;
-use std::alloc::AllocError;
+use std::alloc::{AllocError, Global};
 
 /// A variable length record, plain or extended.
 #[derive(Drop)]
@@ -24,9 +25,36 @@ pub struct Vlr {
     pub payload: Bytes,
 }
 
+impl Vlr {
+    /// Whether all fields of another record are the same, the reserved word and the payload too.
+    pub fn is_same(&self, other: &Self) -> bool
+        ensures { result ≡ same_vlr self.now other.now }
+    {
+        self.reserved == other.reserved
+            && self.user == other.user
+            && self.id == other.id
+            && self.text == other.text
+            && self.payload.is_same(&other.payload)
+    }
+
+    /// The same record once more, in memory of its own.
+    pub fn try_copy(&self, alloc: Global) -> Result<Self, AllocError>
+        ensures { IfOk result (λ copy. copy ≡ self.now) }
+    {
+        let payload = self.payload.try_copy(alloc)?;
+        Ok(Vlr {
+            reserved: self.reserved,
+            user: self.user,
+            id: self.id,
+            text: self.text,
+            payload,
+        })
+    }
+}
+
 /// Which of the two kinds of record a list has.
 #[derive(Clone, Copy, Debug, PartialEq, Eq)]
-pub(crate) enum Form {
+pub(crate) enum ListKind {
     /// VLRs, which end where the points begin, at this place.
     Plain(u64),
 

@@ -1,8 +1,10 @@
 //! A list of variable length records.
-ghost use Rattle.std.specs.Prelude.{◌≡◌, List};
+ghost use Rattle.std.specs.Prelude.{◌≡◌, List, IfOk};
+ghost use Rattle.las_vlr.specs.Same.{same_list};
 ghost use Rattle.las_vlr.specs.declared.entry.Vlr.{Vlr};
 
 use crate::Vlr;
+use std::alloc::{AllocError, Global};
 use std::marker::Model;
 
 /// Variable length records, which contracts see as the list of them.
@@ -33,6 +35,32 @@ impl VlrList {
         ensures { result.now ≡ self.now }
     {
         self.items.as_slice()
+    }
+
+    /// Whether another list has the same records in the same order.
+    pub fn is_same(&self, other: &Self) -> bool
+        ensures { result ≡ same_list self.now other.now }
+    {
+        if self.items.len() != other.items.len() {
+            return false;
+        }
+        for (at, vlr) in self.items.iter().enumerate() {
+            if !vlr.is_same(&other.items[at]) {
+                return false;
+            }
+        }
+        true
+    }
+
+    /// The same list once more, in memory of its own.
+    pub fn try_copy(&self, alloc: Global) -> Result<Self, AllocError>
+        ensures { IfOk result (λ copy. copy ≡ self.now) }
+    {
+        let mut items = Vec::new(alloc);
+        for vlr in &self.items {
+            items.push(vlr.try_copy(alloc)?)?;
+        }
+        Ok(VlrList { items })
     }
 
     /// Gives the records back. It takes no memory.

@@ -6,7 +6,7 @@ ghost use Rattle.las_vlr.specs.Limits.{IsShort, IsOf, AreHeld, AreHeldVlrs, AreH
 ghost use Rattle.las_vlr.specs.Written.{HasSizes};
 ghost use Rattle.las_vlr.specs.Vlrs.{head_size, payload_length, entry_size, entry_of, past, entry_fault, entries, vlrs_of, evlrs_of, IsRefusal, IsFault, IsInFront, MayReach};
 
-use crate::entry::Form;
+use crate::entry::ListKind;
 use crate::{Vlr, VlrErr, VlrFault, VlrList};
 use byte_numbers::{u16_at, u64_at};
 use file_devices::{Bytes, Source, fill};
@@ -22,75 +22,75 @@ const MOST_PAYLOAD: u64 = 16_777_216;
 const MOST_HEAD: usize = 60;
 
 /// The bytes in front of the payload.
-fn head_size(form: Form) -> usize
-    ensures { result ≡ head_size form }
+fn head_size(kind: ListKind) -> usize
+    ensures { result ≡ head_size kind }
 {
-    match form {
-        Form::Plain(_) => 54,
-        Form::Extended => 60,
+    match kind {
+        ListKind::Plain(_) => 54,
+        ListKind::Extended => 60,
     }
 }
 
 /// The length of the payload that a head announces.
-fn payload_length(form: Form, head: &[u8]) -> u64
+fn payload_length(kind: ListKind, head: &[u8]) -> u64
     requires { MOST_HEAD ≤ length head.now }
-    ensures value { result ≡ payload_length form head.now }
-    ensures short { IsShort form result }
+    ensures value { result ≡ payload_length kind head.now }
+    ensures short { IsShort kind result }
 {
-    match form {
-        Form::Plain(_) => u64::from(u16_at(head, 20)),
-        Form::Extended => u64_at(head, 20),
+    match kind {
+        ListKind::Plain(_) => u64::from(u16_at(head, 20)),
+        ListKind::Extended => u64_at(head, 20),
     }
 }
 
 /// The place `size` bytes behind another, where record `number` may reach up to it.
-fn end_of(form: Form, number: u32, at: u64, size: u64) -> Result<u64, VlrFault>
-    ensures ok { IfOk result (λ end. (end ≡ at + size) × MayReach form end) }
-    ensures err { IfErr result (λ fault. (file : List ℕ) → length file < 2 ^ 64 → past form number (at + size) file ≡ Some fault) }
+fn end_of(kind: ListKind, number: u32, at: u64, size: u64) -> Result<u64, VlrFault>
+    ensures ok { IfOk result (λ end. (end ≡ at + size) × MayReach kind end) }
+    ensures err { IfErr result (λ fault. (file : List ℕ) → length file < 2 ^ 64 → past kind number (at + size) file ≡ Some fault) }
 {
-    match form {
-        Form::Plain(points_at) => match at.checked_add(size) {
+    match kind {
+        ListKind::Plain(points_at) => match at.checked_add(size) {
             Some(end) if end <= points_at => Ok(end),
             _ => Err(VlrFault::VlrPastPoints(number)),
         },
-        Form::Extended => at.checked_add(size).ok_or(VlrFault::EvlrPastEnd(number)),
+        ListKind::Extended => at.checked_add(size).ok_or(VlrFault::EvlrPastEnd(number)),
     }
 }
 
 /// The fault of record `number` where it ends after the file.
-fn past_file(form: Form, number: u32) -> VlrFault
-    ensures { (end : ℕ) (file : List ℕ) → MayReach form end → length file < end → past form number end file ≡ Some result }
+fn past_file(kind: ListKind, number: u32) -> VlrFault
+    ensures { (end : ℕ) (file : List ℕ) → MayReach kind end → length file < end → past kind number end file ≡ Some result }
 {
-    match form {
-        Form::Plain(_) => VlrFault::VlrPastEnd(number),
-        Form::Extended => VlrFault::EvlrPastEnd(number),
+    match kind {
+        ListKind::Plain(_) => VlrFault::VlrPastEnd(number),
+        ListKind::Extended => VlrFault::EvlrPastEnd(number),
     }
 }
 
 /// Reads the bytes of record `number` from a place on, as many as the slice holds.
 fn read_piece<S: Source>(
     source: &mut S,
-    form: Form,
+    kind: ListKind,
     number: u32,
     at: u64,
     into: &mut [u8],
 ) -> Result<(), VlrErr>
     requires some { 0 < length into.old }
     ensures fits { OnOk result (at + length into.old < 2 ^ 64) }
-    ensures whole { OnOk result ((file : List ℕ) → S.bytes source.old ≡ Some file → past form number (at + length into.old) file ≡ None) }
+    ensures whole { OnOk result ((file : List ℕ) → S.bytes source.old ≡ Some file → past kind number (at + length into.old) file ≡ None) }
     ensures piece { OnOk result ((file : List ℕ) → S.bytes source.old ≡ Some file → into.new ≡ take (length into.old) (drop at file)) }
-    ensures fault { IfErr result (λ e. (file : List ℕ) → S.bytes source.old ≡ Some file → IsFault (past form number (at + length into.old) file) e) }
+    ensures fault { IfErr result (λ e. (file : List ℕ) → S.bytes source.old ≡ Some file → IsFault (past kind number (at + length into.old) file) e) }
     ensures failed { result ≡ Err VlrErr.ReadFailed → Rose (S.faults source.old) (S.faults source.new) }
     ensures later { S.faults source.old ≤ S.faults source.new }
-    ensures in_front { IsInFront form (S.reached source.old) (S.reached source.new) }
+    ensures in_front { IsInFront kind (S.reached source.old) (S.reached source.new) }
     ensures same { S.bytes source.new ≡ S.bytes source.old }
 {
-    end_of(form, number, at, into.len() as u64)?;
+    end_of(kind, number, at, into.len() as u64)?;
     let Ok(count) = fill(source, at, into) else {
         return Err(VlrErr::ReadFailed);
     };
     if count < into.len() {
-        return Err(VlrErr::Fault(past_file(form, number)));
+        return Err(VlrErr::Fault(past_file(kind, number)));
     }
     Ok(())
 }
@@ -100,7 +100,7 @@ fn read_piece<S: Source>(
 fn read_payload<S: Source>(
     alloc: Global,
     source: &mut S,
-    form: Form,
+    kind: ListKind,
     number: u32,
     at: u64,
     size: u64,
@@ -108,54 +108,54 @@ fn read_payload<S: Source>(
     requires small { size ≤ MOST_PAYLOAD }
     ensures fits { IfOk result (λ payload. at + size < 2 ^ 64) }
     ensures size { IfOk result (λ payload. length payload ≡ size) }
-    ensures whole { IfOk result (λ payload. (file : List ℕ) → S.bytes source.old ≡ Some file → past form number at file ≡ None → past form number (at + size) file ≡ None) }
+    ensures whole { IfOk result (λ payload. (file : List ℕ) → S.bytes source.old ≡ Some file → past kind number at file ≡ None → past kind number (at + size) file ≡ None) }
     ensures piece { IfOk result (λ payload. (file : List ℕ) → S.bytes source.old ≡ Some file → payload ≡ take size (drop at file)) }
-    ensures fault { IfErr result (λ e. (file : List ℕ) → S.bytes source.old ≡ Some file → IsFault (past form number (at + size) file) e) }
+    ensures fault { IfErr result (λ e. (file : List ℕ) → S.bytes source.old ≡ Some file → IsFault (past kind number (at + size) file) e) }
     ensures failed { result ≡ Err VlrErr.ReadFailed → Rose (S.faults source.old) (S.faults source.new) }
     ensures later { S.faults source.old ≤ S.faults source.new }
-    ensures in_front { IsInFront form (S.reached source.old) (S.reached source.new) }
+    ensures in_front { IsInFront kind (S.reached source.old) (S.reached source.new) }
     ensures same { S.bytes source.new ≡ S.bytes source.old }
 {
-    let end = end_of(form, number, at, size)?;
+    let end = end_of(kind, number, at, size)?;
     if size == 0 {
         return Ok(Bytes::new(Vec::new(alloc)));
     }
     let mut last = [0u8; 1];
-    read_piece(source, form, number, end - 1, &mut last)?;
+    read_piece(source, kind, number, end - 1, &mut last)?;
     let mut payload = vec![in alloc; 0u8; size as usize]?;
-    read_piece(source, form, number, at, &mut payload)?;
+    read_piece(source, kind, number, at, &mut payload)?;
     Ok(Bytes::new(payload))
 }
 
 /// Reads the head of record `number`, which stands at a place, into the front of `head`.
 fn read_head<S: Source>(
     source: &mut S,
-    form: Form,
+    kind: ListKind,
     number: u32,
     at: u64,
     head: &mut [u8],
 ) -> Result<(), VlrErr>
     requires room { length head.old ≡ MOST_HEAD }
-    ensures fits { OnOk result (at + head_size form < 2 ^ 64) }
-    ensures whole { OnOk result ((file : List ℕ) → S.bytes source.old ≡ Some file → past form number (at + head_size form) file ≡ None) }
-    ensures front { OnOk result ((file : List ℕ) → S.bytes source.old ≡ Some file → take (head_size form) head.new ≡ take (head_size form) (drop at file)) }
-    ensures fault { IfErr result (λ e. (file : List ℕ) → S.bytes source.old ≡ Some file → IsFault (past form number (at + head_size form) file) e) }
+    ensures fits { OnOk result (at + head_size kind < 2 ^ 64) }
+    ensures whole { OnOk result ((file : List ℕ) → S.bytes source.old ≡ Some file → past kind number (at + head_size kind) file ≡ None) }
+    ensures front { OnOk result ((file : List ℕ) → S.bytes source.old ≡ Some file → take (head_size kind) head.new ≡ take (head_size kind) (drop at file)) }
+    ensures fault { IfErr result (λ e. (file : List ℕ) → S.bytes source.old ≡ Some file → IsFault (past kind number (at + head_size kind) file) e) }
     ensures failed { result ≡ Err VlrErr.ReadFailed → Rose (S.faults source.old) (S.faults source.new) }
     ensures later { S.faults source.old ≤ S.faults source.new }
-    ensures in_front { IsInFront form (S.reached source.old) (S.reached source.new) }
+    ensures in_front { IsInFront kind (S.reached source.old) (S.reached source.new) }
     ensures same { S.bytes source.new ≡ S.bytes source.old }
 {
-    let size = head_size(form);
-    read_piece(source, form, number, at, &mut head[..size])
+    let size = head_size(kind);
+    read_piece(source, kind, number, at, &mut head[..size])
 }
 
 /// The record with this head.
-fn with_payload(form: Form, head: &[u8], payload: Bytes) -> Vlr
+fn with_payload(kind: ListKind, head: &[u8], payload: Bytes) -> Vlr
     requires { MOST_HEAD ≤ length head.now }
-    ensures value { result ≡ record (entry_of form head.now) { payload = payload } }
+    ensures value { result ≡ record (entry_of kind head.now) { payload = payload } }
     ensures sizes { HasSizes result }
 {
-    let size = head_size(form);
+    let size = head_size(kind);
     let mut user = [0u8; 16];
     user.copy_from_slice(&head[2..18]);
     let mut text = [0u8; 32];
@@ -173,50 +173,50 @@ fn with_payload(form: Form, head: &[u8], payload: Bytes) -> Vlr
 fn read_entry<S: Source>(
     alloc: Global,
     source: &mut S,
-    form: Form,
+    kind: ListKind,
     number: u32,
     at: u64,
     before: u64,
 ) -> Result<Vlr, VlrErr>
     requires { before ≤ MOST_PAYLOAD }
-    ensures fits { IfOk result (λ vlr. at + (head_size form + length vlr.payload) < 2 ^ 64) }
+    ensures fits { IfOk result (λ vlr. at + (head_size kind + length vlr.payload) < 2 ^ 64) }
     ensures room { IfOk result (λ vlr. before + length vlr.payload ≤ MOST_PAYLOAD) }
-    ensures held { IfOk result (IsOf form) }
-    ensures whole { IfOk result (λ vlr. (file : List ℕ) → S.bytes source.old ≡ Some file → entry_fault form number at before file ≡ None) }
-    ensures entry { IfOk result (λ vlr. (file : List ℕ) → S.bytes source.old ≡ Some file → vlr ≡ entry_of form (drop at file)) }
-    ensures size { IfOk result (λ vlr. (file : List ℕ) → S.bytes source.old ≡ Some file → length vlr.payload ≡ payload_length form (drop at file)) }
-    ensures fault { IfErr result (λ e. (file : List ℕ) → S.bytes source.old ≡ Some file → IsFault (entry_fault form number at before file) e) }
+    ensures held { IfOk result (IsOf kind) }
+    ensures whole { IfOk result (λ vlr. (file : List ℕ) → S.bytes source.old ≡ Some file → entry_fault kind number at before file ≡ None) }
+    ensures entry { IfOk result (λ vlr. (file : List ℕ) → S.bytes source.old ≡ Some file → vlr ≡ entry_of kind (drop at file)) }
+    ensures size { IfOk result (λ vlr. (file : List ℕ) → S.bytes source.old ≡ Some file → length vlr.payload ≡ payload_length kind (drop at file)) }
+    ensures fault { IfErr result (λ e. (file : List ℕ) → S.bytes source.old ≡ Some file → IsFault (entry_fault kind number at before file) e) }
     ensures failed { result ≡ Err VlrErr.ReadFailed → Rose (S.faults source.old) (S.faults source.new) }
     ensures later { S.faults source.old ≤ S.faults source.new }
-    ensures in_front { IsInFront form (S.reached source.old) (S.reached source.new) }
+    ensures in_front { IsInFront kind (S.reached source.old) (S.reached source.new) }
     ensures same { S.bytes source.new ≡ S.bytes source.old }
 {
     let mut head = [0u8; MOST_HEAD];
-    read_head(source, form, number, at, &mut head)?;
-    let size = payload_length(form, &head);
+    read_head(source, kind, number, at, &mut head)?;
+    let size = payload_length(kind, &head);
     if size > MOST_PAYLOAD - before {
         return Err(VlrErr::Fault(VlrFault::TooManyVlrs));
     }
-    let payload_at = at + head_size(form) as u64;
-    let payload = read_payload(alloc, source, form, number, payload_at, size)?;
-    Ok(with_payload(form, &head, payload))
+    let payload_at = at + head_size(kind) as u64;
+    let payload = read_payload(alloc, source, kind, number, payload_at, size)?;
+    Ok(with_payload(kind, &head, payload))
 }
 
 /// Reads a list of records, which stand one behind another from a place.
 fn read_list<S: Source>(
     alloc: Global,
     source: &mut S,
-    form: Form,
+    kind: ListKind,
     start: u64,
     count: u32,
 ) -> Result<VlrList, VlrErr>
-    ensures ok { IfOk result (λ vlrs. (file : List ℕ) → S.bytes source.old ≡ Some file → entries form count start file ≡ Ok vlrs) }
+    ensures ok { IfOk result (λ vlrs. (file : List ℕ) → S.bytes source.old ≡ Some file → entries kind count start file ≡ Ok vlrs) }
     ensures count { IfOk result (λ vlrs. length vlrs ≡ count) }
-    ensures held { IfOk result (AreHeld (IsOf form)) }
-    ensures fault { IfErr result (λ e. (file : List ℕ) → S.bytes source.old ≡ Some file → IsRefusal (entries form count start file) e) }
+    ensures held { IfOk result (AreHeld (IsOf kind)) }
+    ensures fault { IfErr result (λ e. (file : List ℕ) → S.bytes source.old ≡ Some file → IsRefusal (entries kind count start file) e) }
     ensures failed { result ≡ Err VlrErr.ReadFailed → Rose (S.faults source.old) (S.faults source.new) }
     ensures later { S.faults source.old ≤ S.faults source.new }
-    ensures in_front { IsInFront form (S.reached source.old) (S.reached source.new) }
+    ensures in_front { IsInFront kind (S.reached source.old) (S.reached source.new) }
     ensures unread { count ≡ 0 → S.reached source.new ≡ S.reached source.old }
     ensures same { S.bytes source.new ≡ S.bytes source.old }
 {
@@ -227,9 +227,9 @@ fn read_list<S: Source>(
     let mut at = start;
     let mut before = 0;
     for number in 0..count {
-        let vlr = read_entry(alloc, source, form, number, at, before)?;
+        let vlr = read_entry(alloc, source, kind, number, at, before)?;
         let size = vlr.payload.as_slice().len() as u64;
-        at += head_size(form) as u64 + size;
+        at += head_size(kind) as u64 + size;
         before += size;
         if vlrs.push(vlr).is_err() {
             return Err(VlrErr::Memory);
@@ -260,7 +260,7 @@ pub fn read_vlrs<S: Source>(
     ensures reached { S.reached source.new ≤ max (S.reached source.old) points_at }
     ensures same { S.bytes source.new ≡ S.bytes source.old }
 {
-    read_list(alloc, source, Form::Plain(points_at), start, count)
+    read_list(alloc, source, ListKind::Plain(points_at), start, count)
 }
 
 /// Reads the EVLRs that stand one behind another from `at` on, `count` of them as the header says. Where it is 0, no byte
@@ -284,5 +284,5 @@ pub fn read_evlrs<S: Source>(
     ensures unread { count ≡ 0 → S.reached source.new ≡ S.reached source.old }
     ensures same { S.bytes source.new ≡ S.bytes source.old }
 {
-    read_list(alloc, source, Form::Extended, at, count)
+    read_list(alloc, source, ListKind::Extended, at, count)
 }

@@ -7,7 +7,7 @@ ghost use Rattle.las_vlr.specs.Vlrs.{entry_of};
 ghost use Rattle.las_vlr.specs.Written.{HasSizes, head_bytes, vlr_bytes, evlr_bytes};
 
 use crate::Vlr;
-use crate::entry::Form;
+use crate::entry::ListKind;
 use arrayvec::ArrayVec;
 use byte_numbers::put;
 use file_devices::{Failed, Sink};
@@ -55,7 +55,7 @@ pub fn write_vlr<K: Sink>(vlr: &Vlr, out: &mut K) -> Result<(), Failed>
     ensures count { OnOk result (K.appended out.new ≡ saturating (K.appended out.old) (length (vlr_bytes vlr.now))) }
     ensures no_less { K.appended out.old ≤ K.appended out.new }
     ensures cause { HasCause (K.faults out.old) (K.faults out.new) result }
-    ensures is_entry { (points_at : ℕ) (rest : List ℕ) → entry_of (Form.Plain points_at) (vlr_bytes vlr.now ++ rest) ≡ vlr.now }
+    ensures is_entry { (points_at : ℕ) (rest : List ℕ) → entry_of (ListKind.Plain points_at) (vlr_bytes vlr.now ++ rest) ≡ vlr.now }
 {
     let size = vlr.payload.as_slice().len() as u16;
     write_entry(vlr, &size.to_le_bytes(), out)
@@ -70,7 +70,7 @@ pub fn write_evlr<K: Sink>(vlr: &Vlr, out: &mut K) -> Result<(), Failed>
     ensures count { OnOk result (K.appended out.new ≡ saturating (K.appended out.old) (length (evlr_bytes vlr.now))) }
     ensures no_less { K.appended out.old ≤ K.appended out.new }
     ensures cause { HasCause (K.faults out.old) (K.faults out.new) result }
-    ensures is_entry { (rest : List ℕ) → entry_of Form.Extended (evlr_bytes vlr.now ++ rest) ≡ vlr.now }
+    ensures is_entry { (rest : List ℕ) → entry_of ListKind.Extended (evlr_bytes vlr.now ++ rest) ≡ vlr.now }
 {
     let size = vlr.payload.as_slice().len() as u64;
     write_entry(vlr, &size.to_le_bytes(), out)

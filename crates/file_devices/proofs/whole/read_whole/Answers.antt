@@ -1,13 +1,16 @@
-use Rattle.std.proofs.Common.{rules, ◌≡◌, ◌+◌, length, take, arith, ◌∙◌}
-use Rattle.std.proofs.lemmas.Grind.{common_steps}
-use Rattle.file_devices.specs.Filled.{Fills}
-use Rattle.file_devices.proofs.Filling.{all_is}
+use Rattle.std.proofs.Common.{◌∙◌, arith}
+use Rattle.file_devices.proofs.Filling.{beginning_more, ends_at, passes}
 use Rattle.file_devices.proofs.whole.read_whole.Goals as goal
 
+pub returns-then-len-start-clause-ok : goal.returns-then-len-start-clause-ok
+returns-then-len-start-clause-ok g c = λ b e.
+    let was = c.loop-bytes.invariant in
+    ends_at _ _ _ _ _ _ c.args.limit c.min-most.result c.loop-bytes.bytes.items c.read_more.new.bytes.items b was e (omega arith) (omega arith) (omega arith) (c.in_ok-read_more.ensures.items b (was.same ∙ e))
+
+pub loop-bytes-preserved : goal.loop-bytes-preserved
+loop-bytes-preserved g c =
+    let read = c.in_ok-read_more.ensures in
+    beginning_more _ _ _ _ _ _ _ _ _ c.args.limit c.min-most.result c.loop-bytes.bytes.items c.read_more.new.bytes.items c.loop-bytes.invariant (omega arith) (omega arith) read.same read.later (omega (arith, read.reached)) (omega (arith, read.within)) read.items
+
 pub returns-clause-ok : goal.returns-clause-ok
-returns-clause-ok g c = λ b e.
-    let room : length c.deref_mut.result.now ≡ c.args.limit + 1 = search rules in
-    let fills : Fills (g.S.Source.bytes c.args.source.now) 0 c.in-Ok.count c.deref_mut.result.now c.fill.new.into = c.in-Ok.ensures.filled in
-    let now : c.truncate.new.self.items ≡ take c.in-Ok.count c.fill.new.into = grind (arith, common_steps, c.truncate.ensures.items, c.fill.auto.into) in
-    let all = all_is (g.S.Source.bytes c.args.source.now) b c.deref_mut.result.now c.fill.new.into c.in-Ok.count c.args.limit room c.if-count-limit.false e fills in
-    (all.0, now ∙ all.1)
+returns-clause-ok g c = λ b e. passes _ _ _ _ _ _ c.args.limit c.loop-bytes.bytes.items b c.loop-bytes.invariant e (omega arith)
