@@ -1,6 +1,6 @@
 -- The text of columns.
-use Rattle.std.specs.Prelude.{ℕ, ◌-◌, Bool, ◌==◌, nat_le, nat_lt, List, [], ◌∷◌, length, Option, Some, None, option_and_then, if◌then◌else◌}
-use Rattle.std.specs.List.{position_or_len, before_first, after_first}
+use Rattle.std.specs.Prelude.{ℕ, ◌-◌, ◌≤◌, Bool, ◌==◌, nat_le, nat_lt, IfSome, List, [], ◌∷◌, length, Option, Some, None, option_and_then, if◌then◌else◌}
+use Rattle.std.specs.List.{All, position_or_len, before_first, after_first}
 use Rattle.std.specs.Char.{is_ascii_digit}
 use Rattle.option_texts.specs.declared.columns.NamedColumn.{NamedColumn}
 use Rattle.option_texts.specs.Parts.{trimmed, parts_of, each_read, is_name}
@@ -28,3 +28,8 @@ column_of part =
 -- 64 columns at most
 abbrev pub columns_of : List ℕ → Option (List NamedColumn)
 columns_of text = if nat_le (length (parts_of text)) 64 then each_read column_of (parts_of text) else None
+
+-- 64 columns at most, of one digit each
+pub record AreColumns (columns : List NamedColumn) : Type 0 where
+  pub few : length columns ≤ 64
+  pub near : All (λ (c : NamedColumn). IfSome c.places (λ n. n ≤ 9)) columns

@@ -2,7 +2,7 @@
 
 ghost use Rattle.std.specs.Prelude.{◌≡◌, ◌≤◌, ◌++◌, ◌∷◌, [], List, Some, None, false, true, MatchOption, IfOk, is_some, length, nat_le};
 ghost use Rattle.std.specs.List.{list_all};
-ghost use Rattle.option_texts.specs.Columns.{digit_of, column_with, column_of, columns_of};
+ghost use Rattle.option_texts.specs.Columns.{digit_of, column_with, column_of, columns_of, AreColumns};
 ghost use Rattle.option_texts.specs.Parts.{parts_of};
 ghost use Rattle.option_texts.specs.declared.columns.NamedColumn.{NamedColumn as ColumnSeen};
 
@@ -23,22 +23,38 @@ pub struct NamedColumn {
     pub places: Option<u32>,
 }
 
-/// The columns of a text, which contracts see as a list.
+/// The columns of a text, at most 64 with at most one digit each, which contracts see as a list.
 #[derive(Drop)]
 pub struct NamedColumns {
     items: Vec<NamedColumn>,
 }
 
 impl Model for NamedColumns {
+    ghost use Rattle.std.specs.Prelude.{List};
+    ghost use Rattle.option_texts.specs.Columns.{AreColumns};
+    ghost use Rattle.option_texts.specs.declared.columns.NamedColumn.{NamedColumn as ColumnSeen};
+
     ghost Value = { List ColumnSeen };
 
     ghost view = { λ l. l.items.items };
+
+    ghost invariant = { λ l. AreColumns l.items.items };
 }
 
 impl NamedColumns {
+    /// No columns. It takes no memory.
+    pub fn none(alloc: Global) -> Self
+        ensures { result ≡ [] }
+    {
+        NamedColumns {
+            items: Vec::new(alloc),
+        }
+    }
+
     /// The columns, in their order.
     pub fn as_slice(&self) -> &[NamedColumn]
-        ensures { result.now ≡ self.now }
+        ensures columns { result.now ≡ self.now }
+        ensures bounded { AreColumns result.now }
     {
         self.items.as_slice()
     }

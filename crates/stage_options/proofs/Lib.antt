@@ -1,5 +1,6 @@
 pub mod Again
 pub mod Keys
+pub mod Named
 pub mod Own
 pub mod Elements
 pub mod Scales

@@ -1,6 +1,7 @@
 //! The options of a stage: which names its type has, which values they may hold, and their defaults.
 #![tactic(auto)]
 
+mod binding;
 mod bounded;
 mod built;
 mod laws;
@@ -17,6 +18,7 @@ mod typing;
 mod values;
 mod walks;
 
+pub use binding::bind;
 pub use bounded::{Delimiter, LasFields, Places};
 pub use built::is_built;
 pub use laws::roles_follow_types;

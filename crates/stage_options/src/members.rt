@@ -5,6 +5,7 @@ ghost use Rattle.std.specs.Option.{unwrap_or};
 ghost use Rattle.serde_json.specs.Find.{as_str, get_member};
 ghost use Rattle.serde_json.specs.View.{members_view};
 ghost use Rattle.las_header.specs.Offsets.{IsOffset};
+ghost use Rattle.las_header.specs.ScaleWords.{scale_of_nano};
 ghost use Rattle.stage_options.specs.Seen.{given_view};
 ghost use Rattle.stage_options.specs.Typed.{option_in, whole_in, text_in, scale_in, offset_in, columns_in, forward_in, las_fields_in, text_options_in};
 ghost use Rattle.stage_options.specs.Values.{whole_of, format_with, decimal_of, truth_of};
@@ -93,11 +94,18 @@ fn decimal_in(options: &Map<String, Value>, name: &str) -> Option<i64>
     given(options, name)?.decimal()
 }
 
+/// The scale factor of so many nanounits.
+fn scale_of_nano(nano: i64) -> Option<Scale>
+    ensures { result ≡ scale_of_nano nano }
+{
+    Scale::new(nano)
+}
+
 /// The scale factor that an option is.
 fn scale_in(options: &Map<String, Value>, name: &str) -> Option<Scale>
     ensures { result ≡ scale_in name.now (members_view options.now.entries) }
 {
-    Scale::new(decimal_in(options, name)?)
+    scale_of_nano(decimal_in(options, name)?)
 }
 
 /// The offset that an option is, in nanounits.
