@@ -117,13 +117,19 @@ picked_scale given goes first axis = picked (given_on given.scale axis) (flag_on
 abbrev pub picked_offset : GivenValues → Fields → HeaderValues → ℕ → ℤ
 picked_offset given goes first axis = picked (given_on given.offset axis) (flag_on goes.offset axis) (offset_on first.offset axis) (offset_on default_values.offset axis)
 
+abbrev pub picked_scales : GivenValues → Fields → HeaderValues → List Scale
+picked_scales given goes first = picked_scale given goes first 0 ∷ picked_scale given goes first 1 ∷ picked_scale given goes first 2 ∷ []
+
+abbrev pub picked_offsets : GivenValues → Fields → HeaderValues → List ℤ
+picked_offsets given goes first = picked_offset given goes first 0 ∷ picked_offset given goes first 1 ∷ picked_offset given goes first 2 ∷ []
+
 -- the form that is decided by what is kept, with these lists
 unfoldable pub picked_form : GivenValues → Fields → HeaderValues → List Vlr → List Vlr → LasForm
 picked_form given goes first vlrs evlrs = record {
   format = picked given.format goes.format first.format default_values.format;
   minor = given_or given.minor 4;
-  scale = picked_scale given goes first 0 ∷ picked_scale given goes first 1 ∷ picked_scale given goes first 2 ∷ [];
-  offset = picked_offset given goes first 0 ∷ picked_offset given goes first 1 ∷ picked_offset given goes first 2 ∷ [];
+  scale = picked_scales given goes first;
+  offset = picked_offsets given goes first;
   source_id = picked given.source_id goes.source_id first.source_id default_values.source_id;
   encoding = picked given.encoding goes.encoding first.encoding default_values.encoding;
   guid = picked None goes.guid first.guid default_values.guid;

@@ -5,7 +5,7 @@ ghost use Rattle.std.specs.Int.{w64};
 ghost use Rattle.forward_rules.specs.declared.options.LasOpts.{LasOpts};
 ghost use Rattle.forward_rules.specs.Forwarded.{ReadFile, read_file, form_of, flag_on, given_on};
 ghost use Rattle.forward_rules.specs.Values.{scale_on, offset_on, default_values};
-ghost use Rattle.forward_rules.specs.States.{agreeing, agreeing_scale, agreeing_offset, forwarding_of, picked, picked_form, kept, started, agreed};
+ghost use Rattle.forward_rules.specs.States.{agreeing, agreeing_scale, agreeing_offset, forwarding_of, picked, picked_scales, picked_offsets, picked_form, kept, started, agreed};
 
 use crate::fields::Fields;
 use crate::given::GivenValues;
@@ -20,7 +20,8 @@ use std::alloc::{AllocError, Global};
 /// Version Minor of a file that nothing is said of.
 const MINOR: u8 = 4;
 
-/// The options of a writer, and what its form may take over from the files that were read so far.
+/// The options of a writer, and what it may take over from the files that were read so far. It is begun with the options,
+/// gets each file by `add`, and is ended by `form`.
 #[derive(Drop)]
 pub struct Forwarding {
     given: GivenValues,
@@ -118,6 +119,28 @@ fn picked_offset(given: &GivenValues, goes: &Fields, first: &HeaderValues, axis:
     )
 }
 
+/// The scales, decided.
+fn picked_scales(given: &GivenValues, goes: &Fields, first: &HeaderValues) -> [Scale; 3]
+    ensures { result ≡ picked_scales given.now goes.now first.now }
+{
+    [
+        picked_scale(given, goes, first, 0),
+        picked_scale(given, goes, first, 1),
+        picked_scale(given, goes, first, 2),
+    ]
+}
+
+/// The offsets, decided.
+fn picked_offsets(given: &GivenValues, goes: &Fields, first: &HeaderValues) -> [i64; 3]
+    ensures { result ≡ picked_offsets given.now goes.now first.now }
+{
+    [
+        picked_offset(given, goes, first, 0),
+        picked_offset(given, goes, first, 1),
+        picked_offset(given, goes, first, 2),
+    ]
+}
+
 /// The form with these lists.
 #[tactic(auto, unfolding(crate::specs::States::picked_form))]
 fn picked_form(
@@ -133,16 +156,8 @@ fn picked_form(
     LasForm {
         format: picked(given.format, goes.format, first.format, default.format),
         minor: given.minor.unwrap_or(MINOR),
-        scale: [
-            picked_scale(given, goes, first, 0),
-            picked_scale(given, goes, first, 1),
-            picked_scale(given, goes, first, 2),
-        ],
-        offset: [
-            picked_offset(given, goes, first, 0),
-            picked_offset(given, goes, first, 1),
-            picked_offset(given, goes, first, 2),
-        ],
+        scale: picked_scales(given, goes, first),
+        offset: picked_offsets(given, goes, first),
         source_id: picked(
             given.source_id,
             goes.source_id,

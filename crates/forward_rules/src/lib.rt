@@ -15,4 +15,3 @@ pub use form::LasForm;
 pub use forwarding::Forwarding;
 pub use names::NameList;
 pub use options::LasOpts;
-

@@ -167,8 +167,8 @@ las_is form points w =
     let uncut : cut_of (points_in h) (whole_records h file) ≡ None = (λ i. cut_of (points_counted form points w i) (whole_is form points w i)) ∙ ap (λ b. if b then None else Some n) (eq-eqb n n refl) in
     λ i. record { points = these i; cut = uncut i }
 
-pub read_back : FilesAreReadBack
-read_back form points w =
+pub files_again : FilesAreReadBack
+files_again form points w =
     let h = header_for form points in
     let file = las_output form points in
     let rest = vlrs_bytes form ++ (records form points ++ evlrs_bytes form) in
