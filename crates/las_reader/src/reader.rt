@@ -89,9 +89,10 @@ impl<S: Source> LasReader<S> {
         }
     }
 
-    /// The header of the file.
+    /// The header of the file, which has no fault.
     pub fn header(&self) -> &Header
-        ensures { result.now ≡ self.now.header }
+        ensures value { result.now ≡ self.now.header }
+        ensures sound { IsSound result.now }
     {
         &self.header
     }

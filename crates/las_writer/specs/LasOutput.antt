@@ -1,0 +1,112 @@
+-- The file of a LAS writer (LAS 1.4 R15): the header, the VLRs, the records and the EVLRs.
+use Rattle.std.specs.Prelude.{◌≡◌, ℕ, ◌+◌, ◌*◌, ◌/◌, ◌%◌, ◌-◌, ◌^◌, ℤ, ◌==◌, min, nat_lt, Bool, ◌&&◌, if◌then◌else◌, List, [], ◌∷◌, ◌++◌, length, map, replicate, slice_index, codes}
+use Rattle.std.specs.List.{All, flat_map}
+use Rattle.cloud_points.specs.declared.point.Point.{Point}
+use Rattle.ieee_words.specs.NearWord.{near_word}
+use Rattle.las_header.specs.declared.block.Header.{Header}
+use Rattle.las_header.specs.declared.form.Format.{Format}
+use Rattle.las_header.specs.Formats.{format_number, format_size}
+use Rattle.las_header.specs.Headers.{block_size}
+use Rattle.las_header.specs.Offsets.{IsOffset}
+use Rattle.las_header.specs.Written.{header_bytes}
+use Rattle.las_vlr.specs.Limits.{AreHeldVlrs, AreHeldEvlrs}
+use Rattle.las_vlr.specs.Written.{vlr_bytes, evlr_bytes}
+use Rattle.point_formats.specs.declared.grid.Grid.{Grid}
+use Rattle.point_formats.specs.Grids.{coordinate}
+use Rattle.forward_rules.specs.declared.form.LasForm.{LasForm}
+use Rattle.las_writer.specs.declared.totals.Totals.{Totals}
+use Rattle.las_writer.specs.Records.{grid_for, records}
+use Rattle.cloud_points.specs.Queue.{up_to_limit}
+use Rattle.las_writer.specs.Totals.{number_on, totals_of}
+
+-- what a writer takes: version 1.4, offsets below 10 ^ 9 in size, and lists within the limits of those that are read
+pub record IsForm (form : LasForm) : Type 0 where
+  pub version : form.minor ≡ 4
+  pub offsets : All IsOffset form.offset
+  pub vlrs : AreHeldVlrs form.vlrs
+  pub evlrs : AreHeldEvlrs form.evlrs
+
+-- formats 0 to 3, which have counts of 32 bits too
+abbrev pub is_old : Format → Bool
+is_old format = nat_lt (format_number format) 6
+
+-- bit 4 of the encoding, which says that coordinate systems are given as text, is set for formats 6 to 8
+abbrev pub with_text_systems : Format → ℕ → ℕ
+with_text_systems format encoding = if is_old format then encoding else (if encoding / 16 % 2 == 0 then encoding + 16 else encoding)
+
+-- a legacy count: none for formats 6 to 8, nor where there are more points than 32 bits count
+abbrev pub legacy : Format → ℕ → ℕ → ℕ
+legacy format count n = if is_old format && nat_lt count (2 ^ 32) then min n (2 ^ 32 - 1) else 0
+
+-- the counts of return numbers 1 to 5 so, of counts from number 0 on
+abbrev pub legacy_returns : Format → ℕ → List ℕ → List ℕ
+legacy_returns format count all = map (λ number. legacy format count (slice_index all number)) (1 ∷ 2 ∷ 3 ∷ 4 ∷ 5 ∷ [])
+
+-- the counts of return numbers 1 to 15, of those from number 0 on
+abbrev pub from_one : List ℕ → List ℕ
+from_one all = map (slice_index all) (1 ∷ 2 ∷ 3 ∷ 4 ∷ 5 ∷ 6 ∷ 7 ∷ 8 ∷ 9 ∷ 10 ∷ 11 ∷ 12 ∷ 13 ∷ 14 ∷ 15 ∷ [])
+
+-- the word of a raw number's coordinate on an axis
+abbrev pub bound : Grid → ℕ → List ℤ → ℕ
+bound grid axis numbers = near_word (coordinate grid axis (number_on numbers axis)) 9
+
+-- the greatest and the least coordinate on each axis, six zero words where there are no points
+abbrev pub bounds : Grid → Totals → List ℕ
+bounds grid t = if t.count == 0 then replicate 6 0 else bound grid 0 t.greatest ∷ bound grid 0 t.least
+    ∷ bound grid 1 t.greatest ∷ bound grid 1 t.least ∷ bound grid 2 t.greatest ∷ bound grid 2 t.least ∷ []
+
+abbrev pub vlrs_bytes : LasForm → List ℕ
+vlrs_bytes form = flat_map vlr_bytes form.vlrs
+
+abbrev pub evlrs_bytes : LasForm → List ℕ
+evlrs_bytes form = flat_map evlr_bytes form.evlrs
+
+-- where the points begin
+abbrev pub points_at : LasForm → ℕ
+points_at form = block_size + length (vlrs_bytes form)
+
+-- where the EVLRs begin, behind so many points; 0 without EVLRs
+abbrev pub evlrs_at : LasForm → ℕ → ℕ
+evlrs_at form count = if length form.evlrs == 0 then 0 else up_to_limit (points_at form + format_size form.format * count)
+
+-- the header with these totals
+unfoldable pub header_with : LasForm → Totals → Header
+header_with form t = record {
+  signature = codes "LASF";
+  source_id = form.source_id;
+  encoding = with_text_systems form.format form.encoding;
+  guid = form.guid;
+  major = 1;
+  minor = form.minor;
+  system = form.system;
+  software = form.software;
+  day = form.day;
+  year = form.year;
+  header_size = block_size;
+  points_at = points_at form;
+  vlrs = length form.vlrs;
+  format = form.format;
+  record_length = format_size form.format;
+  legacy_count = legacy form.format t.count t.count;
+  legacy_returns = legacy_returns form.format t.count t.returns;
+  scale = form.scale;
+  offset = form.offset;
+  bounds = bounds (grid_for form) t;
+  waveform = 0;
+  evlrs_at = evlrs_at form t.count;
+  evlrs = length form.evlrs;
+  count = t.count;
+  returns = from_one t.returns;
+}
+
+-- the header of a file of these points
+abbrev pub header_for : LasForm → List Point → Header
+header_for form points = header_with form (totals_of form points)
+
+-- a file that isn't finished: its header is that of no points, and the EVLRs lack
+abbrev pub las_unfinished : LasForm → List Point → List ℕ
+las_unfinished form points = header_bytes (header_for form []) ++ (vlrs_bytes form ++ records form points)
+
+-- the whole file of these points
+abbrev pub las_output : LasForm → List Point → List ℕ
+las_output form points = header_bytes (header_for form points) ++ (vlrs_bytes form ++ (records form points ++ evlrs_bytes form))

@@ -1,0 +1,63 @@
+//! The variable length records of a written file.
+
+ghost use Rattle.std.specs.Prelude.{◌≡◌, ◌+◌, ◌≤◌, length, OnOk};
+ghost use Rattle.std.specs.List.{All, flat_map};
+ghost use Rattle.file_devices.specs.Counts.{HasCause};
+ghost use Rattle.file_devices.specs.Content.{Appends};
+ghost use Rattle.las_header.specs.Headers.{block_size};
+ghost use Rattle.las_vlr.specs.Limits.{AreHeldVlrs};
+ghost use Rattle.las_vlr.specs.Written.{IsVlr, payload_size, vlr_bytes, evlr_bytes};
+
+use file_devices::{Failed, Sink};
+use las_header::BLOCK_SIZE;
+use las_vlr::{Vlr, write_evlr, write_vlr};
+
+/// The bytes in front of the payload of a VLR.
+const HEAD_SIZE: u32 = 54;
+
+/// The bytes of a VLR.
+#[tactic(auto, using(crate::proofs::FirstItems::vlr_length))]
+fn vlr_size(vlr: &Vlr) -> u32
+    requires { IsVlr vlr.now }
+    ensures size { result ≡ length (vlr_bytes vlr.now) }
+    ensures parts { result ≡ HEAD_SIZE + payload_size vlr.now }
+{
+    HEAD_SIZE + vlr.payload.as_slice().len() as u32
+}
+
+/// Where the points begin behind the header and these VLRs.
+pub(crate) fn points_at(vlrs: &[Vlr]) -> u32
+    requires { AreHeldVlrs vlrs.now }
+    ensures { result ≡ block_size + length (flat_map vlr_bytes vlrs.now) }
+{
+    let mut at = BLOCK_SIZE as u32;
+    for vlr in vlrs {
+        at += vlr_size(vlr);
+    }
+    at
+}
+
+/// Appends VLRs, one after another.
+pub(crate) fn put_vlrs<K: Sink>(vlrs: &[Vlr], sink: &mut K) -> Result<(), Failed>
+    requires { All IsVlr vlrs.now }
+    ensures ok { OnOk result (Appends (K.bytes sink.old) (flat_map vlr_bytes vlrs.now) (K.bytes sink.new)) }
+    ensures no_less { K.appended sink.old ≤ K.appended sink.new }
+    ensures cause { HasCause (K.faults sink.old) (K.faults sink.new) result }
+{
+    for vlr in vlrs {
+        write_vlr(vlr, sink)?;
+    }
+    Ok(())
+}
+
+/// Appends EVLRs, one after another.
+pub(crate) fn put_evlrs<K: Sink>(vlrs: &[Vlr], sink: &mut K) -> Result<(), Failed>
+    ensures ok { OnOk result (Appends (K.bytes sink.old) (flat_map evlr_bytes vlrs.now) (K.bytes sink.new)) }
+    ensures no_less { K.appended sink.old ≤ K.appended sink.new }
+    ensures cause { HasCause (K.faults sink.old) (K.faults sink.new) result }
+{
+    for vlr in vlrs {
+        write_evlr(vlr, sink)?;
+    }
+    Ok(())
+}

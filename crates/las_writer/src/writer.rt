@@ -1,0 +1,249 @@
+//! The writer.
+
+ghost use Rattle.std.specs.Prelude.{◌≡◌, ◌+◌, ◌≤◌, ◌++◌, ◌∷◌, [], List, Some, None, Err, true, length, IfOk, IfErr, OnOk, OnErr, vec_len};
+ghost use Rattle.cloud_points.specs.declared.point.Point.{Point};
+ghost use Rattle.file_devices.specs.Counts.{HasCause, Rose};
+ghost use Rattle.file_devices.specs.Content.{Appends, AppendsPart, Patches};
+ghost use Rattle.file_devices.specs.Told.{IsAsTold};
+ghost use Rattle.las_header.specs.Written.{header_bytes};
+ghost use Rattle.las_writer.specs.Records.{written, records, refusal};
+ghost use Rattle.las_writer.specs.Totals.{totals_of};
+ghost use Rattle.las_writer.specs.LasOutput.{IsForm, points_at, vlrs_bytes, header_with, las_unfinished, las_output};
+ghost use Rattle.las_writer.specs.Holding.{holds_las, IsRefused, put_fault, IsPutFault};
+
+use crate::blocks::header_with;
+use crate::known::{known_fields, known_u32};
+use crate::lists::{points_at, put_evlrs, put_vlrs};
+use crate::records::{CHUNK_ROOM, put_records};
+use crate::{BeginErr, ChunkErr, PutFault, Totals};
+use cloud_points::{MOST_POINTS, Point};
+use file_devices::{Failed, FileSink, Sink};
+use forward_rules::LasForm;
+use las_header::{BLOCK_SIZE, write_header};
+use point_formats::EncodeFault;
+use std::alloc::Global;
+
+/// A writer of points as a LAS file: the header and the VLRs, a record for each point, and the EVLRs. It is ended by
+/// `finish`, and `release` gives the sink back.
+pub struct LasWriter<K: FileSink> {
+    sink: K,
+    form: LasForm,
+    start: u32,
+    totals: Totals,
+    buffer: Vec<u8>,
+    ghost decided: { IsForm form },
+    ghost behind: { start ≡ points_at form },
+    ghost room: { 2432 ≤ vec_len buffer },
+    ghost begun: { 375 ≤ K.appended sink },
+}
+
+/// What is wrong with a chunk of one point.
+fn put_fault(e: ChunkErr) -> PutFault
+    ensures { result ≡ put_fault e }
+{
+    match e {
+        ChunkErr::Refused(refused) => match refused.why {
+            EncodeFault::NotHeld(dim) => PutFault::NotHeld(dim),
+            EncodeFault::ValueOutOfRange(dim) => PutFault::ValueOutOfRange(dim),
+        },
+        ChunkErr::Failed => PutFault::Failed,
+    }
+}
+
+/// Appends the header with these totals.
+fn put_header<K: Sink>(
+    form: &LasForm,
+    start: u32,
+    totals: &Totals,
+    sink: &mut K,
+) -> Result<(), Failed>
+    requires form { IsForm form.now }
+    requires start { start ≡ points_at form.now }
+    ensures ok { OnOk result (Appends (K.bytes sink.old) (header_bytes (header_with form.now totals.now))
+        (K.bytes sink.new)) }
+    ensures begun { OnOk result (375 ≤ K.appended sink.new) }
+    ensures cause { HasCause (K.faults sink.old) (K.faults sink.new) result }
+{
+    let mut block = [0; BLOCK_SIZE];
+    write_header(&header_with(form, start, totals), &mut block);
+    sink.append(&block)
+}
+
+/// Puts a header with these totals in place of the one in front.
+fn patch_header<K: FileSink>(
+    form: &LasForm,
+    start: u32,
+    totals: &Totals,
+    sink: &mut K,
+) -> Result<(), Failed>
+    requires form { IsForm form.now }
+    requires start { start ≡ points_at form.now }
+    requires begun { 375 ≤ K.appended sink.old }
+    ensures ok { OnOk result (Patches (K.bytes sink.old) 0 (header_bytes (header_with form.now totals.now))
+        (K.bytes sink.new)) }
+    ensures size { length (header_bytes (header_with form.now totals.now)) ≡ 375 }
+    ensures begun { 375 ≤ K.appended sink.new }
+    ensures cause { HasCause (K.faults sink.old) (K.faults sink.new) result }
+{
+    let mut block = [0; BLOCK_SIZE];
+    write_header(&header_with(form, start, totals), &mut block);
+    sink.patch(0, &block)
+}
+
+/// Appends what stands in front of the points.
+fn put_front<K: Sink>(
+    form: &LasForm,
+    start: u32,
+    totals: &Totals,
+    sink: &mut K,
+) -> Result<(), Failed>
+    requires form { IsForm form.now }
+    requires start { start ≡ points_at form.now }
+    ensures ok { OnOk result (Appends (K.bytes sink.old)
+        (header_bytes (header_with form.now totals.now) ++ vlrs_bytes form.now) (K.bytes sink.new)) }
+    ensures begun { OnOk result (375 ≤ K.appended sink.new) }
+    ensures cause { HasCause (K.faults sink.old) (K.faults sink.new) result }
+{
+    put_header(form, start, totals, sink)?;
+    put_vlrs(form.vlrs.as_slice(), sink)
+}
+
+impl<K: FileSink> LasWriter<K> {
+    /// A writer onto a sink to which nothing was appended; it appends a header without points, and the VLRs.
+    ///
+    /// The form is of version 1.4, its offsets are below 10^18 nanounits in size, and its lists are within the limits of
+    /// those that are read. A refusal gives the sink back. It is `Failed` only where the sink failed, and `Memory` where
+    /// there is none for the records of a chunk.
+    pub fn begin(alloc: Global, sink: K, form: LasForm) -> Result<LasWriter<K>, (K, BeginErr)>
+        requires { IsForm form }
+        ensures ok { IfOk result (λ w. Appends (K.bytes sink) (las_unfinished form []) (K.bytes w.sink)) }
+        ensures holds { IfOk result (λ w. IsAsTold (K.bytes sink) (Some [])
+            → holds_las (K.bytes w.sink) form w.totals [] ≡ true) }
+        ensures totals { IfOk result (λ w. w.totals ≡ totals_of form []) }
+        ensures form { IfOk result (λ w. w.form ≡ form) }
+        ensures later { IfOk result (λ w. K.faults sink ≤ K.faults w.sink) }
+        ensures failed { IfErr result (λ e. e.1 ≡ BeginErr.Failed → Rose (K.faults sink) (K.faults e.0)) }
+        ensures count { IfErr result (λ e. K.faults sink ≤ K.faults e.0) }
+    {
+        let Ok(buffer) = vec![in alloc; 0u8; CHUNK_ROOM] else {
+            return Err((sink, BeginErr::Memory));
+        };
+        let start = points_at(form.vlrs.as_slice());
+        let totals = Totals::none();
+        let mut sink = sink;
+        match put_front(&form, start, &totals, &mut sink) {
+            Ok(()) => Ok(LasWriter {
+                sink,
+                form,
+                start,
+                totals,
+                buffer,
+            }),
+            Err(_) => Err((sink, BeginErr::Failed)),
+        }
+    }
+
+    /// Appends the records of a chunk of points, in their order, with one call of the sink.
+    ///
+    /// It is `Refused` exactly where a point has no record, with the first such point, and changes nothing then. It is
+    /// `Failed` only where the sink failed. A prefix of the records was appended then.
+    pub fn put_all(&mut self, points: &[Point]) -> Result<(), ChunkErr>
+        requires { length points.now ≤ MOST_POINTS }
+        ensures ok { OnOk result (Appends (K.bytes self.old.sink) (records self.old.form points.now)
+            (K.bytes self.new.sink)) }
+        ensures held { OnOk result (refusal self.old.form points.now ≡ None) }
+        ensures totals { OnOk result ((before : List Point)
+            → self.old.totals ≡ totals_of self.old.form before
+            → self.new.totals ≡ totals_of self.old.form (before ++ points.now)) }
+        ensures holds { (result ≡ Err ChunkErr.Failed → ⊥) → (before : List Point)
+            → holds_las (K.bytes self.old.sink) self.old.form self.old.totals before ≡ true
+            → holds_las (K.bytes self.new.sink) self.old.form self.new.totals (before ++ points.now) ≡ true }
+        ensures refused { IfErr result (IsRefused self.old.form points.now) }
+        ensures unchanged { IfErr result (λ e. (e ≡ ChunkErr.Failed → ⊥) → self.new.sink ≡ self.old.sink) }
+        ensures part { OnErr result (AppendsPart (K.bytes self.old.sink) (records self.old.form points.now)
+            (K.bytes self.new.sink)) }
+        ensures same_totals { OnErr result (self.new.totals ≡ self.old.totals) }
+        ensures form { self.new.form ≡ self.old.form }
+        ensures failed { IfErr result (λ e. e ≡ ChunkErr.Failed
+            → Rose (K.faults self.old.sink) (K.faults self.new.sink)) }
+        ensures later { K.faults self.old.sink ≤ K.faults self.new.sink }
+    {
+        let mut totals = self.totals;
+        let size = match put_records(points, &self.form, &mut self.buffer, &mut totals) {
+            Ok(size) => size,
+            Err(refused) => return Err(ChunkErr::Refused(refused)),
+        };
+        match self.sink.append(&self.buffer[..size]) {
+            Ok(()) => {
+                self.totals = totals;
+                Ok(())
+            }
+            Err(_) => Err(ChunkErr::Failed),
+        }
+    }
+
+    /// Appends the record of a point.
+    ///
+    /// It is `NotHeld` or `ValueOutOfRange` exactly where the point has no record, and changes nothing then. It is `Failed`
+    /// only where the sink failed. A prefix of the record was appended then.
+    pub fn put(&mut self, point: &Point) -> Result<(), PutFault>
+        ensures ok { OnOk result (Appends (K.bytes self.old.sink) (records self.old.form (point.now ∷ []))
+            (K.bytes self.new.sink)) }
+        ensures held { OnOk result (refusal self.old.form (point.now ∷ []) ≡ None) }
+        ensures totals { OnOk result ((before : List Point)
+            → self.old.totals ≡ totals_of self.old.form before
+            → self.new.totals ≡ totals_of self.old.form (before ++ point.now ∷ [])) }
+        ensures holds { OnOk result ((before : List Point)
+            → holds_las (K.bytes self.old.sink) self.old.form self.old.totals before ≡ true
+            → holds_las (K.bytes self.new.sink) self.old.form self.new.totals
+            (before ++ point.now ∷ []) ≡ true) }
+        ensures refused { IfErr result (IsPutFault (written self.old.form point.now)) }
+        ensures unchanged { IfErr result (λ e. (e ≡ PutFault.Failed → ⊥) → self.new.sink ≡ self.old.sink) }
+        ensures part { OnErr result (AppendsPart (K.bytes self.old.sink)
+            (records self.old.form (point.now ∷ [])) (K.bytes self.new.sink)) }
+        ensures same_totals { OnErr result (self.new.totals ≡ self.old.totals) }
+        ensures form { self.new.form ≡ self.old.form }
+        ensures failed { IfErr result (λ e. e ≡ PutFault.Failed
+            → Rose (K.faults self.old.sink) (K.faults self.new.sink)) }
+        ensures later { K.faults self.old.sink ≤ K.faults self.new.sink }
+    {
+        let alone = [*point];
+        match self.put_all(&alone) {
+            Ok(()) => Ok(()),
+            Err(e) => Err(put_fault(e)),
+        }
+    }
+
+    /// Appends the EVLRs, puts a header with the totals of the points in place of the one in front, and has the sink write
+    /// what it holds back, by appending nothing.
+    ///
+    /// It is `Failed` only where the sink failed. What the sink holds then is no file.
+    pub fn finish(&mut self) -> Result<(), Failed>
+        ensures ok { OnOk result ((points : List Point)
+            → holds_las (K.bytes self.old.sink) self.old.form self.old.totals points ≡ true
+            → refusal self.old.form points ≡ None
+            → IsAsTold (K.bytes self.new.sink) (Some (las_output self.old.form points))) }
+        ensures form { self.new.form ≡ self.old.form }
+        ensures cause { HasCause (K.faults self.old.sink) (K.faults self.new.sink) result }
+    {
+        known_fields(&self.form);
+        known_u32(self.start);
+        put_evlrs(self.form.evlrs.as_slice(), &mut self.sink)?;
+        patch_header(&self.form, self.start, &self.totals, &mut self.sink)?;
+        self.sink.append(&[])
+    }
+
+    /// The sink, with the writer ended.
+    pub fn release(self) -> K
+        ensures { result ≡ self.sink }
+    {
+        let LasWriter {
+            sink,
+            form: _,
+            start: _,
+            totals: _,
+            buffer: _,
+        } = self;
+        sink
+    }
+}
