@@ -54,7 +54,7 @@ unread_at m stages i = unread m i (role_at stages i)
 
 -- a file without points
 abbrev pub no_las : Las
-no_las = record { points = []; cut = None }
+no_las = record { points = []; fault = None }
 
 -- what was read, or nothing
 abbrev pub las_or : Result Las Refusal → Las
