@@ -16,6 +16,10 @@ fn put_piece(piece: &[u8], line: &mut [u8], end: usize) -> usize
     ensures start { result + length piece.now ≡ end }
     ensures written { drop result line.new ≡ piece.now ++ drop end line.old }
 {
+    if let [byte] = piece {
+        line[end - 1] = *byte;
+        return end - 1;
+    }
     let start = end - piece.len();
     line[start..end].copy_from_slice(piece);
     start
