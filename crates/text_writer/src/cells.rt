@@ -1,6 +1,6 @@
 //! The cells of a line.
 
-ghost use Rattle.std.specs.Prelude.{◌≡◌, ◌+◌, ◌≤◌, ◌<◌, ◌++◌, ◌∷◌, length, take, drop, decimal};
+ghost use Rattle.std.specs.Prelude.{◌≡◌, ◌+◌, ◌≤◌, ◌<◌, ◌++◌, ◌∷◌, length, take, drop};
 ghost use Rattle.cloud_points.specs.Dims.{kind_of};
 ghost use Rattle.cloud_points.specs.Points.{get, whole};
 ghost use Rattle.cloud_points.specs.declared.dims.Kind.TheVariants.{Fixed, Whole};
@@ -82,6 +82,7 @@ fn put_hex(word: u64, line: &mut [u8], end: usize) -> usize
 }
 
 /// Writes a time's word so that it ends at `end`.
+#[inline(never)]
 fn put_time(word: u64, line: &mut [u8], end: usize) -> usize
     requires room { 18 ≤ end }
     requires within { end ≤ length line.old }
@@ -122,15 +123,16 @@ fn put_nano(nano: i64, places: u32, line: &mut [u8], end: usize) -> usize
     }
 }
 
-/// Writes a whole number so that it ends at `end`.
-fn put_whole(number: u16, line: &mut [u8], end: usize) -> usize
+/// Writes a point's value in a dimension of whole numbers so that it ends at `end`.
+#[inline(never)]
+fn put_whole(point: &Point, dim: Dim, line: &mut [u8], end: usize) -> usize
     requires room { 21 ≤ end }
     requires within { end ≤ length line.old }
     ensures start { result ≤ end }
     ensures short { end ≤ result + 21 }
-    ensures written { drop result line.new ≡ decimal number ++ drop end line.old }
+    ensures written { kind_of dim ≡ Whole → drop result line.new ≡ fixed_text (get point.now dim) 0 ++ drop end line.old }
 {
-    write_digits(number as u64, line, end)
+    write_digits(whole_of(point, dim) as u64, line, end)
 }
 
 /// Writes a cell so that it ends at `end`, and answers where it starts.
@@ -144,7 +146,7 @@ pub(crate) fn put_cell(point: &Point, column: &Column, line: &mut [u8], end: usi
 {
     match column.dim.kind() {
         Kind::Fixed => put_nano(nano_of(point, column.dim), column.places, line, end),
-        Kind::Whole => put_whole(whole_of(point, column.dim), line, end),
+        Kind::Whole => put_whole(point, column.dim, line, end),
         Kind::Word => put_time(point.gps_time, line, end),
     }
 }
