@@ -42,11 +42,26 @@ fn is_field(name: &str) -> bool
 {
     matches!(
         name,
-        "all" | "header" | "format" | "scale" | "offset" | "vlr"
-            | "dataformat_id" | "filesource_id" | "global_encoding" | "project_id"
-            | "system_id" | "software_id" | "creation_doy" | "creation_year"
-            | "scale_x" | "scale_y" | "scale_z"
-            | "offset_x" | "offset_y" | "offset_z"
+        "all"
+            | "header"
+            | "format"
+            | "scale"
+            | "offset"
+            | "vlr"
+            | "dataformat_id"
+            | "filesource_id"
+            | "global_encoding"
+            | "project_id"
+            | "system_id"
+            | "software_id"
+            | "creation_doy"
+            | "creation_year"
+            | "scale_x"
+            | "scale_y"
+            | "scale_z"
+            | "offset_x"
+            | "offset_y"
+            | "offset_z"
     )
 }
 

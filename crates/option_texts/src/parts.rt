@@ -19,7 +19,9 @@ pub(crate) fn trimmed(text: &str) -> &str
 fn are_word_bytes(bytes: &[u8]) -> bool
     ensures { result ≡ list_all (λ c. is_ascii_alphanumeric c || c == 95) bytes.now }
 {
-    bytes.iter().all(|b| b.is_ascii_alphanumeric() || *b == b'_')
+    bytes
+        .iter()
+        .all(|b| b.is_ascii_alphanumeric() || *b == b'_')
 }
 
 /// Whether a text is a name: a letter or `_`, and then letters, digits and `_`.

@@ -35,3 +35,11 @@ pub held_first : (old new : Option (List ℕ)) (f : TextForm) → IsAsTold old (
 held_first None new f told appends = holds_told new f [] (λ x e. let none : None ≡ Some x = appends x e in cc)
 held_first (Some b) new f told appends =
     holds_told new f [] (λ x e. ap (λ z. Some z) (append-nil (header_line f)) ∙ ap (option_map (λ z. z ++ header_line f)) (told b refl) ∙ appends x e)
+
+-- told bytes that hold the text are the text
+pub held_bytes : (b : List ℕ) (f : TextForm) (ps : List Point) → holds_text (Some b) f ps ≡ true → b ≡ text_output f ps
+held_bytes b f ps h = (bytes_eq-Decides b (text_output f ps)).0 h
+
+pub held_grow : (b c : List ℕ) (f : TextForm) (ps more : List Point) → holds_text (Some b) f ps ≡ true → holds_text (Some c) f (ps ++ more) ≡ true → c ≡ b ++ flat_map (text_line f) more
+held_grow b c f ps more was is =
+    held_bytes c f (ps ++ more) is ∙ text-append f ps more ∙ ap (λ z. z ++ flat_map (text_line f) more) (sym (held_bytes b f ps was))

@@ -1,45 +1,54 @@
 //! The cells of a line.
 
 ghost use Rattle.std.specs.Prelude.{◌≡◌, ◌+◌, ◌≤◌, ◌<◌, ◌++◌, ◌∷◌, length, take, drop};
-ghost use Rattle.cloud_points.specs.Points.{get};
+ghost use Rattle.cloud_points.specs.Dims.{kind_of};
+ghost use Rattle.cloud_points.specs.Points.{get, whole};
+ghost use Rattle.cloud_points.specs.declared.dims.Kind.TheVariants.{Fixed, Whole};
 ghost use Rattle.decimal_coords.specs.Fixed.{fixed_text};
 ghost use Rattle.text_writer.specs.Cells.{hex_digit, last_hex, cell};
 
 use crate::Column;
 use cloud_points::{Dim, Kind, Point};
 use decimal_coords::put_fixed;
+use itoa::write_digits;
 
-/// One unit in nanounits.
-const NANO: i64 = 1_000_000_000;
-
-/// The value in a dimension in nanounits, and 0 for a time.
+/// The value in a fixed dimension in nanounits, and 0 for the others.
 fn nano_of(point: &Point, dim: Dim) -> i64
-    ensures { result ≡ get point.now dim }
+    ensures { kind_of dim ≡ Fixed → result ≡ get point.now dim }
 {
     match dim {
         Dim::X => point.x,
         Dim::Y => point.y,
         Dim::Z => point.z,
-        Dim::Intensity => point.intensity as i64 * NANO,
-        Dim::ReturnNumber => point.return_number as i64 * NANO,
-        Dim::NumberOfReturns => point.number_of_returns as i64 * NANO,
-        Dim::ScanDirectionFlag => point.scan_direction_flag as i64 * NANO,
-        Dim::EdgeOfFlightLine => point.edge_of_flight_line as i64 * NANO,
-        Dim::Classification => point.classification as i64 * NANO,
-        Dim::Synthetic => point.synthetic as i64 * NANO,
-        Dim::KeyPoint => point.key_point as i64 * NANO,
-        Dim::Withheld => point.withheld as i64 * NANO,
-        Dim::Overlap => point.overlap as i64 * NANO,
-        Dim::ScanChannel => point.scan_channel as i64 * NANO,
         Dim::ScanAngleRank => point.scan_angle_rank,
-        Dim::UserData => point.user_data as i64 * NANO,
-        Dim::PointSourceId => point.point_source_id as i64 * NANO,
-        Dim::GpsTime => 0,
-        Dim::Red => point.red as i64 * NANO,
-        Dim::Green => point.green as i64 * NANO,
-        Dim::Blue => point.blue as i64 * NANO,
-        Dim::Infrared => point.infrared as i64 * NANO,
         Dim::Extra(place) => point.extra[place.min(7) as usize],
+        _ => 0,
+    }
+}
+
+/// The value in a dimension of whole numbers, and 0 for the others.
+fn whole_of(point: &Point, dim: Dim) -> u16
+    ensures { kind_of dim ≡ Whole → get point.now dim ≡ whole result }
+{
+    match dim {
+        Dim::Intensity => point.intensity,
+        Dim::ReturnNumber => point.return_number as u16,
+        Dim::NumberOfReturns => point.number_of_returns as u16,
+        Dim::ScanDirectionFlag => point.scan_direction_flag as u16,
+        Dim::EdgeOfFlightLine => point.edge_of_flight_line as u16,
+        Dim::Classification => point.classification as u16,
+        Dim::Synthetic => point.synthetic as u16,
+        Dim::KeyPoint => point.key_point as u16,
+        Dim::Withheld => point.withheld as u16,
+        Dim::Overlap => point.overlap as u16,
+        Dim::ScanChannel => point.scan_channel as u16,
+        Dim::UserData => point.user_data as u16,
+        Dim::PointSourceId => point.point_source_id,
+        Dim::Red => point.red,
+        Dim::Green => point.green,
+        Dim::Blue => point.blue,
+        Dim::Infrared => point.infrared,
+        _ => 0,
     }
 }
 
@@ -73,6 +82,7 @@ fn put_hex(word: u64, line: &mut [u8], end: usize) -> usize
 }
 
 /// Writes a time's word so that it ends at `end`.
+#[inline(never)]
 fn put_time(word: u64, line: &mut [u8], end: usize) -> usize
     requires room { 18 ≤ end }
     requires within { end ≤ length line.old }
@@ -97,6 +107,34 @@ fn put_value(nano: i64, places: u32, line: &mut [u8], end: usize) -> usize
     put_fixed(nano, places, line, end)
 }
 
+/// The same, in which the usual numbers of places are constants, so that the compiler knows the divisors.
+fn put_nano(nano: i64, places: u32, line: &mut [u8], end: usize) -> usize
+    requires places { places ≤ 9 }
+    requires room { 21 ≤ end }
+    requires within { end ≤ length line.old }
+    ensures start { result ≤ end }
+    ensures short { end ≤ result + 21 }
+    ensures written { drop result line.new ≡ fixed_text nano places ++ drop end line.old }
+{
+    match places {
+        2 => put_value(nano, 2, line, end),
+        3 => put_value(nano, 3, line, end),
+        _ => put_value(nano, places, line, end),
+    }
+}
+
+/// Writes a point's value in a dimension of whole numbers so that it ends at `end`.
+#[inline(never)]
+fn put_whole(point: &Point, dim: Dim, line: &mut [u8], end: usize) -> usize
+    requires room { 21 ≤ end }
+    requires within { end ≤ length line.old }
+    ensures start { result ≤ end }
+    ensures short { end ≤ result + 21 }
+    ensures written { kind_of dim ≡ Whole → drop result line.new ≡ fixed_text (get point.now dim) 0 ++ drop end line.old }
+{
+    write_digits(whole_of(point, dim) as u64, line, end)
+}
+
 /// Writes a cell so that it ends at `end`, and answers where it starts.
 pub(crate) fn put_cell(point: &Point, column: &Column, line: &mut [u8], end: usize) -> usize
     requires places { column.now.places ≤ 9 }
@@ -107,8 +145,8 @@ pub(crate) fn put_cell(point: &Point, column: &Column, line: &mut [u8], end: usi
     ensures written { drop result line.new ≡ cell point.now column.now ++ drop end line.old }
 {
     match column.dim.kind() {
-        Kind::Fixed => put_value(nano_of(point, column.dim), column.places, line, end),
-        Kind::Whole => put_value(nano_of(point, column.dim), 0, line, end),
+        Kind::Fixed => put_nano(nano_of(point, column.dim), column.places, line, end),
+        Kind::Whole => put_whole(point, column.dim, line, end),
         Kind::Word => put_time(point.gps_time, line, end),
     }
 }

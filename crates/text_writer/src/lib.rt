@@ -9,5 +9,5 @@ mod lines;
 mod writer;
 
 pub use form::{BeginErr, Column, ColumnList, TextForm};
-pub use laws::{text_grows, whole_numbers_are_whole};
+pub use laws::{held_text_grows, text_grows, whole_numbers_are_whole};
 pub use writer::TextWriter;

@@ -10,6 +10,7 @@ use crate::{Column, TextForm};
 use cloud_points::Point;
 
 /// Writes a piece so that it ends at `end`, and answers where it starts.
+#[inline(never)]
 fn put_piece(piece: &[u8], line: &mut [u8], end: usize) -> usize
     requires room { length piece.now ≤ end }
     requires within { end ≤ length line.old }
@@ -19,6 +20,20 @@ fn put_piece(piece: &[u8], line: &mut [u8], end: usize) -> usize
     let start = end - piece.len();
     line[start..end].copy_from_slice(piece);
     start
+}
+
+/// Writes a delimiter so that it ends at `end`, and answers where it starts. Mostly it is a single byte.
+fn put_delimiter(delimiter: &[u8], line: &mut [u8], end: usize) -> usize
+    requires room { length delimiter.now ≤ end }
+    requires within { end ≤ length line.old }
+    ensures start { result + length delimiter.now ≡ end }
+    ensures written { drop result line.new ≡ delimiter.now ++ drop end line.old }
+{
+    if let [byte] = delimiter {
+        line[end - 1] = *byte;
+        return end - 1;
+    }
+    put_piece(delimiter, line, end)
 }
 
 /// Writes a cell with the delimiter in front so that it ends at `end`, and answers where they start.
@@ -32,7 +47,7 @@ fn put_field(point: &Point, column: &Column, delimiter: &[u8], line: &mut [u8], 
     ensures written { drop result line.new ≡ delimiter.now ++ cell point.now column.now ++ drop end line.old }
 {
     let at = put_cell(point, column, line, end);
-    put_piece(delimiter, line, at)
+    put_delimiter(delimiter, line, at)
 }
 
 /// Writes the cells, each with the delimiter in front, so that they end at `end`, and answers where they start.
