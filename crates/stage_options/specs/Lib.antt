@@ -1,5 +1,4 @@
 pub mod Binding
-pub mod Bounded
 pub mod Faults
 pub mod Kinds
 pub mod Outputs

@@ -1,7 +1,7 @@
 //! Values of options within the bounds of their table.
 
 ghost use Rattle.std.specs.Prelude.{◌≡◌, ◌≤◌, length};
-ghost use Rattle.stage_options.specs.Bounded.{AreFields};
+ghost use Rattle.forward_rules.specs.Options.{AreGoodOptions};
 
 use file_devices::Name;
 use forward_rules::LasOpts;
@@ -75,7 +75,8 @@ impl Delimiter {
     }
 }
 
-/// What a LAS writer is told of its file, which contracts see as `LasOpts`: a version is 1.4, and offsets are below 10^9 in size.
+/// What a LAS writer is told of its file, which contracts see as `LasOpts`: a version is 1.4,
+/// offsets are below 10^9 in size, and identifiers have at most 32 bytes.
 #[derive(Drop)]
 pub struct LasFields {
     fields: LasOpts,
@@ -83,19 +84,19 @@ pub struct LasFields {
 
 impl Model for LasFields {
     ghost use Rattle.forward_rules.specs.declared.options.LasOpts.{LasOpts as Fields};
-    ghost use Rattle.stage_options.specs.Bounded.{AreFields};
+    ghost use Rattle.forward_rules.specs.Options.{AreGoodOptions};
 
     ghost Value = { Fields };
 
     ghost view = { λ f. f.fields };
 
-    ghost invariant = { λ f. AreFields f.fields };
+    ghost invariant = { λ f. AreGoodOptions f.fields };
 }
 
 impl LasFields {
     /// These fields. It takes no memory.
     pub fn new(fields: LasOpts) -> Self
-        requires { AreFields fields }
+        requires { AreGoodOptions fields }
         ensures { result ≡ fields }
     {
         LasFields { fields }
@@ -104,7 +105,7 @@ impl LasFields {
     /// The fields.
     pub fn as_options(&self) -> &LasOpts
         ensures fields { result.now ≡ self.now }
-        ensures bounded { AreFields result.now }
+        ensures bounded { AreGoodOptions result.now }
     {
         &self.fields
     }

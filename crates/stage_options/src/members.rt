@@ -161,7 +161,8 @@ fn identifier_in(
     options: &Map<String, Value>,
     name: &str,
 ) -> Result<Option<Name>, AllocError>
-    ensures { IfOk result (λ o. o ≡ text_in 0 32 name.now (members_view options.now.entries)) }
+    ensures value { IfOk result (λ o. o ≡ text_in 0 32 name.now (members_view options.now.entries)) }
+    ensures short { IfOk result (λ o. IfSome o (λ name. length name ≤ 32)) }
 {
     match text_in(options, 0, 32, name) {
         Some(text) => Ok(Some(name_of(alloc, text)?)),
