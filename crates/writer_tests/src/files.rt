@@ -1,0 +1,145 @@
+//! Files that are written onto sinks in memory.
+
+use crate::samples::{BOUNDS, new_point, old_points, plain};
+use cloud_points::{Dim, MOST_POINTS, Point};
+use decimal_coords::Scale;
+use file_devices::{MemOut, SureOut};
+use las_header::Format;
+use las_writer::{BeginErr, ChunkErr, LasWriter, PutFault, Refused};
+use point_formats::EncodeFault;
+use std::alloc::Global;
+
+/// Pieces of a file without points, in format 3, and their places.
+const EMPTY: [(usize, &[u8]); 7] = [
+    (0, b"LASF"),
+    (24, &[1, 4]),
+    (26, b"lasline\0"),
+    (58, b"lasline 1\0"),
+    (94, &[0x77, 1, 0x77, 1, 0, 0]),
+    (104, &[3, 0x22, 0]),
+    (147, &[0x7B, 0x14, 0xAE, 0x47, 0xE1, 0x7A, 0x84, 0x3F]),
+];
+
+/// Pieces of a file of two points in format 0: legacy counts, bounds, counts and records.
+const TWO: [(usize, &[u8]); 4] = [
+    (107, &[2, 0, 0, 0, 2, 0, 0, 0]),
+    (179, &BOUNDS),
+    (247, &[2, 0, 0, 0, 0, 0, 0, 0, 2, 0, 0, 0, 0, 0, 0, 0]),
+    (
+        375,
+        &[
+            0x64, 0, 0, 0, 0xC8, 0, 0, 0, 0x2C, 1, 0, 0, 0, 0, 9, 2, 0, 0, 0, 0, 0xFF, 0xFF, 0xFF,
+            0xFF, 0, 0, 0, 0, 5, 0, 0, 0, 0, 0, 9, 2, 0, 0, 0, 0,
+        ],
+    ),
+];
+
+/// Pieces of a file of one point in format 6: the encoding, no legacy counts, the counts and the record.
+const NEW: [(usize, &[u8]); 4] = [
+    (6, &[16, 0]),
+    (107, &[0; 8]),
+    (319, &[1]),
+    (
+        375,
+        &[
+            0x64, 0, 0, 0, 0xC8, 0, 0, 0, 0x2C, 1, 0, 0, 5, 0, 0x99, 0x60, 2, 7, 0xC4, 9, 1, 0, 0,
+            0, 0, 0, 0, 0, 0xF0, 0x3F,
+        ],
+    ),
+];
+
+/// The bytes of the file of these points, written in one chunk.
+fn written(alloc: Global, format: Format, points: &[Point]) -> Option<Vec<u8>> {
+    if points.len() > MOST_POINTS {
+        return None;
+    }
+    let sink = SureOut::new(alloc, 1000).ok()?;
+    let form = plain(alloc, format, Scale::new(10_000_000)?);
+    let Ok(mut writer) = LasWriter::begin(alloc, sink, form) else {
+        return None;
+    };
+    let put = writer.put_all(points).is_ok();
+    let finished = writer.finish().is_ok();
+    let sink = writer.release();
+    if !put || !finished {
+        return None;
+    }
+    Vec::from_slice(alloc, sink.bytes()?).ok()
+}
+
+/// Whether a file has so many bytes, and these pieces at their places.
+fn has(file: Option<Vec<u8>>, size: usize, pieces: &[(usize, &[u8])]) -> bool {
+    let Some(file) = file else { return false };
+    file.len() == size
+        && pieces.iter().all(|(at, piece)| file
+            .get(*at..)
+            .is_some_and(|rest| rest.starts_with(piece)))
+}
+
+#[test]
+fn a_file_has_its_header_and_its_records(rt: HostRuntime) {
+    let alloc = rt.alloc();
+    assert!(rt; has(written(alloc, Format::F3, &[]), 375, &EMPTY));
+    assert!(rt; has(written(alloc, Format::F0, &old_points()), 415, &TWO));
+    assert!(rt; has(written(alloc, Format::F6, &[new_point()]), 405, &NEW));
+}
+
+/// What a writer of format 1 answers to a chunk whose second point has no record, and to that point alone; and the bytes that
+/// were appended.
+fn refused(alloc: Global) -> Option<(Result<(), ChunkErr>, Result<(), PutFault>, usize)> {
+    let sink = SureOut::new(alloc, 1000).ok()?;
+    let form = plain(alloc, Format::F1, Scale::new(10_000_000)?);
+    let Ok(mut writer) = LasWriter::begin(alloc, sink, form) else {
+        return None;
+    };
+    let [first, _] = old_points();
+    let all = writer.put_all(&[first, new_point()]);
+    let alone = writer.put(&new_point());
+    let sink = writer.release();
+    Some((all, alone, sink.bytes()?.len()))
+}
+
+#[test]
+fn a_point_without_a_record_is_refused(rt: HostRuntime) {
+    let why = EncodeFault::ValueOutOfRange(Dim::ReturnNumber);
+    assert_eq!(rt;
+        refused(rt.alloc()),
+        Some((
+            Err(ChunkErr::Refused(Refused { at: 1, why })),
+            Err(PutFault::ValueOutOfRange(Dim::ReturnNumber)),
+            375
+        ))
+    );
+}
+
+/// Which calls fail on a sink of which one call does: `begin`, `put_all` and `finish`.
+fn failing(alloc: Global, call: u64) -> Option<[bool; 3]> {
+    let calls = vec![in alloc; call].ok()?;
+    let sink = MemOut::new(alloc, 1000, calls).ok()?;
+    let form = plain(alloc, Format::F0, Scale::new(10_000_000)?);
+    match LasWriter::begin(alloc, sink, form) {
+        Ok(mut writer) => {
+            let put = writer.put_all(&old_points()) == Err(ChunkErr::Failed);
+            let finished = writer.finish().is_err();
+            drop(writer.release());
+            Some([false, put, finished])
+        }
+        Err((_, e)) => Some([e == BeginErr::Failed, false, false]),
+    }
+}
+
+/// The header, the records, the patched header, and the empty piece that has the sink write all.
+const FAILURES: [(u64, [bool; 3]); 5] = [
+    (1, [true, false, false]),
+    (2, [false, true, false]),
+    (3, [false, false, true]),
+    (4, [false, false, true]),
+    (5, [false, false, false]),
+];
+
+#[test]
+fn a_failed_sink_is_told(rt: HostRuntime) {
+    for (call, which) in FAILURES {
+        assert_eq!(rt; failing(rt.alloc(), call), Some(which), "at {call}");
+    }
+}

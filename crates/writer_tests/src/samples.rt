@@ -1,0 +1,102 @@
+//! Forms and points to write.
+
+ghost use Rattle.std.specs.Prelude.{IfOk};
+ghost use Rattle.forward_rules.specs.Options.{AreGoodOptions};
+ghost use Rattle.las_writer.specs.LasOutput.{IsForm};
+
+use cloud_points::Point;
+use decimal_coords::Scale;
+use file_devices::Name;
+use forward_rules::{LasForm, LasOpts, NameList};
+use las_header::Format;
+use las_vlr::VlrList;
+use std::alloc::{AllocError, Global};
+
+/// The bounds of the two points, greatest and least of each axis.
+pub(crate) const BOUNDS: [u8; 48] = [
+    0, 0, 0, 0, 0, 0, 0xF0, 0x3F, 0x7B, 0x14, 0xAE, 0x47, 0xE1, 0x7A, 0x84, 0xBF, 0, 0, 0, 0, 0, 0,
+    0, 0x40, 0, 0, 0, 0, 0, 0, 0, 0, 0, 0, 0, 0, 0, 0, 8, 0x40, 0x9A, 0x99, 0x99, 0x99, 0x99, 0x99,
+    0xA9, 0x3F,
+];
+
+/// A text, filled with zero bytes.
+fn text(start: &[u8]) -> [u8; 32] {
+    let mut all = [0; 32];
+    for (cell, byte) in all.iter_mut().zip(start) {
+        *cell = *byte;
+    }
+    all
+}
+
+/// The form of a file that nothing is said of, but its format.
+pub(crate) fn plain(alloc: Global, format: Format, scale: Scale) -> LasForm
+    ensures { IsForm result }
+{
+    LasForm {
+        format,
+        minor: 4,
+        scale: [scale; 3],
+        offset: [0; 3],
+        source_id: 0,
+        encoding: 0,
+        guid: [0; 16],
+        system: text(b"lasline"),
+        software: text(b"lasline 1"),
+        day: 0,
+        year: 0,
+        vlrs: VlrList::new(Vec::new(alloc)),
+        evlrs: VlrList::new(Vec::new(alloc)),
+    }
+}
+
+/// Options that forward these names, and give a source id.
+pub(crate) fn options(
+    alloc: Global,
+    forward: &[&str],
+    source_id: Option<u16>,
+) -> Result<LasOpts, AllocError>
+    ensures { IfOk result AreGoodOptions }
+{
+    let mut names = Vec::new(alloc);
+    for name in forward {
+        names.push(Name::new(String::from_str(alloc, name)?))?;
+    }
+    Ok(LasOpts {
+        format: None,
+        minor: None,
+        scale: [None; 3],
+        offset: [None; 3],
+        forward: NameList::new(names),
+        source_id,
+        encoding: None,
+        day: None,
+        year: None,
+        system: None,
+        software: None,
+    })
+}
+
+/// Two points that every format holds.
+pub(crate) fn old_points() -> [Point; 2] {
+    let mut first = Point::zero();
+    (first.x, first.y, first.z) = (1_000_000_000, 2_000_000_000, 3_000_000_000);
+    (first.return_number, first.number_of_returns) = (1, 1);
+    first.classification = 2;
+    let mut second = first;
+    (second.x, second.y, second.z) = (-10_000_000, 0, 50_000_000);
+    [first, second]
+}
+
+/// A point of return number 9, which formats 6 to 8 alone hold.
+pub(crate) fn new_point() -> Point {
+    let mut point = Point::zero();
+    (point.x, point.y, point.z) = (1_000_000_000, 2_000_000_000, 3_000_000_000);
+    point.intensity = 5;
+    (point.return_number, point.number_of_returns) = (9, 9);
+    (point.scan_channel, point.scan_direction_flag) = (2, 1);
+    (point.classification, point.user_data) = (2, 7);
+    point.scan_angle_rank = 15_000_000_000;
+    point.point_source_id = 1;
+    point.gps_time = 0x3FF0_0000_0000_0000;
+    point
+}
