@@ -9,7 +9,7 @@ use Rattle.file_devices.specs.declared.devices.Source as source
 use Rattle.file_devices.specs.declared.devices.Sink as sink
 use Rattle.network_core.proofs.Opened.{some_at}
 use Rattle.run_report.specs.declared.report.StageCount.{StageCount}
-use Rattle.stage_runs.proofs.Works.{op-at-start}
+use Rattle.stage_kinds.specs.declared.file_form.FileForm.{FileForm}
 use Rattle.cloud_points.specs.declared.faults.PointFault.{PointFault}
 use Rattle.stage_kinds.specs.declared.stage_work.StageWork.{StageWork}
 use Rattle.stage_kinds.specs.declared.held.Held.{Held}
@@ -22,16 +22,16 @@ use Rattle.run_report.specs.declared.refusal.Refusal.{Refusal}
 use Rattle.run_report.specs.declared.refusal.Refusal.TheVariants as of
 use Rattle.run_report.specs.declared.refusal.Place.TheVariants as at
 use Rattle.run_report.specs.declared.refusal.Fault.TheVariants as fault
-use Rattle.answer_model.specs.Values.{Opened, options_at, role_at, unless_fault, evaluated, least_fault, outputs_of, counts_of}
-use Rattle.answer_model.specs.Runs.{Run, AreRead, holds, unread_at, unless_unread, run_with, run_of, opened_in}
+use Rattle.answer_model.specs.Values.{Opened, role_at, unbound_at, unless_fault, evaluated, least_fault, outputs_of, counts_of}
+use Rattle.answer_model.specs.Runs.{Run, AreRead, holds, unread_at, unless_unread, unless_unbound, run_with, run_over, run_of, opened_in}
 use Rattle.answer_model.proofs.Least.{least-nowhere}
 use Rattle.stage_runs.specs.Works.{op_for, Tells}
 use Rattle.las_reader.specs.declared.reader.LasReader.{LasReader}
 use Rattle.std.proofs.lemmas.List.Sums.{sum_by-cons}
 use Rattle.run_engine.specs.Begun.{AreBegun, there, all_held}
 use Rattle.run_engine.specs.Keeping.{AreFor, kept_first, BrokeOff}
-use Rattle.run_engine.specs.Cause.{IsCause, IsEarly, IsLeft, IsRun, WerePut, WerePutBefore, AtRole}
-use Rattle.run_engine.specs.Turns.{WorksTell, AreLater, CameToEnd, IsTurnsCause}
+use Rattle.run_engine.specs.Cause.{CanBegin, IsCause, IsEarly, IsLeft, IsRun, WerePut, WerePutBefore, AtRole}
+use Rattle.run_engine.specs.Turns.{WorksTell, AreLater, AreDone, IsTurnsCause, IsUnfinished, IsRunCause}
 use Rattle.run_engine.proofs.Puts.{outputs_below, were-put, before-below}
 
 -- an early refusal leaves the files as they were
@@ -51,20 +51,25 @@ early-left (of.Device (at.Stage i) op.Patch) old new expected early same = same
 early-left (of.Device (at.Stage i) op.Keep) old new expected early same = absurd early
 
 -- where all files are read, the answer is what the stages come to
-all-read : (m : Names) (stages : List StageSpec) → AreRead m stages (length stages) → run_of m stages ≡ run_with (evaluated stages (opened_in m stages))
-all-read m stages read = ap (λ o. unless_unread o (run_with (evaluated stages (opened_in m stages)))) (least-nowhere (unread_at m stages) (length stages) read)
+pub all-read : (m : Names) (stages : List StageSpec) → AreRead m stages (length stages) → run_of m stages ≡ run_over stages (opened_in m stages)
+all-read m stages read = ap (λ o. unless_unread o (run_over stages (opened_in m stages))) (least-nowhere (unread_at m stages) (length stages) read)
+
+-- and where all names are bound too, what they are evaluated to
+all-bound : (m : Names) (stages : List StageSpec) → CanBegin m stages → run_of m stages ≡ run_with (evaluated stages (opened_in m stages))
+all-bound m stages come = all-read m stages come.0
+    ∙ ap (λ o. unless_unbound o (run_with (evaluated stages (opened_in m stages)))) (least-nowhere (unbound_at stages (opened_in m stages)) (length stages) come.1)
 
 abbrev pub right_run : List StageSpec → Opened → Run
 right_run stages opened = record { outputs = outputs_of stages opened; report = report_of (counts_of stages opened) }
 
-pub run-right : (m : Names) (stages : List StageSpec) → AreRead m stages (length stages) → least_fault stages (opened_in m stages) ≡ None → run_of m stages ≡ Ok (right_run stages (opened_in m stages))
+pub run-right : (m : Names) (stages : List StageSpec) → CanBegin m stages → least_fault stages (opened_in m stages) ≡ None → run_of m stages ≡ Ok (right_run stages (opened_in m stages))
 unfolding evaluated
-run-right m stages read sound = all-read m stages read
+run-right m stages come sound = all-bound m stages come
     ∙ ap (λ f. run_with (unless_fault f (record { outputs = outputs_of stages (opened_in m stages); counts = counts_of stages (opened_in m stages) }))) sound
 
-pub run-fault : (m : Names) (stages : List StageSpec) (i : ℕ) (f : PointFault) → AreRead m stages (length stages) → least_fault stages (opened_in m stages) ≡ Some (i, f) → run_of m stages ≡ Err (of.Data i (fault.Point f))
+pub run-fault : (m : Names) (stages : List StageSpec) (i : ℕ) (f : PointFault) → CanBegin m stages → least_fault stages (opened_in m stages) ≡ Some (i, f) → run_of m stages ≡ Err (of.Data i (fault.Point f))
 unfolding evaluated
-run-fault m stages i f read found = all-read m stages read
+run-fault m stages i f come found = all-bound m stages come
     ∙ ap (λ f. run_with (unless_fault f (record { outputs = outputs_of stages (opened_in m stages); counts = counts_of stages (opened_in m stages) }))) found
 
 at-turns : (earlier all right : Type 0) (role : Role) (o : Op) → earlier → all → op_for role ≡ Some o → AtRole earlier all right role o
@@ -87,27 +92,36 @@ at-keeping earlier all right (Reads name) w r = cc
 at-keeping earlier all right Filters w r = cc
 at-keeping earlier all right (Writes name) w r = r
 
+-- a writer's device may fail as its file is finished
+at-finishing : (earlier all right : Type 0) (role : Role) (o : Op) → all → right → op_for role ≡ Some op.Write → (o ≡ op.Write) ⊎ (o ≡ op.Patch) → AtRole earlier all right role o
+at-finishing earlier all right (Reads name) o a r is named = cc
+at-finishing earlier all right Filters o a r is named = cc
+at-finishing earlier all right (Writes name) o a r is named = elim named [
+  | inl e ↦ subst (AtRole earlier all right (Writes name)) (sym e) a
+  | inr e ↦ subst (AtRole earlier all right (Writes name)) (sym e) r
+]
+
 -- a count that rose in a device rose in that of the files, once the device is given back
 rose-given : (before after files end : ℕ) → Rose before after → saturating files after ≤ end → Rose files end
 rose-given before after files end rose back = omega (arith, rose, back)
 
 module _ {S K : Type 0} (s : source.Ghosts S) (faults : StageWork S K → ℕ) (map : Option Names) (stages : List StageSpec) (old new : List (StageWork S K)) (start mid end : ℕ)
     (few : length old ≡ length stages)
-    (read : (m : Names) → map ≡ Some m → AreRead m stages (length stages))
+    (come : (m : Names) → map ≡ Some m → CanBegin m stages)
     (tells : (m : Names) → map ≡ Some m → WorksTell s old (opened_in m stages))
     (fit : (i : ℕ) (w : StageWork S K) → slice_get old i ≡ Some w → op_of w ≡ op_for (role_at stages i))
     (low : start ≤ mid) (back : (i : ℕ) (w : StageWork S K) → slice_get new i ≡ Some w → saturating mid (faults w) ≤ end) where
   pub turns-to-cause : (r : Refusal) → IsTurnsCause s faults stages old new r → IsCause (Rose start end) map stages r
   turns-to-cause of.Memory c = tt
-  turns-to-cause (of.Data i (fault.Point f)) c = λ m e. run-fault m stages i f (read m e) (c (opened_in m stages) (tells m e))
+  turns-to-cause (of.Data i (fault.Point f)) c = λ m e. run-fault m stages i f (come m e) (c (opened_in m stages) (tells m e))
   turns-to-cause (of.Data i (fault.Header f)) c = absurd c
   turns-to-cause (of.Data i (fault.Vlr f)) c = absurd c
   turns-to-cause (of.Device (at.Stage i) o) c = inr (
     (let a = rose-given (faults c.before) (faults c.after) mid end c.rose (back i c.after c.is) in omega (arith, a, low)),
     λ m e. (let inside : i < length stages = (let a = slice_get_within old i c.before c.was in omega (arith, a, few)) in record {
       inside = inside;
-      come = at-turns (AreRead m stages i) (AreRead m stages (length stages)) (IsOk (run_of m stages)) (role_at stages i) o
-          (λ j lt. read m e j (omega (arith, lt, inside))) (read m e) (sym (fit i c.before c.was) ∙ c.does);
+      come = at-turns (AreRead m stages i) (CanBegin m stages) (IsOk (run_of m stages)) (role_at stages i) o
+          (λ j lt. (come m e).0 j (omega (arith, lt, inside))) (come m e) (sym (fit i c.before c.was) ∙ c.does);
     }),
   )
   turns-to-cause (of.Device at.PipelineFile o) c = absurd c
@@ -115,6 +129,26 @@ module _ {S K : Type 0} (s : source.Ghosts S) (faults : StageWork S K → ℕ) (
   turns-to-cause (of.Pipeline f) c = absurd c
   turns-to-cause (of.Usage k) c = absurd c
   turns-to-cause (of.NotBuilt k) c = absurd c
+
+  unfinished-to-cause : (r : Refusal) → IsUnfinished faults old new r → ((opened : Opened) → WorksTell s old opened → least_fault stages opened ≡ None) → IsCause (Rose start end) map stages r
+  unfinished-to-cause (of.Device (at.Stage i) o) c sound = inr (
+    (let a = rose-given (faults c.before) (faults c.after) mid end c.rose (back i c.after c.is) in omega (arith, a, low)),
+    λ m e. record {
+      inside = (let a = slice_get_within old i c.before c.was in omega (arith, a, few));
+      come = at-finishing (AreRead m stages i) (CanBegin m stages) (IsOk (run_of m stages)) (role_at stages i) o (come m e)
+          (subst IsOk (sym (run-right m stages (come m e) (sound (opened_in m stages) (tells m e)))) refl) (sym (fit i c.before c.was) ∙ c.writes) c.named;
+    },
+  )
+  unfinished-to-cause (of.Device at.PipelineFile o) c sound = absurd c
+  unfinished-to-cause (of.Device at.Out o) c sound = absurd c
+  unfinished-to-cause (of.Data i f) c sound = absurd c
+  unfinished-to-cause of.Memory c sound = absurd c
+  unfinished-to-cause (of.Pipeline f) c sound = absurd c
+  unfinished-to-cause (of.Usage k) c sound = absurd c
+  unfinished-to-cause (of.NotBuilt k) c sound = absurd c
+
+  pub run-to-cause : (r : Refusal) → IsRunCause s faults stages old new r → IsCause (Rose start end) map stages r
+  run-to-cause r c = elim c [ inl t ↦ turns-to-cause r t | inr u ↦ unfinished-to-cause r u.0 u.1 ]
 
 -- no device fails in a keeping while stages take turns
 op-early : {S K : Type 0} (i : ℕ) (h : Held S K) (o : Op) → op_on h ≡ Some o → IsEarly (of.Device (at.Stage i) o)
@@ -137,6 +171,25 @@ turns-early s faults stages old new (of.Pipeline f) c = tt
 turns-early s faults stages old new (of.Usage k) c = tt
 turns-early s faults stages old new (of.NotBuilt k) c = tt
 
+named-early : (i : ℕ) (o : Op) → (o ≡ op.Write) ⊎ (o ≡ op.Patch) → IsEarly (of.Device (at.Stage i) o)
+named-early i o named = elim named [
+  | inl e ↦ subst (λ x. IsEarly (of.Device (at.Stage i) x)) (sym e) tt
+  | inr e ↦ subst (λ x. IsEarly (of.Device (at.Stage i) x)) (sym e) tt
+]
+
+unfinished-early : {S K : Type 0} (faults : StageWork S K → ℕ) (old new : List (StageWork S K)) (r : Refusal) → IsUnfinished faults old new r → IsEarly r
+unfinished-early faults old new (of.Device (at.Stage i) o) c = named-early i o c.named
+unfinished-early faults old new (of.Device at.PipelineFile o) c = tt
+unfinished-early faults old new (of.Device at.Out o) c = absurd c
+unfinished-early faults old new of.Memory c = tt
+unfinished-early faults old new (of.Data i f) c = tt
+unfinished-early faults old new (of.Pipeline f) c = tt
+unfinished-early faults old new (of.Usage k) c = tt
+unfinished-early faults old new (of.NotBuilt k) c = tt
+
+pub run-early : {S K : Type 0} (s : source.Ghosts S) (faults : StageWork S K → ℕ) (stages : List StageSpec) (old new : List (StageWork S K)) (r : Refusal) → IsRunCause s faults stages old new r → IsEarly r
+run-early s faults stages old new r c = elim c [ inl t ↦ turns-early s faults stages old new r t | inr u ↦ unfinished-early faults old new r u.0 ]
+
 module _ {S K : Type 0} (bytes : K → Option (List ℕ)) (stages : List StageSpec) (works : List (StageWork S K)) (few : length works ≡ length stages) where
   -- a file that wasn't kept is the cause, where the answer is right
   pub broke-cause : (rose : Type 0) (map old new : Option Names) (r : Refusal) → ((m : Names) → map ≡ Some m → IsOk (run_of m stages)) → BrokeOff bytes rose old new stages works r → IsCause rose map stages r
@@ -146,7 +199,7 @@ module _ {S K : Type 0} (bytes : K → Option (List ℕ)) (stages : List StageSp
       d.1,
       λ m e. record {
         inside = (let a = broke.inside in omega (arith, a, few));
-        come = at-keeping (AreRead m stages broke.stage) (AreRead m stages (length stages)) (IsOk (run_of m stages)) (role_at stages broke.stage) broke.writes (right m e);
+        come = at-keeping (AreRead m stages broke.stage) (CanBegin m stages) (IsOk (run_of m stages)) (role_at stages broke.stage) broke.writes (right m e);
       },
     ))
   ]
@@ -186,12 +239,12 @@ same-held faults old new later = held-same old new later.count (λ i v w e f. ap
 
 -- a run whose stages came to their end
 module _ {S K : Type 0} (s : source.Ghosts S) (k : sink.Ghosts K) (map : Option Names) (stages : List StageSpec) (works done : List (StageWork S K)) (few : length works ≡ length stages)
-    (begun : AreBegun s k map stages works) (read : (m : Names) → map ≡ Some m → AreRead m stages (length stages)) (faults : StageWork S K → ℕ) (later : AreLater faults works done) where
+    (readers : List (Option (LasReader S))) (forms : List (Option FileForm)) (begun : AreBegun s k map stages readers forms works) (come : (m : Names) → map ≡ Some m → CanBegin m stages) (faults : StageWork S K → ℕ) (later : AreLater faults works done) where
   pub works-tell : (m : Names) → map ≡ Some m → WorksTell s works (opened_in m stages)
   works-tell m e i w r a b = tells-there s m stages i r ((begun i w a).tells m e r b)
 
   pub starts-fit : (i : ℕ) (w : StageWork S K) → slice_get works i ≡ Some w → op_of w ≡ op_for (role_at stages i)
-  starts-fit i w e = op-at-start s k.bytes (options_at stages i) w (begun i w e).start
+  starts-fit i w e = (begun i w e).device
 
   pub fit : AreFor stages done
   fit i w e =
@@ -201,15 +254,15 @@ module _ {S K : Type 0} (s : source.Ghosts S) (k : sink.Ghosts K) (map : Option 
   size : length done ≡ length stages
   size = later.count ∙ few
 
-  module _ (counts : List StageCount) (came : (opened : Opened) → WorksTell s works opened → CameToEnd k.bytes stages opened done counts) where
-    at-end : (m : Names) → map ≡ Some m → CameToEnd k.bytes stages (opened_in m stages) done counts
+  module _ (counts : List StageCount) (came : (opened : Opened) → WorksTell s works opened → AreDone k.bytes stages opened done counts) where
+    at-end : (m : Names) → map ≡ Some m → AreDone k.bytes stages (opened_in m stages) done counts
     at-end m e = came (opened_in m stages) (works-tell m e)
 
     right : (m : Names) → map ≡ Some m → run_of m stages ≡ Ok (right_run stages (opened_in m stages))
-    right m e = run-right m stages (read m e) (at-end m e).sound
+    right m e = run-right m stages (come m e) (at-end m e).sound
 
     first-kept : (m : Names) → map ≡ Some m → (n : ℕ) → n ≤ length done → (new : Option Names) → new ≡ kept_first k.bytes n map stages done → WerePut map (outputs_below stages (opened_in m stages) n) new
-    first-kept m e n le new is = were-put stages (opened_in m stages) s k.bytes done fit (at-end m e).held n map new le is
+    first-kept m e n le new is = were-put stages (opened_in m stages) k.bytes done (at-end m e).told n map new le is
 
     pub is-run : (m : Names) → map ≡ Some m → (new : Option Names) → new ≡ kept_first k.bytes (length done) map stages done → IsOkAnd (run_of m stages) (IsRun map new counts)
     is-run m e new is = subst (λ o. IsOkAnd o (IsRun map new counts)) (sym (right m e)) (record {

@@ -1,5 +1,5 @@
 -- One work more is finished.
-use Rattle.std.proofs.Common.{◌≡◌, ℕ, ◌≤◌, ◌<◌, true, List, length, slice_get, Option, Some, refl, ap, sym, subst, ◌∙◌, arith, inl, inr, length-set}
+use Rattle.std.proofs.Common.{◌≡◌, ◌⊎◌, ℕ, ◌+◌, ◌≤◌, ◌<◌, true, List, length, slice_get, Option, Some, refl, ap, sym, subst, ◌∙◌, arith, inl, inr, length-set}
 use Rattle.std.specs.Prelude.{slice_set}
 use Rattle.std.proofs.lemmas.Bool.Decides.{eqb_tells}
 use Rattle.std.proofs.lemmas.Option.{slice_get_within}
@@ -7,11 +7,13 @@ use Rattle.circular_buffer.proofs.Places.{slice_get-set_same, slice_get-set_othe
 use Rattle.network_core.proofs.Opened.{some_at}
 use Rattle.file_devices.specs.Counts.{Rose}
 use Rattle.file_devices.specs.declared.devices.Op.{Op}
-use Rattle.cloud_points.specs.declared.point.Point.{Point}
+use Rattle.file_devices.specs.declared.devices.Op.TheVariants.{Write, Patch}
+use Rattle.std.proofs.lemmas.Option.{none-some}
+use Rattle.stage_kinds.specs.declared.stage_work.StageWork.TheVariants.{Reader, Head, Merge, Text, Las}
+use Rattle.stage_kinds.specs.Files.{finishing_op}
 use Rattle.stage_kinds.specs.declared.stage_work.StageWork.{StageWork}
 use Rattle.stage_kinds.specs.Held.{op_of}
-use Rattle.stage_kinds.specs.Stages.{holds_of}
-use Rattle.run_engine.specs.Turns.{AreLater, KeepHolding, FailedAt}
+use Rattle.run_engine.specs.Turns.{AreLater, UnfinishedAt}
 use Rattle.run_engine.proofs.Outcomes.{same_some}
 
 module _ {S K : Type 0} (bytes : K → Option (List ℕ)) (faults : StageWork S K → ℕ) (old now : List (StageWork S K)) (i : ℕ) (v w : StageWork S K)
@@ -33,19 +35,31 @@ module _ {S K : Type 0} (bytes : K → Option (List ℕ)) (faults : StageWork S 
     later = λ k x y e f. let m = at-place (λ a b. faults a ≤ faults b) count (λ a. omega arith) k y f in let a = later.later k x m.0 e m.1 in let b = m.2 in omega (arith, a, b);
   }
 
-  pub holds-more : ((ps : List Point) → holds_of bytes v ps ≡ true → holds_of bytes w ps ≡ true) → KeepHolding bytes old now → KeepHolding bytes old (slice_set now i w)
-  holds-more one keep k x y ps e f h =
-      let m = at-place (λ a b. holds_of bytes a ps ≡ true → holds_of bytes b ps ≡ true) (one ps) (λ a z. z) k y f in
-      m.2 (keep k x m.0 ps e m.1 h)
+  pub finished-more : (P : StageWork S K → StageWork S K → Type 0) (k : ℕ) → ((x : ℕ) (a b : StageWork S K) → x < i → slice_get old x ≡ Some a → slice_get now x ≡ Some b → P a b)
+      → ((a : StageWork S K) → slice_get old i ≡ Some a → P a w) → (x : ℕ) (a b : StageWork S K) → x < i + 1 → slice_get old x ≡ Some a → slice_get (slice_set now i w) x ≡ Some b → P a b
+  finished-more P k before one x a b lt e f = elim (eqb_tells x i) [
+    | inl p ↦ (let same = same_some w b (sym (slice_get-set_same now i w inside) ∙ ap (slice_get (slice_set now i w)) (sym p.1) ∙ f) in subst (P a) same (one a (sym (ap (slice_get old) p.1) ∙ e)))
+    | inr p ↦ (let ne = p.1 in before x a b (omega (arith, lt, ne)) e (sym (slice_get-set_other now i x w ne) ∙ f))
+  ]
 
-  pub fails-here : (o : Op) → op_of v ≡ Some o → Rose (faults v) (faults w) → FailedAt faults old (slice_set now i w) i o
-  fails-here o does rose =
-      let b = some_at old i (let a = inside in let c = later.count in omega (arith, a, c)) in
-      record {
-        before = b.0;
-        after = w;
-        was = b.1;
-        is = slice_get-set_same now i w inside;
-        does = sym (later.op i b.0 v b.1 here) ∙ does;
-        rose = (let a = later.later i b.0 v b.1 here in omega (arith, a, rose));
-      }
+  pub unfinished-here : (o : Op) → slice_get old i ≡ Some v → op_of v ≡ Some Write → (o ≡ Write) ⊎ (o ≡ Patch) → Rose (faults v) (faults w) → UnfinishedAt faults old (slice_set now i w) i o
+  unfinished-here o was writes named rose = record {
+    before = v;
+    after = w;
+    was = was;
+    is = slice_get-set_same now i w inside;
+    writes = writes;
+    named = named;
+    rose = rose;
+  }
+
+  pub left-more : (k : ℕ) → i < k → ((x : ℕ) → i ≤ x → slice_get now x ≡ slice_get old x) → (x : ℕ) → k ≤ x → slice_get (slice_set now i w) x ≡ slice_get old x
+  left-more k lt before x le = slice_get-set_other now i x w (λ e. absurd (omega (arith, lt, le, e))) ∙ before x (omega (arith, lt, le))
+
+-- a work whose file is finished by some operation writes, and that is an appending or a patch
+pub finishing-writes : {S K : Type 0} (w : StageWork S K) (o : Op) → finishing_op w ≡ Some o → (op_of w ≡ Some Write) × ((o ≡ Write) ⊎ (o ≡ Patch))
+finishing-writes (Reader r) o e = absurd (none-some o e)
+finishing-writes (Head h) o e = absurd (none-some o e)
+finishing-writes Merge o e = absurd (none-some o e)
+finishing-writes (Text t) o e = (refl, inl (sym (same_some Write o e)))
+finishing-writes (Las l) o e = (refl, inr (sym (same_some Patch o e)))

@@ -6,6 +6,7 @@ use Rattle.pipeline_json.specs.Lists.{has, times, is_empty}
 use Rattle.pipeline_json.specs.Stages.{Stage, taken}
 use Rattle.pipeline_json.specs.Trees.{IsTree}
 use Rattle.pipeline_json.proofs.Taken.{times-append}
+use Rattle.forward_rules.specs.Forwarded.{ReadFile}
 use Rattle.stage_names.specs.Kinds as names
 use Rattle.stage_kinds.specs.declared.stage_work.StageWork.{StageWork}
 use Rattle.stage_kinds.specs.Stages.{is_reader}
@@ -106,11 +107,11 @@ none-empty : (xs : List ℕ) → length xs ≡ 0 → is_empty xs ≡ true
 none-empty [] e = refl
 none-empty (x ∷ xs) e = absurd (omega (arith, e))
 
-leaf-inputs : {S K : Type 0} (source : source.Ghosts S) (bytes : K → Option (List ℕ)) (stages : List StageSpec) (i : ℕ) (s : StageSpec) (w : StageWork S K) → IsTree (shapes stages) → HaveOwnOptions stages → slice_get stages i ≡ Some s → IsAtStart bytes s.options w
+leaf-inputs : {S K : Type 0} (source : source.Ghosts S) (bytes : K → Option (List ℕ)) (stages : List StageSpec) (i : ℕ) (s : StageSpec) (w : StageWork S K) (reads : List ReadFile) → IsTree (shapes stages) → HaveOwnOptions stages → slice_get stages i ≡ Some s → IsAtStart bytes s.options reads w
     → (is_reader w ≡ true → length s.ins ≡ 0) × (length s.ins ≡ 0 → is_reader w ≡ true)
-leaf-inputs source bytes stages i s w tree own e start =
-    let reads : is_empty s.ins ≡ is_reader w = tree.readers i (shape s) (shape-at stages i s e) ∙ sym (start-reads source bytes s.options w start ∙ ap names.is_reader (own i s e)) in
-    (λ h. empty-none s.ins (reads ∙ h), λ h. sym reads ∙ none-empty s.ins h)
+leaf-inputs source bytes stages i s w reads tree own e start =
+    let none : is_empty s.ins ≡ is_reader w = tree.readers i (shape s) (shape-at stages i s e) ∙ sym (start-reads source bytes s.options reads w start ∙ ap names.is_reader (own i s e)) in
+    (λ h. empty-none s.ins (none ∙ h), λ h. sym none ∙ none-empty s.ins h)
 
 -- the stage at a place takes fewer than 2 ^ 32
 pub input-count : (stages : List StageSpec) (i : ℕ) (s : StageSpec) → IsTree (shapes stages) → i < length stages → slice_get stages i ≡ Some s → length s.ins ≤ 64
@@ -120,10 +121,10 @@ input-count stages i s tree lt e =
     let c = shapes-size stages in
     omega (arith, a, b, c, lt)
 
-pub leaf-at : {S K : Type 0} (source : source.Ghosts S) (bytes : K → Option (List ℕ)) (stages : List StageSpec) (i : ℕ) (w : StageWork S K) → IsTree (shapes stages) → HaveOwnOptions stages → i < length stages → IsAtStart bytes (options_at stages i) w
+pub leaf-at : {S K : Type 0} (source : source.Ghosts S) (bytes : K → Option (List ℕ)) (stages : List StageSpec) (i : ℕ) (w : StageWork S K) (reads : List ReadFile) → IsTree (shapes stages) → HaveOwnOptions stages → i < length stages → IsAtStart bytes (options_at stages i) reads w
     → (is_reader w ≡ true → length ((stage_at stages i).ins) ≡ 0) × (length ((stage_at stages i).ins) ≡ 0 → is_reader w ≡ true)
-leaf-at source bytes stages i w tree own lt start =
+leaf-at source bytes stages i w reads tree own lt start =
     let s = some_at stages i lt in
     let is = stage-is stages i s.0 s.1 in
     subst (λ (t : StageSpec). (is_reader w ≡ true → length t.ins ≡ 0) × (length t.ins ≡ 0 → is_reader w ≡ true)) (sym is)
-    (leaf-inputs source bytes stages i s.0 w tree own s.1 (subst (λ (t : StageSpec). IsAtStart bytes t.options w) is start))
+    (leaf-inputs source bytes stages i s.0 w reads tree own s.1 (subst (λ (t : StageSpec). IsAtStart bytes t.options reads w) is start))

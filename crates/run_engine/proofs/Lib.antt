@@ -13,3 +13,5 @@ pub mod Inputs
 pub mod Ran
 pub mod Puts
 pub mod Answers
+pub mod Bound
+pub mod Binding

@@ -1,5 +1,5 @@
 -- The readers of the first stages are opened.
-use Rattle.std.proofs.Common.{◌≡◌, ℕ, ◌<◌, List, length, slice_get, Option, Some, None, Err, IsOk, refl, ap, sym, subst, ◌∙◌, arith, inl, inr, true}
+use Rattle.std.proofs.Common.{◌≡◌, ℕ, ◌<◌, List, [], length, slice_get, Option, Some, None, is_some, Err, IsOk, refl, ap, sym, subst, ◌∙◌, arith, inl, inr, true, false, true≢false}
 use Rattle.std.specs.Prelude.{⊤}
 use Rattle.std.proofs.lemmas.Option.{get_or_from_slice_get}
 use Rattle.network_core.proofs.Opened.{some_at}
@@ -9,20 +9,25 @@ use Rattle.file_devices.specs.declared.devices.Op.TheVariants as op
 use Rattle.file_devices.specs.declared.devices.Source as source
 use Rattle.file_devices.specs.declared.devices.Sink as sink
 use Rattle.las_reader.specs.declared.reader.LasReader.{LasReader}
-use Rattle.stage_kinds.specs.declared.stage_work.StageWork.TheVariants.{Reader}
+use Rattle.forward_rules.specs.Forwarded.{ReadFile}
+use Rattle.stage_forms.specs.Below.{AreReaders, HaveReaders}
+use Rattle.stage_kinds.specs.declared.file_form.FileForm.{FileForm}
+use Rattle.stage_kinds.specs.declared.stage_work.StageWork.{StageWork}
+use Rattle.stage_kinds.specs.declared.stage_work.StageWork.TheVariants.{Reader, Head, Merge, Las, Text}
+use Rattle.stage_kinds.specs.Held.{op_of}
 use Rattle.stage_options.specs.Roles.{Role, Reads, Filters, Writes, role_of, is_reading}
 use Rattle.stage_options.specs.declared.options.Options.{Options}
 use Rattle.stage_options.specs.declared.stage.StageSpec.{StageSpec}
 use Rattle.run_report.specs.declared.refusal.Refusal.{Refusal}
 use Rattle.run_report.specs.declared.refusal.Refusal.TheVariants as of
 use Rattle.run_report.specs.declared.refusal.Place.TheVariants as at
-use Rattle.answer_model.specs.Values.{stage_at, role_at, evaluated}
-use Rattle.answer_model.specs.Runs.{AreRead, holds, unread, unread_at, unless_unread, run_with, run_of, opened_in}
-use Rattle.stage_runs.specs.Works.{Tells}
-use Rattle.stage_runs.proofs.Works.{reader-start}
+use Rattle.answer_model.specs.Values.{LasFile, stage_at, role_at}
+use Rattle.answer_model.specs.Runs.{AreRead, holds, unread, unread_at, unless_unread, run_over, run_of, opened_in}
+use Rattle.stage_runs.specs.Works.{IsAtStart, form_for, op_for, Tells}
+use Rattle.stage_runs.proofs.Works.{op-at-start, reader-start}
 use Rattle.answer_model.proofs.Least.{least-at}
-use Rattle.run_engine.specs.Begun.{IsReading, IsOpened, AreOpened, IsWork}
-use Rattle.run_engine.specs.Cause.{IsCause, IsUnopened, AtRole}
+use Rattle.run_engine.specs.Begun.{IsReading, IsOpened, AreOpened, IsWork, reader_of}
+use Rattle.run_engine.specs.Cause.{CanBegin, IsCause, IsUnopened, AtRole}
 
 -- a stage that stands at a place
 pub stage-is : (stages : List StageSpec) (i : ℕ) (s : StageSpec) → slice_get stages i ≡ Some s → stage_at stages i ≡ s
@@ -45,7 +50,7 @@ are-read s map stages readers count size are m e i lt =
 
 -- the first stage whose file can't be read is the answer
 pub first-unread : (m : Names) (stages : List StageSpec) (i : ℕ) (r : Refusal) → i < length stages → AreRead m stages i → unread_at m stages i ≡ Some r → run_of m stages ≡ Err r
-first-unread m stages i r lt before e = ap (λ o. unless_unread o (run_with (evaluated stages (opened_in m stages)))) (least-at (unread_at m stages) (length stages) i r lt e before)
+first-unread m stages i r lt before e = ap (λ o. unless_unread o (run_over stages (opened_in m stages))) (least-at (unread_at m stages) (length stages) i r lt e before)
 
 pub unopened-cause : (rose : Type 0) (map : Option Names) (stages : List StageSpec) (i : ℕ) (refusal : Refusal) → i < length stages → ((m : Names) → map ≡ Some m → AreRead m stages i)
     → IsUnopened rose map i (role_at stages i) refusal → IsCause rose map stages refusal
@@ -68,7 +73,7 @@ unopened-cause rose map stages i refusal lt read why = go (role_at stages i) ref
         f.0,
         λ m e. record {
           inside = lt;
-          come = subst (λ x. AtRole (AreRead m stages i) (AreRead m stages (length stages)) (IsOk (run_of m stages)) x o) (sym is) (at-reader (AreRead m stages i) (AreRead m stages (length stages)) (IsOk (run_of m stages)) name o (read m e) f.1);
+          come = subst (λ x. AtRole (AreRead m stages i) (CanBegin m stages) (IsOk (run_of m stages)) x o) (sym is) (at-reader (AreRead m stages i) (CanBegin m stages) (IsOk (run_of m stages)) name o (read m e) f.1);
         },
       )
     ])
@@ -86,17 +91,59 @@ unopened-cause rose map stages i refusal lt read why = go (role_at stages i) ref
     go (Reads name) is (of.NotBuilt k) w = absurd w
     go (Writes name) is (of.NotBuilt k) w = absurd w
 
+module _ {S : Type 0} (s : source.Ghosts S) (map : Option Names) (i : ℕ) where
+  pub by-reader : (role : Role) (r : LasReader S) → IsOpened s map i role (Some r) → (is_reading role ≡ true) × IsReading s map i role r
+  by-reader (Reads name) r h = (refl, h)
+  by-reader Filters r h = absurd h
+  by-reader (Writes name) r h = absurd h
+
+  -- a reader stands exactly where a stage reads
+  pub reader-there : (role : Role) (o : Option (LasReader S)) → IsOpened s map i role o → is_some o ≡ is_reading role
+  reader-there (Reads name) (Some r) h = refl
+  reader-there (Reads name) None h = absurd h
+  reader-there Filters (Some r) h = absurd h
+  reader-there Filters None h = refl
+  reader-there (Writes name) (Some r) h = absurd h
+  reader-there (Writes name) None h = refl
+
 -- an opened reader is the work of its stage
-pub reader-work : {S K : Type 0} (s : source.Ghosts S) (k : sink.Ghosts K) (map : Option Names) (i : ℕ) (o : Options) (r : LasReader S) → IsOpened s map i (role_of o) (Some r) → IsWork s k map i o (Reader r)
-reader-work {S} s k map i o r is = record {
-  start = reader-start s k.bytes o r (opened.0) (opened.1.start);
+pub reader-work : {S K : Type 0} (s : source.Ghosts S) (k : sink.Ghosts K) (map : Option Names) (i : ℕ) (o : Options) (r : LasReader S) (form : Option FileForm) → IsOpened s map i (role_of o) (Some r) → IsWork s k map i o (Some r) form (Reader r)
+reader-work {S} {K} s k map i o r form is = record {
+  reader = refl;
+  start = λ reads e. reader-start s k.bytes o reads r (opened.0) (opened.1.start);
+  device = op-at-start s k.bytes o [] (Reader r) (reader-start s k.bytes o [] r (opened.0) (opened.1.start));
   tells = λ m e q w. (let same : r ≡ q = cc in subst (λ (x : LasReader S). Tells s (λ j. holds m j (role_of o)) i x) same (opened.1.tells m e));
 }
   where
-    by_role : (role : Role) → IsOpened s map i role (Some r) → (is_reading role ≡ true) × IsReading s map i role r
-    by_role (Reads name) h = (refl, h)
-    by_role Filters h = absurd h
-    by_role (Writes name) h = absurd h
-
     opened : (is_reading (role_of o) ≡ true) × IsReading s map i (role_of o) r
-    opened = by_role (role_of o) is
+    opened = by-reader s map i (role_of o) r is
+
+-- a work that is no reader's is that of a stage that doesn't read
+pub other-work : {S K : Type 0} (s : source.Ghosts S) (k : sink.Ghosts K) (map : Option Names) (i : ℕ) (o : Options) (form : Option FileForm) (w : StageWork S K) → is_reading (role_of o) ≡ false
+    → op_of w ≡ op_for (role_of o) → ((reads : List ReadFile) → form ≡ form_for o reads → IsAtStart k.bytes o reads w) → IsWork s k map i o None form w
+other-work {S} {K} s k map i o form w inner device start = record {
+  reader = no_reader w device;
+  start = start;
+  device = device;
+  tells = λ m e r is. absurd (reads_not (role_of o) inner (ap op_of (sym is) ∙ device));
+}
+  where
+    reads_not : (role : Role) → is_reading role ≡ false → Some op.Read ≡ op_for role → ⊥
+    reads_not (Reads name) i e = absurd (true≢false i)
+    reads_not Filters i e = cc
+    reads_not (Writes name) i e = cc
+
+    no_reader : (w : StageWork S K) → op_of w ≡ op_for (role_of o) → reader_of w ≡ None
+    no_reader (Reader r) e = absurd (reads_not (role_of o) inner e)
+    no_reader (Head h) e = refl
+    no_reader Merge e = refl
+    no_reader (Las l) e = refl
+    no_reader (Text t) e = refl
+
+module _ {S : Type 0} (s : source.Ghosts S) (map : Option Names) (stages : List StageSpec) (readers : List (Option (LasReader S))) (are : AreOpened s map stages readers) where
+  pub are-readers : AreReaders stages readers
+  are-readers i o e = reader-there s map i (role_at stages i) o (are i o e)
+
+  -- the readers' files are those of the map
+  pub have-readers : (m : Names) → map ≡ Some m → HaveReaders readers (opened_in m stages)
+  have-readers m told i r e = ap (λ (x : LasFile). x.read) ((by-reader s map i (role_at stages i) r (are i (Some r) e)).1.tells m told).holds

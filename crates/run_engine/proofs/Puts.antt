@@ -12,15 +12,12 @@ use Rattle.file_devices.specs.Told.{IsAsTold}
 use Rattle.cloud_points.specs.Flows.{points}
 use Rattle.stage_kinds.specs.declared.stage_work.StageWork.{StageWork}
 use Rattle.stage_kinds.specs.Held.{told_by}
-use Rattle.stage_kinds.specs.Stages.{holds_of}
-use Rattle.stage_options.specs.Roles.{Role, Reads, Filters, Writes, is_reading}
+use Rattle.stage_options.specs.Roles.{Role, Reads, Filters, Writes, is_writing}
 use Rattle.stage_options.specs.declared.stage.StageSpec.{StageSpec}
-use Rattle.answer_model.specs.Values.{Opened, Output, options_at, role_at, row_at, written, output_at, stage_input}
+use Rattle.answer_model.specs.Values.{Opened, Output, role_at, row_at, written, output_at, stage_input}
 use Rattle.answer_model.specs.Runs.{put_all}
-use Rattle.stage_runs.proofs.Works.{written-is}
-use Rattle.file_devices.specs.declared.devices.Source as source
 use Rattle.run_engine.specs.Cause.{WerePut, outputs_before}
-use Rattle.run_engine.specs.Keeping.{AreFor, kept_one, kept_if, kept_first}
+use Rattle.run_engine.specs.Keeping.{kept_one, kept_if, kept_first}
 
 kept_told : (m : Names) (name text : List ℕ) (old : Option Names) (sink : Option (List ℕ)) → IsAsTold old (Some m) → IsAsTold sink (Some text) → IsAsTold (kept old name sink) (Some (put m name text))
 kept_told m name text None sink first told = λ x e. cc
@@ -74,7 +71,7 @@ module _ (stages : List StageSpec) (opened : Opened) where
       ap (outputs_before i) (below-more stages opened n)
       ∙ before_append i (outputs_below stages opened n) (output_at stages opened n)
       ∙ ap (λ xs. xs ++ outputs_before i (output_at stages opened n)) (before-all i n (omega (arith, h)))
-      ∙ ap (λ xs. outputs_below stages opened n ++ xs) (before-one i n (role_at stages n) ((row_at stages n).bytes (points (stage_input stages opened n))) (omega (arith, h)))
+      ∙ ap (λ xs. outputs_below stages opened n ++ xs) (before-one i n (role_at stages n) ((row_at stages opened n).bytes (points (stage_input stages opened n))) (omega (arith, h)))
       ∙ sym (below-more stages opened n)
 
   pub before-below : (i n : ℕ) → i ≤ n → outputs_before i (outputs_below stages opened n) ≡ outputs_below stages opened i
@@ -93,30 +90,29 @@ module _ (stages : List StageSpec) (opened : Opened) where
       by_place less (inl p) =
           ap (outputs_before i) (below-more stages opened n)
           ∙ before_append i (outputs_below stages opened n) (output_at stages opened n)
-          ∙ ap (λ xs. outputs_before i (outputs_below stages opened n) ++ xs) (before-none i n (role_at stages n) ((row_at stages n).bytes (points (stage_input stages opened n))) p)
+          ∙ ap (λ xs. outputs_before i (outputs_below stages opened n) ++ xs) (before-none i n (role_at stages n) ((row_at stages opened n).bytes (points (stage_input stages opened n))) p)
           ∙ append-nil (outputs_before i (outputs_below stages opened n))
           ∙ less p
       by_place less (inr p) = before-all i (suc n) (omega (arith, p)) ∙ ap (outputs_below stages opened) (sym p)
 
-  module _ {S K : Type 0} (s : source.Ghosts S) (bytes : K → Option (List ℕ)) (works : List (StageWork S K)) (fit : AreFor stages works)
-      (held : (i : ℕ) (w : StageWork S K) → slice_get works i ≡ Some w → is_reading (role_at stages i) ≡ false → holds_of bytes w (points (stage_input stages opened i)) ≡ true) where
+  module _ {S K : Type 0} (bytes : K → Option (List ℕ)) (works : List (StageWork S K))
+      (told : (i : ℕ) (w : StageWork S K) → slice_get works i ≡ Some w → is_writing (role_at stages i) ≡ true → IsAsTold (told_by bytes w) (Some ((row_at stages opened i).bytes (points (stage_input stages opened i))))) where
     one-put : (i : ℕ) (w : StageWork S K) (m : Names) (now : Option Names) → slice_get works i ≡ Some w → IsAsTold now (Some m) → IsAsTold (kept_one bytes now (role_at stages i) w) (Some (put_all m (output_at stages opened i)))
-    one-put i w m now e told = by_role (role_at stages i) refl
+    one-put i w m now e before = by_role (role_at stages i) refl
       where
-        by_role : (role : Role) → role_at stages i ≡ role → IsAsTold (kept_one bytes now role w) (Some (put_all m (written i role ((row_at stages i).bytes (points (stage_input stages opened i))))))
-        by_role (Reads name) is = told
-        by_role Filters is = told
-        by_role (Writes name) is = kept_told m name ((row_at stages i).bytes (points (stage_input stages opened i))) now (told_by bytes w) told
-            (written-is s bytes (options_at stages i) w (points (stage_input stages opened i)) (fit i w e) (held i w e (ap is_reading is)))
+        by_role : (role : Role) → role_at stages i ≡ role → IsAsTold (kept_one bytes now role w) (Some (put_all m (written i role ((row_at stages opened i).bytes (points (stage_input stages opened i))))))
+        by_role (Reads name) is = before
+        by_role Filters is = before
+        by_role (Writes name) is = kept_told m name ((row_at stages opened i).bytes (points (stage_input stages opened i))) now (told_by bytes w) before (told i w e (ap is_writing is))
 
     pub first-put : (count : ℕ) (m : Names) (old : Option Names) → count ≤ length works → IsAsTold old (Some m) → IsAsTold (kept_first bytes count old stages works) (Some (put_all m (outputs_below stages opened count)))
-    first-put zero m old le told = told
-    first-put (suc n) m old le told =
+    first-put zero m old le before = before
+    first-put (suc n) m old le before =
         let w = some_at works n (omega (arith, le)) in
         subst (λ o. IsAsTold (kept_if bytes (kept_first bytes n old stages works) (role_at stages n) o) (Some (put_all m (outputs_below stages opened (suc n))))) (sym w.1)
         (subst (λ os. IsAsTold (kept_one bytes (kept_first bytes n old stages works) (role_at stages n) w.0) (Some (put_all m os))) (sym (below-more stages opened n))
         (subst (λ x. IsAsTold (kept_one bytes (kept_first bytes n old stages works) (role_at stages n) w.0) (Some x)) (sym (put_append m (outputs_below stages opened n) (output_at stages opened n)))
-        (one-put n w.0 (put_all m (outputs_below stages opened n)) (kept_first bytes n old stages works) w.1 (first-put n m old (omega (arith, le)) told))))
+        (one-put n w.0 (put_all m (outputs_below stages opened n)) (kept_first bytes n old stages works) w.1 (first-put n m old (omega (arith, le)) before))))
 
     pub were-put : (count : ℕ) (old new : Option Names) → count ≤ length works → new ≡ kept_first bytes count old stages works → WerePut old (outputs_below stages opened count) new
     were-put count old new le is m e = subst (λ x. IsAsTold x (Some (put_all m (outputs_below stages opened count)))) (sym is)

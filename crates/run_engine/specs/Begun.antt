@@ -1,5 +1,5 @@
 -- The stages of a tree before their first turn.
-use Rattle.std.specs.Prelude.{◌≡◌, ℕ, List, slice_get, sum_by, cond, is_some, Option, Some, None, ⊤}
+use Rattle.std.specs.Prelude.{◌≡◌, ℕ, ◌<◌, List, length, slice_get, slice_index_or, sum_by, cond, is_some, Option, Some, None, ⊤}
 use Rattle.file_devices.specs.Named.{Names}
 use Rattle.file_devices.specs.declared.devices.Source as source
 use Rattle.file_devices.specs.declared.devices.Sink as sink
@@ -7,13 +7,19 @@ use Rattle.las_reader.specs.declared.reader.LasReader.{LasReader}
 use Rattle.las_reader.specs.declared.reader.Progress.TheVariants.{Records}
 use Rattle.stage_kinds.specs.declared.stage_work.StageWork.{StageWork}
 use Rattle.stage_kinds.specs.declared.stage_work.StageWork.TheVariants.{Reader}
+use Rattle.forward_rules.specs.Forwarded.{ReadFile}
+use Rattle.stage_kinds.specs.declared.file_form.FileForm.{FileForm}
+use Rattle.stage_kinds.specs.Files.{IsFileForm}
 use Rattle.stage_kinds.specs.Held.{op_of}
-use Rattle.stage_options.specs.Roles.{Role, Reads, role_of}
+use Rattle.run_report.specs.declared.refusal.Refusal.{Refusal}
+use Rattle.run_report.specs.declared.refusal.Refusal.TheVariants.{Memory, Pipeline}
+use Rattle.stage_forms.specs.Below.{HaveReaders}
+use Rattle.stage_options.specs.Roles.{Role, Reads, role_of, is_writing}
 use Rattle.stage_options.specs.declared.options.Options.{Options}
 use Rattle.stage_options.specs.declared.stage.StageSpec.{StageSpec}
-use Rattle.answer_model.specs.Values.{options_at, role_at}
+use Rattle.answer_model.specs.Values.{Opened, options_at, role_at, reads_at, unbound_at, least_from}
 use Rattle.answer_model.specs.Runs.{holds, unread}
-use Rattle.stage_runs.specs.Works.{IsAtStart, Tells}
+use Rattle.stage_runs.specs.Works.{IsAtStart, form_for, op_for, Tells}
 
 -- ---- readers
 
@@ -34,20 +40,49 @@ IsOpened s map i role None = ⊤
 abbrev pub AreOpened : {S : Type 0} → source.Ghosts S → Option Names → List StageSpec → List (Option (LasReader S)) → Type 0
 AreOpened {S} s map stages readers = (i : ℕ) (o : Option (LasReader S)) → slice_get readers i ≡ Some o → IsOpened s map i (role_at stages i) o
 
+-- ---- forms
+
+-- the forms of the files of the first stages, as many as there are, by their options and the files of these readers
+abbrev pub AreForms : {S : Type 0} → List StageSpec → List (Option (LasReader S)) → List (Option FileForm) → Type 0
+AreForms {S} stages readers forms = (opened : Opened) → HaveReaders readers opened → (i : ℕ) (o : Option FileForm) → slice_get forms i ≡ Some o → o ≡ form_for (options_at stages i) (reads_at stages opened i)
+
+-- a file has a form exactly where a stage writes one, and it can be written
+pub record IsForm (role : Role) (form : Option FileForm) : Type 0 where
+  pub writes : is_some form ≡ is_writing role
+  pub good : (f : FileForm) → form ≡ Some f → IsFileForm f
+
+abbrev pub FitRoles : List StageSpec → List (Option FileForm) → Type 0
+FitRoles stages forms = (i : ℕ) (o : Option FileForm) → slice_get forms i ≡ Some o → IsForm (role_at stages i) o
+
+-- the names of dimensions in the options of the first so many stages are bound
+abbrev pub AreNamesBound : {S : Type 0} → List StageSpec → List (Option (LasReader S)) → ℕ → Type 0
+AreNamesBound stages readers count = (opened : Opened) → HaveReaders readers opened → (i : ℕ) → i < count → unbound_at stages opened i ≡ None
+
+-- why they aren't: memory was wanting, or this is the fault of the first stage that has one
+abbrev pub IsUnbound : {S : Type 0} → List StageSpec → List (Option (LasReader S)) → Refusal → Type 0
+IsUnbound stages readers Memory = ⊤
+IsUnbound stages readers (Pipeline f) = (opened : Opened) → HaveReaders readers opened → (i : ℕ) × (least_from (unbound_at stages opened) (length stages) 0 ≡ Some (i, f))
+IsUnbound stages readers refusal = ⊥
+
 -- ---- works
 
--- the work of stage i, which has these options, at its start; a reader's source tells its file
-pub record IsWork {S K : Type 0} (s : source.Ghosts S) (k : sink.Ghosts K) (map : Option Names) (i : ℕ) (o : Options) (w : StageWork S K) : Type 0 where
-  pub start : IsAtStart k.bytes o w
+-- the reader of a work
+abbrev pub reader_of : {S K : Type 0} → StageWork S K → Option (LasReader S)
+reader_of (Reader r) = Some r
+reader_of _ = None
+
+-- the work of stage i, which has these options, at its start: over its reader, or with its file in this form; a reader's source
+-- tells its file
+pub record IsWork {S K : Type 0} (s : source.Ghosts S) (k : sink.Ghosts K) (map : Option Names) (i : ℕ) (o : Options) (reader : Option (LasReader S)) (form : Option FileForm) (w : StageWork S K) : Type 0 where
+  pub reader : reader_of w ≡ reader
+  pub start : (reads : List ReadFile) → form ≡ form_for o reads → IsAtStart k.bytes o reads w
+  pub device : op_of w ≡ op_for (role_of o)
   pub tells : (m : Names) → map ≡ Some m → (r : LasReader S) → w ≡ Reader r → Tells s (λ j. holds m j (role_of o)) i r
 
 -- so it is at the first stages, as many as there are
-abbrev pub AreBegun : {S K : Type 0} → source.Ghosts S → sink.Ghosts K → Option Names → List StageSpec → List (StageWork S K) → Type 0
-AreBegun {S} {K} s k map stages works = (i : ℕ) (w : StageWork S K) → slice_get works i ≡ Some w → IsWork s k map i (options_at stages i) w
-
--- these works are at their start
-abbrev pub AreStarts : {S K : Type 0} → (K → Option (List ℕ)) → List StageSpec → List (StageWork S K) → Type 0
-AreStarts {S} {K} bytes stages works = (i : ℕ) (w : StageWork S K) → slice_get works i ≡ Some w → IsAtStart bytes (options_at stages i) w
+abbrev pub AreBegun : {S K : Type 0} → source.Ghosts S → sink.Ghosts K → Option Names → List StageSpec → List (Option (LasReader S)) → List (Option FileForm) → List (StageWork S K) → Type 0
+AreBegun {S} {K} s k map stages readers forms works = (i : ℕ) (w : StageWork S K) → slice_get works i ≡ Some w
+    → IsWork s k map i (options_at stages i) (slice_index_or readers i None) (slice_index_or forms i None) w
 
 -- ---- what they hold
 

@@ -18,7 +18,7 @@ use Rattle.run_report.specs.declared.refusal.Refusal.TheVariants as of
 use Rattle.run_report.specs.declared.refusal.Place.{Place}
 use Rattle.run_report.specs.declared.refusal.Place.TheVariants as at
 use Rattle.answer_model.specs.Values.{Output, role_at}
-use Rattle.answer_model.specs.Runs.{Run, AreRead, put_all, run_of, unread}
+use Rattle.answer_model.specs.Runs.{Run, AreRead, AreBound, put_all, run_of, unread}
 
 -- ---- causes
 
@@ -28,26 +28,32 @@ Because expected failed of.Memory = ⊤
 Because expected failed (of.Device p o) = (expected ≡ Err (of.Device p o)) ⊎ failed p o
 Because expected failed refusal = expected ≡ Err refusal
 
--- what the device of a stage may have failed in: a reader's once all earlier readers' files were read, a writer's once all were,
--- and its keeping only where the answer is right
+-- what the device of a stage may have failed in: a reader's once all earlier readers' files were read, a writer's once all were
+-- and all names are bound, and the end of its file and its keeping only where the answer is right
 abbrev pub AtRole : Type 0 → Type 0 → Type 0 → Role → Op → Type 0
 AtRole earlier all right (Reads name) op.Open = earlier
 AtRole earlier all right (Reads name) op.Read = earlier
 AtRole earlier all right (Writes name) op.Create = all
 AtRole earlier all right (Writes name) op.Write = all
+AtRole earlier all right (Writes name) op.Patch = right
 AtRole earlier all right (Writes name) op.Keep = right
 AtRole earlier all right role o = ⊥
+
+-- all files can be read, and all names of dimensions are bound
+abbrev pub CanBegin : Names → List StageSpec → Type 0
+CanBegin m stages = AreRead m stages (length stages) × AreBound m stages
 
 -- the device of stage i may have failed in this, in a run over these files
 pub record MayFail (m : Names) (stages : List StageSpec) (i : ℕ) (o : Op) : Type 0 where
   pub inside : i < length stages
-  pub come : AtRole (AreRead m stages i) (AreRead m stages (length stages)) (IsOk (run_of m stages)) (role_at stages i) o
+  pub come : AtRole (AreRead m stages i) (CanBegin m stages) (IsOk (run_of m stages)) (role_at stages i) o
 
 -- why a run was refused: the answer is that refusal, memory was wanting, or a device of its stages failed, so that the count of
 -- faults rose. Of files that aren't told only the last is known
 abbrev pub IsCause : Type 0 → Option Names → List StageSpec → Refusal → Type 0
 IsCause rose map stages of.Memory = ⊤
 IsCause rose map stages (of.Data i f) = (m : Names) → map ≡ Some m → run_of m stages ≡ Err (of.Data i f)
+IsCause rose map stages (of.Pipeline f) = (m : Names) → map ≡ Some m → run_of m stages ≡ Err (of.Pipeline f)
 IsCause rose map stages (of.Device (at.Stage i) o) =
     ((m : Names) × (map ≡ Some m) × (run_of m stages ≡ Err (of.Device (at.Stage i) o)))
     ⊎ (rose × ((m : Names) → map ≡ Some m → MayFail m stages i o))

@@ -1,4 +1,5 @@
 pub mod Cause
+pub mod Binding
 pub mod Begun
 pub mod Turns
 pub mod Outcomes

@@ -1,24 +1,28 @@
 -- What turns, and the finishing of writers, make of the works of a tree's stages.
-use Rattle.std.specs.Prelude.{◌≡◌, ℕ, ◌≤◌, true, false, List, length, slice_get, Option, Some, None, ⊤}
+use Rattle.std.specs.Prelude.{◌≡◌, ◌⊎◌, ℕ, ◌≤◌, true, false, List, length, slice_get, Option, Some, None, ⊤}
 use Rattle.file_devices.specs.Counts.{Rose}
+use Rattle.file_devices.specs.Told.{IsAsTold}
 use Rattle.file_devices.specs.declared.devices.Op.{Op}
+use Rattle.file_devices.specs.declared.devices.Op.TheVariants.{Write, Patch}
 use Rattle.file_devices.specs.declared.devices.Source as source
 use Rattle.cloud_points.specs.declared.point.Point.{Point}
 use Rattle.cloud_points.specs.Flows.{points}
 use Rattle.las_reader.specs.declared.reader.LasReader.{LasReader}
 use Rattle.stage_kinds.specs.declared.stage_work.StageWork.{StageWork}
 use Rattle.stage_kinds.specs.declared.stage_work.StageWork.TheVariants.{Reader}
-use Rattle.stage_kinds.specs.Held.{op_of}
-use Rattle.stage_kinds.specs.Stages.{holds_of}
-use Rattle.stage_options.specs.Roles.{is_reading}
+use Rattle.stage_kinds.specs.declared.file_form.FileForm.{FileForm}
+use Rattle.stage_kinds.specs.Files.{file_bytes}
+use Rattle.stage_kinds.specs.Held.{op_of, told_by}
+use Rattle.stage_options.specs.Roles.{is_writing}
 use Rattle.stage_options.specs.declared.stage.StageSpec.{StageSpec}
 use Rattle.run_report.specs.declared.report.StageCount.{StageCount}
 use Rattle.run_report.specs.declared.refusal.Fault.TheVariants as fault
 use Rattle.run_report.specs.declared.refusal.Place.TheVariants as at
 use Rattle.run_report.specs.declared.refusal.Refusal.{Refusal}
 use Rattle.run_report.specs.declared.refusal.Refusal.TheVariants as of
-use Rattle.answer_model.specs.Values.{Opened, role_at, stage_input, least_fault, counts_of}
-use Rattle.stage_runs.specs.Works.{Tells}
+use Rattle.answer_model.specs.Values.{Opened, options_at, role_at, row_at, reads_at, stage_input, least_fault, counts_of}
+use Rattle.stage_runs.specs.Ran.{HoldsAll}
+use Rattle.stage_runs.specs.Works.{form_for, Tells}
 
 -- the readers' sources tell these files
 abbrev pub WorksTell : {S K : Type 0} → source.Ghosts S → List (StageWork S K) → Opened → Type 0
@@ -30,9 +34,12 @@ pub record AreLater {S K : Type 0} (faults : StageWork S K → ℕ) (old new : L
   pub op : (i : ℕ) (v w : StageWork S K) → slice_get old i ≡ Some v → slice_get new i ≡ Some w → op_of w ≡ op_of v
   pub later : (i : ℕ) (v w : StageWork S K) → slice_get old i ≡ Some v → slice_get new i ≡ Some w → faults v ≤ faults w
 
--- what a work held it holds later
-abbrev pub KeepHolding : {S K : Type 0} → (K → Option (List ℕ)) → List (StageWork S K) → List (StageWork S K) → Type 0
-KeepHolding {S} {K} bytes old new = (i : ℕ) (v w : StageWork S K) (ps : List Point) → slice_get old i ≡ Some v → slice_get new i ≡ Some w → holds_of bytes v ps ≡ true → holds_of bytes w ps ≡ true
+-- a writer of a file of some form that held points tells the whole file of these, once it is finished
+abbrev pub IsFinished : {S K : Type 0} → (K → Option (List ℕ)) → StageWork S K → StageWork S K → Type 0
+IsFinished bytes v w = (form : FileForm) (ps : List Point) → HoldsAll bytes form ps v → IsAsTold (told_by bytes w) (Some (file_bytes form ps))
+
+abbrev pub AreFinished : {S K : Type 0} → (K → Option (List ℕ)) → List (StageWork S K) → List (StageWork S K) → Type 0
+AreFinished {S} {K} bytes old new = (i : ℕ) (v w : StageWork S K) → slice_get old i ≡ Some v → slice_get new i ≡ Some w → IsFinished bytes v w
 
 -- the device of the work at a place failed in this
 pub record FailedAt {S K : Type 0} (faults : StageWork S K → ℕ) (old new : List (StageWork S K)) (i : ℕ) (o : Op) : Type 0 where
@@ -43,13 +50,31 @@ pub record FailedAt {S K : Type 0} (faults : StageWork S K → ℕ) (old new : L
   pub does : op_of before ≡ Some o
   pub rose : Rose (faults before) (faults after)
 
+-- the device of a writer failed in this as its file was finished
+pub record UnfinishedAt {S K : Type 0} (faults : StageWork S K → ℕ) (old new : List (StageWork S K)) (i : ℕ) (o : Op) : Type 0 where
+  pub before : StageWork S K
+  pub after : StageWork S K
+  pub was : slice_get old i ≡ Some before
+  pub is : slice_get new i ≡ Some after
+  pub writes : op_of before ≡ Some Write
+  pub named : (o ≡ Write) ⊎ (o ≡ Patch)
+  pub rose : Rose (faults before) (faults after)
+
 -- the stages came to their end over these files: none has a fault, they gave on so much, and writers hold what they took
 pub record CameToEnd {S K : Type 0} (bytes : K → Option (List ℕ)) (stages : List StageSpec) (opened : Opened) (works : List (StageWork S K)) (counts : List StageCount) : Type 0 where
   pub sound : least_fault stages opened ≡ None
   pub counted : counts ≡ counts_of stages opened
-  pub held : (i : ℕ) (w : StageWork S K) → slice_get works i ≡ Some w → is_reading (role_at stages i) ≡ false → holds_of bytes w (points (stage_input stages opened i)) ≡ true
+  pub held : (i : ℕ) (w : StageWork S K) → slice_get works i ≡ Some w → (form : FileForm) → form_for (options_at stages i) (reads_at stages opened i) ≡ Some form
+      → HoldsAll bytes form (points (stage_input stages opened i)) w
 
--- why they didn't: memory was wanting, a device failed, or this is the fault of the least stage that has one
+-- the same once the writers are finished: their sinks tell the bytes of their files
+pub record AreDone {S K : Type 0} (bytes : K → Option (List ℕ)) (stages : List StageSpec) (opened : Opened) (works : List (StageWork S K)) (counts : List StageCount) : Type 0 where
+  pub sound : least_fault stages opened ≡ None
+  pub counted : counts ≡ counts_of stages opened
+  pub told : (i : ℕ) (w : StageWork S K) → slice_get works i ≡ Some w → is_writing (role_at stages i) ≡ true
+      → IsAsTold (told_by bytes w) (Some ((row_at stages opened i).bytes (points (stage_input stages opened i))))
+
+-- why they didn't come to their end: memory was wanting, a device failed, or this is the fault of the least stage that has one
 abbrev pub IsTurnsCause : {S K : Type 0} → source.Ghosts S → (StageWork S K → ℕ) → List StageSpec → List (StageWork S K) → List (StageWork S K) → Refusal → Type 0
 IsTurnsCause s faults stages old new of.Memory = ⊤
 IsTurnsCause s faults stages old new (of.Data i (fault.Point f)) = (opened : Opened) → WorksTell s old opened → least_fault stages opened ≡ Some (i, f)
@@ -58,5 +83,10 @@ IsTurnsCause s faults stages old new refusal = ⊥
 
 -- a writer couldn't finish, since its device failed
 abbrev pub IsUnfinished : {S K : Type 0} → (StageWork S K → ℕ) → List (StageWork S K) → List (StageWork S K) → Refusal → Type 0
-IsUnfinished faults old new (of.Device (at.Stage i) o) = FailedAt faults old new i o
+IsUnfinished faults old new (of.Device (at.Stage i) o) = UnfinishedAt faults old new i o
 IsUnfinished faults old new refusal = ⊥
+
+-- why the stages didn't come to their end, or else a writer to the end of its file
+abbrev pub IsRunCause : {S K : Type 0} → source.Ghosts S → (StageWork S K → ℕ) → List StageSpec → List (StageWork S K) → List (StageWork S K) → Refusal → Type 0
+IsRunCause s faults stages old new refusal = IsTurnsCause s faults stages old new refusal
+    ⊎ (IsUnfinished faults old new refusal × ((opened : Opened) → WorksTell s old opened → least_fault stages opened ≡ None))

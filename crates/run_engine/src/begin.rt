@@ -3,32 +3,34 @@
 ghost use Rattle.std.specs.Prelude.{◌≡◌, ◌≤◌, ◌+◌, ℕ, length, Some, true, IfOk, IfErr, OnErr};
 ghost use Rattle.file_devices.specs.Counts.{Rose};
 ghost use Rattle.file_devices.specs.Named.{Names};
+ghost use Rattle.stage_kinds.specs.Files.{IsFileForm};
 ghost use Rattle.stage_kinds.specs.Held.{op_of};
-ghost use Rattle.stage_options.specs.Roles.{Writes, role_of, is_writing};
-ghost use Rattle.stage_runs.specs.Works.{IsAtStart};
-ghost use Rattle.answer_model.specs.Runs.{AreRead};
-ghost use Rattle.run_engine.specs.Begun.{AreOpened, AreBegun, IsOpened, IsWork, there, all_there, all_held};
-ghost use Rattle.run_engine.specs.Cause.{IsCause, IsEarly, IsUncreated};
+ghost use Rattle.stage_options.specs.Roles.{role_of, is_writing};
+ghost use Rattle.stage_runs.specs.Works.{IsBegun};
+ghost use Rattle.run_engine.specs.Begun.{AreOpened, AreBegun, FitRoles, IsForm, IsOpened, IsWork, there, all_there, all_held};
+ghost use Rattle.run_engine.specs.Cause.{CanBegin, IsCause, IsEarly, IsUncreated};
 
 use crate::release::{give_back, release_works};
 use file_devices::{DeviceErr, Files, Op};
 use las_reader::LasReader;
 use run_report::{Place, Refusal};
-use stage_kinds::StageWork;
-use stage_options::{Options, Role, StageSpec};
-use stage_runs::{filter_work, writer_work};
+use stage_kinds::{BeginErr, FileForm, StageWork, begin_file};
+use stage_options::{Role, StageSpec};
+use stage_runs::filter_work;
 use std::alloc::Global;
 
-/// The work of a writer, the stage with this number, on a new file. Where the file can't be created or written, it is given
-/// back.
+/// The work of a writer, the stage with this number, on a new file of this form. Where the file can't be created or begun, it
+/// is given back.
 fn open_writer<F: Files>(
+    alloc: Global,
     files: &mut F,
-    options: &Options,
+    form: FileForm,
     name: &str,
     number: u32,
 ) -> Result<StageWork<F::In, F::Out>, Refusal>
-    requires { role_of options.now ≡ Writes name.now }
-    ensures ok { IfOk result (IsAtStart F.Out.bytes options.now) }
+    requires { IsFileForm form }
+    ensures ok { IfOk result (IsBegun F.Out.bytes form) }
+    ensures writes { IfOk result (λ work. op_of work ≡ Some Op.Write) }
     ensures err { IfErr result (IsUncreated (Rose (F.faults files.old) (F.faults files.new)) number) }
     ensures early { IfErr result IsEarly }
     ensures map { F.map files.new ≡ F.map files.old }
@@ -41,24 +43,31 @@ fn open_writer<F: Files>(
         Err(DeviceErr::Memory) => return Err(Refusal::Memory),
         Err(_) => return Err(Refusal::Device(Place::Stage(number), Op::Create)),
     };
-    match writer_work(options, sink) {
+    match begin_file(alloc, sink, form) {
         Ok(work) => Ok(work),
-        Err(sink) => {
+        Err((sink, BeginErr::Failed)) => {
             files.done_out(sink);
             Err(Refusal::Device(Place::Stage(number), Op::Write))
+        }
+        Err((sink, BeginErr::Memory)) => {
+            files.done_out(sink);
+            Err(Refusal::Memory)
         }
     }
 }
 
-/// The work of a stage: its opened reader, or that of a filter, or that of a writer on a new file.
+/// The work of a stage: its opened reader, or that of a writer on a new file of its form, or else that of a filter.
 fn begin_work<F: Files>(
+    alloc: Global,
     files: &mut F,
     reader: Option<LasReader<F::In>>,
+    form: Option<FileForm>,
     stage: &StageSpec,
     number: u32,
 ) -> Result<StageWork<F::In, F::Out>, Refusal>
-    requires { IsOpened F.In.Source (F.map files.old) number (role_of stage.now.options) reader }
-    ensures ok { IfOk result (IsWork F.In.Source F.Out.Sink (F.map files.old) number stage.now.options) }
+    requires opened { IsOpened F.In.Source (F.map files.old) number (role_of stage.now.options) reader }
+    requires form { IsForm (role_of stage.now.options) form }
+    ensures ok { IfOk result (IsWork F.In.Source F.Out.Sink (F.map files.old) number stage.now.options reader form) }
     ensures writes { OnErr result (is_writing (role_of stage.now.options) ≡ true) }
     ensures err { IfErr result (IsUncreated (Rose (F.faults files.old) (F.faults files.new)) number) }
     ensures none { OnErr result (there reader ≡ 0) }
@@ -69,27 +78,33 @@ fn begin_work<F: Files>(
     ensures later { F.faults files.old ≤ F.faults files.new }
 {
     let Some(reader) = reader else {
+        let Some(form) = form else {
+            return Ok(filter_work(&stage.options));
+        };
         return match stage.options.role() {
-            Role::Writes(name) => open_writer(files, &stage.options, name, number),
-            Role::Reads(_) | Role::Filters => Ok(filter_work(&stage.options)),
+            Role::Writes(name) => open_writer(alloc, files, form, name, number),
+            Role::Reads(_) | Role::Filters => unreachable!(),
         };
     };
     Ok(StageWork::Reader(reader))
 }
 
 /// The works of a tree's stages at their start, over their opened readers: the files of the writers are created in the order of
-/// the stages; the first one that can't be created or written is the last one that is tried. Then all is given back.
+/// the stages; the first one that can't be created or begun is the last one that is tried. Then all is given back.
 pub(crate) fn begin_works<F: Files>(
     alloc: Global,
     files: &mut F,
     readers: Vec<Option<LasReader<F::In>>>,
+    forms: Vec<Option<FileForm>>,
     stages: &[StageSpec],
 ) -> Result<Vec<StageWork<F::In, F::Out>>, Refusal>
     requires opened { AreOpened F.In.Source (F.map files.old) stages.now readers.items }
     requires count { length readers.items ≡ length stages.now }
+    requires fits { FitRoles stages.now forms.items }
+    requires forms { length forms.items ≡ length stages.now }
     requires few { length stages.now ≤ 64 }
-    requires read { (m : Names) → F.map files.old ≡ Some m → AreRead m stages.now (length stages.now) }
-    ensures ok { IfOk result (λ works. AreBegun F.In.Source F.Out.Sink (F.map files.old) stages.now works.items) }
+    requires come { (m : Names) → F.map files.old ≡ Some m → CanBegin m stages.now }
+    ensures ok { IfOk result (λ works. AreBegun F.In.Source F.Out.Sink (F.map files.old) stages.now readers.items forms.items works.items) }
     ensures count { IfOk result (λ works. length works.items ≡ length stages.now) }
     ensures err { IfErr result (IsCause (Rose (F.faults files.old) (F.faults files.new)) (F.map files.old) stages.now) }
     ensures early { IfErr result IsEarly }
@@ -104,10 +119,12 @@ pub(crate) fn begin_works<F: Files>(
         return Err(Refusal::Memory);
     };
     let mut readers = readers;
+    let mut forms = forms;
     readers.reverse();
     let mut at = 0;
     while let Some(reader) = readers.pop() {
-        match begin_work(files, reader, &stages[at], at as u32) {
+        let form = forms[at].take();
+        match begin_work(alloc, files, reader, form, &stages[at], at as u32) {
             Ok(work) => works.push_reserved(work),
             Err(refusal) => {
                 give_back(files, readers);

@@ -2,6 +2,7 @@
 #![tactic(auto)]
 
 mod begin;
+mod bind;
 mod finish;
 mod keep;
 mod nodes;

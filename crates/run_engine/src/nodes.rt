@@ -8,11 +8,10 @@ ghost use Rattle.stage_options.specs.Kinds.{HaveOwnOptions};
 ghost use Rattle.stage_options.specs.Shapes.{shapes};
 ghost use Rattle.stage_kinds.specs.declared.stage_work.StageWork as work_type;
 ghost use Rattle.answer_model.specs.Values.{stage_at};
-ghost use Rattle.stage_runs.specs.Works.{as_works, AreNewStages};
-ghost use Rattle.run_engine.specs.Begun.{AreStarts};
+ghost use Rattle.stage_runs.specs.Works.{as_works, AreAtStart, AreNewStages};
 
 use cloud_points::Work;
-use file_devices::{Sink, Source};
+use file_devices::{FileSink, Source};
 use network_core::Node;
 use stage_kinds::StageWork;
 use stage_options::StageSpec;
@@ -29,7 +28,7 @@ fn inputs_of(stages: &[StageSpec], number: usize) -> u32
 
 /// New nodes for the works of a tree's stages, each with as many inputs as its stage takes; leaves make at most `chunk` points
 /// at once. There is room for them.
-pub(crate) fn nodes_over<S: Source, K: Sink>(
+pub(crate) fn nodes_over<S: Source, K: FileSink>(
     works: Vec<StageWork<S, K>>,
     stages: &[StageSpec],
     chunk: usize,
@@ -38,7 +37,7 @@ pub(crate) fn nodes_over<S: Source, K: Sink>(
     requires tree { IsTree (shapes stages.now) }
     requires few { length stages.now ≤ 64 }
     requires own { HaveOwnOptions stages.now }
-    requires starts { AreStarts K.bytes stages.now works.items }
+    requires starts { AreAtStart K.bytes stages.now works.items }
     requires count { length works.items ≡ length stages.now }
     requires empty { room.items ≡ [] }
     requires room { length stages.now ≤ vec_capacity room }

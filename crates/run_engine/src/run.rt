@@ -10,10 +10,11 @@ ghost use Rattle.answer_model.specs.Runs.{run_of};
 ghost use Rattle.run_engine.specs.Cause.{IsCause, IsRun, IsLeft};
 
 use crate::begin::begin_works;
+use crate::bind::bind_stages;
 use crate::finish::Ran;
 use crate::keep::keep_works;
 use crate::open::open_readers;
-use crate::release::release_works;
+use crate::release::{give_back, release_works};
 use crate::shape::Shape;
 use crate::turns::take_turns;
 use file_devices::Files;
@@ -21,11 +22,11 @@ use run_report::{Refusal, Report};
 use stage_options::StageSpec;
 use std::alloc::Global;
 
-/// Runs the stages of a tree: opens the readers' files and then creates those of the writers, both in the order of the stages,
-/// lets the points go through, keeps the files of the writers in the order of the stages, and answers what each stage gave on.
-/// Every object that was handed out is given back.
+/// Runs the stages of a tree: opens the readers' files, binds the names of dimensions, and creates the files of the writers, each
+/// in the order of the stages; lets the points go through, finishes all writers' files and then keeps them in the order of the
+/// stages, and answers what each stage gave on. Every object that was handed out is given back.
 ///
-/// `Data` comes only where the files have that fault, `Device` only where the named device failed or the file to read isn't
+/// `Pipeline` comes only where a name is that of no dimension of the stage's points, `Data` only where the files have that fault, `Device` only where the named device failed or the file to read isn't
 /// there, and `Memory` where there was none. After a refusal the files are as before; only where the keeping of a file
 /// failed or found no memory are those of the writers before it kept, and that one may be.
 pub fn run_pipeline<F: Files>(
@@ -47,7 +48,14 @@ pub fn run_pipeline<F: Files>(
         Ok(readers) => readers,
         Err(refusal) => return Err(refusal),
     };
-    let works = match begin_works(alloc, files, readers, stages) {
+    let forms = match bind_stages(alloc, stages, readers.as_slice()) {
+        Ok(forms) => forms,
+        Err(refusal) => {
+            give_back(files, readers);
+            return Err(refusal);
+        }
+    };
+    let works = match begin_works(alloc, files, readers, forms, stages) {
         Ok(works) => works,
         Err(refusal) => return Err(refusal),
     };

@@ -6,14 +6,14 @@ ghost use Rattle.stage_kinds.specs.Held.{faults_of};
 ghost use Rattle.stage_options.specs.Kinds.{HaveOwnOptions};
 ghost use Rattle.stage_options.specs.Shapes.{shapes};
 ghost use Rattle.answer_model.specs.Values.{Opened};
-ghost use Rattle.run_engine.specs.Begun.{AreStarts};
-ghost use Rattle.run_engine.specs.Turns.{WorksTell, AreLater, CameToEnd, IsTurnsCause};
+ghost use Rattle.stage_runs.specs.Works.{AreAtStart};
+ghost use Rattle.run_engine.specs.Turns.{WorksTell, AreLater, CameToEnd, AreDone, IsTurnsCause, IsRunCause};
 
 use crate::finish::{Ran, finish};
 use crate::nodes::{nodes_over, works_in};
 use crate::outcome::outcome;
 use crate::shape::Shape;
-use file_devices::{Sink, Source};
+use file_devices::{FileSink, Source};
 use run_report::{Refusal, Report};
 use stage_kinds::StageWork;
 use stage_options::StageSpec;
@@ -22,7 +22,7 @@ use std::alloc::Global;
 
 /// Lets the stages of a tree take turns until all are done. It answers what each stage gave on, or the first stage whose device
 /// failed, or else the fault of the first stage that has one.
-fn turn_works<S: Source, K: Sink>(
+fn turn_works<S: Source, K: FileSink>(
     alloc: Global,
     works: Vec<StageWork<S, K>>,
     stages: &[StageSpec],
@@ -31,7 +31,7 @@ fn turn_works<S: Source, K: Sink>(
     requires tree { IsTree (shapes stages.now) }
     requires own { HaveOwnOptions stages.now }
     requires few { length stages.now ≤ 64 }
-    requires starts { AreStarts K.bytes stages.now works.items }
+    requires starts { AreAtStart K.bytes stages.now works.items }
     requires count { length works.items ≡ length stages.now }
     ensures later { AreLater (faults_of S.faults K.faults) works.items result.works.items }
     ensures ok { IfOk result.outcome (λ report. (opened : Opened) → WorksTell S.Source works.items opened
@@ -65,7 +65,7 @@ fn turn_works<S: Source, K: Sink>(
 /// Lets the stages of a tree take turns until all are done; where the run came to its end, the writers finish. It answers what
 /// each stage gave on, or the first stage whose device failed in turns, or else the fault of the first stage that has one, or
 /// else the first writer that couldn't finish.
-pub(crate) fn take_turns<S: Source, K: Sink>(
+pub(crate) fn take_turns<S: Source, K: FileSink>(
     alloc: Global,
     works: Vec<StageWork<S, K>>,
     stages: &[StageSpec],
@@ -74,12 +74,12 @@ pub(crate) fn take_turns<S: Source, K: Sink>(
     requires tree { IsTree (shapes stages.now) }
     requires own { HaveOwnOptions stages.now }
     requires few { length stages.now ≤ 64 }
-    requires starts { AreStarts K.bytes stages.now works.items }
+    requires starts { AreAtStart K.bytes stages.now works.items }
     requires count { length works.items ≡ length stages.now }
     ensures later { AreLater (faults_of S.faults K.faults) works.items result.works.items }
     ensures ok { IfOk result.outcome (λ report. (opened : Opened) → WorksTell S.Source works.items opened
-        → CameToEnd K.bytes stages.now opened result.works.items report.items) }
-    ensures err { IfErr result.outcome (IsTurnsCause S.Source (faults_of S.faults K.faults) stages.now works.items result.works.items) }
+        → AreDone K.bytes stages.now opened result.works.items report.items) }
+    ensures err { IfErr result.outcome (IsRunCause S.Source (faults_of S.faults K.faults) stages.now works.items result.works.items) }
 {
     let Ran { works, outcome } = turn_works(alloc, works, stages, shape);
     let report = match outcome {

@@ -313,3 +313,11 @@ written-count (FiltersHead o) reads las flow sound = refl
 written-count (FiltersMerge o) reads las flow sound = refl
 written-count (WritersLas o) reads las flow sound = ap (λ stop. Some (up_to_limit (length (points (before_stop stop flow))))) (no-stop (stop_of (form_of o.fields reads) (points flow)) sound)
 written-count (WritersText o) reads las flow sound = refl
+
+-- a reader has no fault on what it would take
+pub reader-sound : (o : Options) (reads : List ReadFile) (flow : Flow Point) → is_reading (role_of o) ≡ true → rows.fault_on (row_of o reads) flow ≡ None
+reader-sound (ReadersLas o) files flow reads = refl
+reader-sound (FiltersHead o) files flow reads = absurd (true≢false (sym reads))
+reader-sound (FiltersMerge o) files flow reads = absurd (true≢false (sym reads))
+reader-sound (WritersLas o) files flow reads = absurd (true≢false (sym reads))
+reader-sound (WritersText o) files flow reads = absurd (true≢false (sym reads))

@@ -6,7 +6,7 @@ use Rattle.file_devices.specs.declared.devices.Source as source
 use Rattle.file_devices.specs.declared.devices.Sink as sink
 use Rattle.cloud_points.specs.declared.point.Point.{Point}
 use Rattle.cloud_points.specs.declared.work.Work.{Ghosts}
-use Rattle.forward_rules.specs.Forwarded.{ReadFile, read_file, form_of}
+use Rattle.forward_rules.specs.Forwarded.{ReadFile, form_of}
 use Rattle.las_reader.specs.Files.{las_with}
 use Rattle.las_reader.specs.declared.reader.LasReader.{LasReader}
 use Rattle.las_reader.specs.declared.reader.Progress.TheVariants.{Records}
@@ -26,6 +26,7 @@ use Rattle.stage_options.specs.declared.stage.StageSpec.{StageSpec}
 use Rattle.network_theory.specs.Opening.{IsFresh}
 use Rattle.network_core.specs.declared.node.Node.{Node}
 use Rattle.network_core.specs.Shown.{shown, work_of}
+use Rattle.stage_forms.specs.Below.{read_of}
 use Rattle.answer_model.specs.Forms.{text_form}
 use Rattle.answer_model.specs.Values.{Opened, stage_at, options_at, reads_at}
 
@@ -76,10 +77,6 @@ op_for (Writes name) = Some Write
 -- the numbers of the stages that each stage takes
 abbrev pub ins_of : List StageSpec → List (List ℕ)
 ins_of stages = map (λ s. s.ins) stages
-
--- the file of a reader, as a writer may take it over
-abbrev pub read_of : {S : Type 0} → LasReader S → ReadFile
-read_of r = read_file r.header r.vlrs r.evlrs
 
 -- these are the files of the readers among works
 abbrev pub HaveRead : {S K : Type 0} → List (StageWork S K) → Opened → Type 0

@@ -1,45 +1,51 @@
 //! The works of stages at their start, by the options of the stage.
 
-ghost use Rattle.std.specs.Prelude.{◌≡◌, ◌≤◌, ℕ, List, [], Option, Some, true, IfOk, IfErr};
-ghost use Rattle.file_devices.specs.Counts.{Rose};
-ghost use Rattle.file_devices.specs.Told.{IsAsTold};
-ghost use Rattle.stage_kinds.specs.Held.{faults_of};
-ghost use Rattle.stage_options.specs.Roles.{Filters, role_of, is_writing};
-ghost use Rattle.stage_runs.specs.Works.{IsAtStart};
+ghost use Rattle.std.specs.Prelude.{◌≡◌, ◌<◌, List, All, length, IfOk, IfSome};
+ghost use Rattle.forward_rules.specs.Forwarded.{ReadFile};
+ghost use Rattle.stage_forms.specs.Below.{reads_in};
+ghost use Rattle.stage_kinds.specs.Files.{IsFileForm};
+ghost use Rattle.stage_options.specs.Roles.{Filters, role_of};
+ghost use Rattle.stage_runs.specs.Works.{IsAtStart, form_for};
 
-use file_devices::{Sink, Source};
-use stage_kinds::{Head, StageWork};
+use file_devices::{FileSink, Source};
+use las_reader::LasReader;
+use stage_forms::{las_form, text_form};
+use stage_kinds::{FileForm, Head, StageWork};
 use stage_options::Options;
-use text_writer::TextWriter;
+use std::alloc::{AllocError, Global};
 
 /// The work of a filter with these options.
-pub fn filter_work<S: Source, K: Sink>(options: &Options) -> StageWork<S, K>
+pub fn filter_work<S: Source, K: FileSink>(options: &Options) -> StageWork<S, K>
     requires { role_of options.now ≡ Filters }
-    ensures { IsAtStart K.bytes options.now result }
+    ensures { (reads : List ReadFile) → IsAtStart K.bytes options.now reads result }
 {
     match options {
         Options::FiltersHead(options) => StageWork::Head(Head::new(options.count)),
         Options::FiltersMerge(_) => StageWork::Merge,
-        Options::ReadersLas(_) | Options::WritersText(_) => unreachable!(),
+        Options::ReadersLas(_) | Options::WritersLas(_) | Options::WritersText(_) => {
+            unreachable!()
+        }
     }
 }
 
-/// The work of a writer with these options, onto a sink to which nothing was appended; it appends what stands in front of the
-/// points. A refusal gives the sink back, and comes only where the sink failed.
-pub fn writer_work<S: Source, K: Sink>(options: &Options, sink: K) -> Result<StageWork<S, K>, K>
-    requires writes { is_writing (role_of options.now) ≡ true }
-    requires empty { IsAsTold (K.bytes sink) (Some []) }
-    ensures start { IfOk result (IsAtStart K.bytes options.now) }
-    ensures later { IfOk result (λ work. K.faults sink ≤ faults_of S.faults K.faults work) }
-    ensures failed { IfErr result (λ back. Rose (K.faults sink) (K.faults back)) }
+/// The form of the file that a stage with these options writes, behind the readers of these numbers; None exactly where it
+/// writes none. Refused only where memory is wanting.
+pub fn file_form<S: Source>(
+    alloc: Global,
+    options: &Options,
+    readers: &[Option<LasReader<S>>],
+    below: &[u32],
+) -> Result<Option<FileForm>, AllocError>
+    requires { All (λ j. j < length readers.now) below.now }
+    ensures form { IfOk result (λ o. o ≡ form_for options.now (reads_in readers.now below.now)) }
+    ensures good { IfOk result (λ o. IfSome o IsFileForm) }
 {
     match options {
-        Options::WritersText(_) => match TextWriter::begin(sink) {
-            Ok(writer) => Ok(StageWork::Text(writer)),
-            Err((sink, _)) => Err(sink),
-        },
-        Options::ReadersLas(_) | Options::FiltersHead(_) | Options::FiltersMerge(_) => {
-            unreachable!()
+        Options::WritersLas(las) => {
+            let form = las_form(alloc, &las.fields, readers, below)?;
+            Ok(Some(FileForm::Las(form)))
         }
+        Options::WritersText(text) => Ok(Some(FileForm::Text(text_form(alloc, text)?))),
+        Options::ReadersLas(_) | Options::FiltersHead(_) | Options::FiltersMerge(_) => Ok(None),
     }
 }

@@ -1,33 +1,49 @@
-use Rattle.std.proofs.Common.{◌<◌, length, refl, arith}
-use Rattle.std.proofs.lemmas.Option.{slice_get_read}
-use Rattle.file_devices.specs.declared.devices.Op.TheVariants.{Write}
+use Rattle.std.proofs.Common.{◌≡◌, ◌<◌, ◌≤◌, ◌+◌, ◌∙◌, length, refl, sym, subst, arith, Some}
+use Rattle.std.proofs.lemmas.Option.{slice_get_read, slice_get_within}
 use Rattle.stage_kinds.specs.Held.{faults_of}
-use Rattle.run_engine.proofs.Finishing.{later-more, holds-more, fails-here}
+use Rattle.run_engine.specs.Turns.{IsFinished}
+use Rattle.run_engine.proofs.Outcomes.{same_some}
+use Rattle.run_engine.proofs.Finishing.{later-more, finished-more, left-more, unfinished-here, finishing-writes}
 use Rattle.run_engine.proofs.finish.finish.Goals as goal
 
 pub loop-i-preserved : goal.loop-i-preserved
 loop-i-preserved g c =
-    let lt : c.loop-i.i < length c.loop-i.works.items = (let a = c.len-i-end.ensures in let b = c.loop-i.invariant.later.count in omega (arith, a, b)) in
-    let here = slice_get_read c.loop-i.works.items (length c.loop-i.works.items) c.loop-i.i c.index_mut.result.now refl lt c.index_mut.ensures.value in
+    let now = c.loop-i.invariant in
+    let lt : c.loop-i.i < length c.loop-i.works.items = (let a = c.len-i-end.ensures in let b = now.later.count in omega (arith, a, b)) in
+    let v = c.index_mut.result.now in
+    let here = slice_get_read c.loop-i.works.items (length c.loop-i.works.items) c.loop-i.i v refl lt c.index_mut.ensures.value in
+    let was = sym (now.left c.loop-i.i (omega arith)) ∙ here in
+    let bytes = g.K.Sink.bytes in
+    let faults = faults_of g.S.Source.faults g.K.Sink.faults in
     record {
-      later = later-more g.K.Sink.bytes (faults_of g.S.Source.faults g.K.Sink.faults) c.args.works.items c.loop-i.works.items c.loop-i.i c.index_mut.result.now c.finish.new.self c.loop-i.invariant.later here c.finish.ensures.op c.finish.ensures.cause.later;
-      holds = holds-more g.K.Sink.bytes (faults_of g.S.Source.faults g.K.Sink.faults) c.args.works.items c.loop-i.works.items c.loop-i.i c.index_mut.result.now c.finish.new.self c.loop-i.invariant.later here c.finish.ensures.op c.finish.ensures.cause.later c.finish.ensures.holds c.loop-i.invariant.holds;
+      later = later-more bytes faults c.args.works.items c.loop-i.works.items c.loop-i.i v c.finish.new.self now.later here c.finish.ensures.op c.finish.ensures.later;
+      finished = finished-more bytes faults c.args.works.items c.loop-i.works.items c.loop-i.i v c.finish.new.self now.later here c.finish.ensures.op c.finish.ensures.later
+          (IsFinished bytes) 0 now.finished (λ a e. subst (λ x. IsFinished bytes x c.finish.new.self) (same_some v a (sym was ∙ e))
+          (λ form ps h. c.in-Ok.ensures.file form ps h.form h.holds h.places));
+      left = left-more bytes faults c.args.works.items c.loop-i.works.items c.loop-i.i v c.finish.new.self now.later here c.finish.ensures.op c.finish.ensures.later
+          (c.loop-i.i + 1) (omega arith) now.left;
     }
 
 pub returns-in-Err-clause-later : goal.returns-in-Err-clause-later
 returns-in-Err-clause-later g c =
-    let lt : c.loop-i.i < length c.loop-i.works.items = (let a = c.len-i-end.ensures in let b = c.loop-i.invariant.later.count in omega (arith, a, b)) in
+    let now = c.loop-i.invariant in
+    let lt : c.loop-i.i < length c.loop-i.works.items = (let a = c.len-i-end.ensures in let b = now.later.count in omega (arith, a, b)) in
     let here = slice_get_read c.loop-i.works.items (length c.loop-i.works.items) c.loop-i.i c.index_mut.result.now refl lt c.index_mut.ensures.value in
-    later-more g.K.Sink.bytes (faults_of g.S.Source.faults g.K.Sink.faults) c.args.works.items c.loop-i.works.items c.loop-i.i c.index_mut.result.now c.finish.new.self c.loop-i.invariant.later here c.finish.ensures.op c.finish.ensures.cause.later
-
-pub returns-in-Err-clause-holds : goal.returns-in-Err-clause-holds
-returns-in-Err-clause-holds g c =
-    let lt : c.loop-i.i < length c.loop-i.works.items = (let a = c.len-i-end.ensures in let b = c.loop-i.invariant.later.count in omega (arith, a, b)) in
-    let here = slice_get_read c.loop-i.works.items (length c.loop-i.works.items) c.loop-i.i c.index_mut.result.now refl lt c.index_mut.ensures.value in
-    holds-more g.K.Sink.bytes (faults_of g.S.Source.faults g.K.Sink.faults) c.args.works.items c.loop-i.works.items c.loop-i.i c.index_mut.result.now c.finish.new.self c.loop-i.invariant.later here c.finish.ensures.op c.finish.ensures.cause.later c.finish.ensures.holds c.loop-i.invariant.holds
+    later-more g.K.Sink.bytes (faults_of g.S.Source.faults g.K.Sink.faults) c.args.works.items c.loop-i.works.items c.loop-i.i c.index_mut.result.now c.finish.new.self now.later here c.finish.ensures.op c.finish.ensures.later
 
 pub returns-in-Err-clause-err : goal.returns-in-Err-clause-err
 returns-in-Err-clause-err g c =
-    let lt : c.loop-i.i < length c.loop-i.works.items = (let a = c.len-i-end.ensures in let b = c.loop-i.invariant.later.count in omega (arith, a, b)) in
-    let here = slice_get_read c.loop-i.works.items (length c.loop-i.works.items) c.loop-i.i c.index_mut.result.now refl lt c.index_mut.ensures.value in
-    fails-here g.K.Sink.bytes (faults_of g.S.Source.faults g.K.Sink.faults) c.args.works.items c.loop-i.works.items c.loop-i.i c.index_mut.result.now c.finish.new.self c.loop-i.invariant.later here c.finish.ensures.op c.finish.ensures.cause.later Write c.in-Err.ensures.writer c.in-Err.ensures.cause.failed
+    let now = c.loop-i.invariant in
+    let lt : c.loop-i.i < length c.loop-i.works.items = (let a = c.len-i-end.ensures in let b = now.later.count in omega (arith, a, b)) in
+    let v = c.index_mut.result.now in
+    let here = slice_get_read c.loop-i.works.items (length c.loop-i.works.items) c.loop-i.i v refl lt c.index_mut.ensures.value in
+    let was = sym (now.left c.loop-i.i (omega arith)) ∙ here in
+    let does = finishing-writes v c.in-Err.op c.in-Err.ensures.named in
+    unfinished-here g.K.Sink.bytes (faults_of g.S.Source.faults g.K.Sink.faults) c.args.works.items c.loop-i.works.items c.loop-i.i v c.finish.new.self now.later here c.finish.ensures.op c.finish.ensures.later
+    c.in-Err.op was does.0 does.1 c.in-Err.ensures.rose
+
+pub returns-clause-finished : goal.returns-clause-finished
+returns-clause-finished g c = λ x v w e f.
+    let inside = slice_get_within c.args.works.items x v e in
+    let a = c.len-i-end.ensures in
+    c.loop-i.invariant.finished x v w (omega (arith, inside, a)) e f

@@ -2,8 +2,9 @@ use Rattle.std.proofs.Common.{◌≡◌, ◌<◌, [], ◌∷◌, ◌++◌, map, 
 use Rattle.std.proofs.lemmas.List.{map-append}
 use Rattle.std.specs.Prelude.{slice_get}
 use Rattle.network_core.specs.Shown.{work_of}
-use Rattle.answer_model.specs.Values.{stage_at, options_at}
-use Rattle.stage_runs.specs.Works.{IsAtStart}
+use Rattle.answer_model.specs.Values.{stage_at}
+use Rattle.stage_runs.specs.Works.{AreAtStart}
+use Rattle.stage_runs.proofs.Starts.{somehow}
 use Rattle.run_engine.proofs.Lists.{each-push, popped, one_less, none_left, take-more}
 use Rattle.run_engine.proofs.Inputs.{leaf-at}
 use Rattle.run_engine.proofs.NewNodes.{IsNew}
@@ -22,7 +23,8 @@ new-requires-clause-leaf g c =
     let p = popped c.args.works.items c.loop-work.works.items c.pop.new.self.items c.loop-work.at c.in-Some.work now.left c.in-Some.ensures.items in
     let n = one_less c.loop-work.at (vec_len c.loop-work.works) (vec_len c.pop.new.self) (length c.args.works.items) now.count c.in-Some.ensures.cases in
     let lt : c.loop-work.at < length c.args.stages.now = (let a = n.0 in let b = c.requires.count in omega (arith, a, b)) in
-    let leaf = leaf-at g.S.Source g.K.Sink.bytes c.args.stages.now c.loop-work.at c.in-Some.work c.requires.tree c.requires.own lt (c.requires.starts c.loop-work.at c.in-Some.work p.0) in
+    let start = somehow g.K.Sink.bytes c.args.stages.now c.args.works.items c.requires.starts c.loop-work.at c.in-Some.work p.0 in
+    let leaf = leaf-at g.S.Source g.K.Sink.bytes c.args.stages.now c.loop-work.at c.in-Some.work start.0 c.requires.tree c.requires.own lt start.1 in
     (λ h. c.inputs_of.ensures ∙ leaf.0 h, λ h. leaf.1 (sym c.inputs_of.ensures ∙ h))
 
 pub loop-work-preserved : goal.loop-work-preserved
@@ -34,7 +36,6 @@ loop-work-preserved g c =
     let size : c.loop-work.at ≡ length c.loop-work.nodes.items = (let a = now.nodes in let k = c.loop-work.nodes.ok in omega (arith, a, k)) in
     let one : IsNew g.S.Source g.K.Sink c.args.stages.now c.args.chunk c.loop-work.at c.new.result = record {
       fresh = c.new.ensures.fresh ((stage_at c.args.stages.now c.loop-work.at).ins) (sym c.inputs_of.ensures);
-      works = subst (IsAtStart g.K.Sink.bytes (options_at c.args.stages.now c.loop-work.at)) (sym c.new.ensures.work) (c.requires.starts c.loop-work.at c.in-Some.work p.0);
       chunk_is = ap (λ x. x.chunk) (c.new.ensures.shown []);
     } in
     record {
@@ -54,7 +55,7 @@ returns-clause-new g c =
     record {
       count = (let a = now.nodes in let k = c.loop-work.nodes.ok in let b = c.requires.count in omega (arith, a, k, b, all));
       fresh = λ i n e. (now.new i n e).fresh;
-      works = λ i n e. (now.new i n e).works;
+      works = subst (AreAtStart g.K.Sink.bytes c.args.stages.now) (sym c.ensures.works) c.requires.starts;
     }
 
 pub returns-clause-chunk : goal.returns-clause-chunk

@@ -1,10 +1,11 @@
+use Rattle.std.proofs.Common.{inl, inr}
 use Rattle.run_report.specs.declared.report.StageCount.{StageCount}
 use Rattle.stage_kinds.specs.Held.{faults_of}
 use Rattle.answer_model.specs.Values.{Opened}
 use Rattle.arrayvec.specs.ArrayVec.{ArrayVec}
 use Rattle.run_engine.specs.Turns.{WorksTell, CameToEnd, IsUnfinished}
 use Rattle.run_engine.proofs.Results.{ok-of, err-of}
-use Rattle.run_engine.proofs.Ran.{later-on, came-on, unfinished-cause}
+use Rattle.run_engine.proofs.Ran.{later-on, done-on, unfinished-on}
 use Rattle.run_engine.proofs.turns.take_turns.Goals as goal
 
 pub returns-in-Ok-outcome-clause-later : goal.returns-in-Ok-outcome-clause-later
@@ -14,13 +15,19 @@ pub returns-in-Ok-outcome-clause-ok : goal.returns-in-Ok-outcome-clause-ok
 returns-in-Ok-outcome-clause-ok g c = λ opened tell.
     let was = ok-of (λ (report : ArrayVec StageCount). (o : Opened) → WorksTell g.S.Source c.args.works.items o → CameToEnd g.K.Sink.bytes c.args.stages.now o c.turn_works-works.result.works.items report.items)
     c.turn_works-works.result.outcome c.in-Ok.report c.in-Ok.is c.turn_works-works.ensures.ok in
-    came-on (faults_of g.S.Source.faults g.K.Sink.faults) c.args.works.items c.turn_works-works.result.works.items c.finish-works.result.works.items c.turn_works-works.ensures.later c.finish-works.ensures.later
-    g.K.Sink.bytes c.args.stages.now opened c.in-Ok.report.items c.finish-works.ensures.holds (was opened tell)
+    done-on (faults_of g.S.Source.faults g.K.Sink.faults) c.args.works.items c.turn_works-works.result.works.items c.finish-works.result.works.items c.turn_works-works.ensures.later c.finish-works.ensures.later
+    g.K.Sink.bytes c.args.stages.now opened c.in-Ok.report.items (c.in-Ok-outcome.ensures.finished) (was opened tell)
 
 pub returns-in-Err-outcome-clause-later : goal.returns-in-Err-outcome-clause-later
 returns-in-Err-outcome-clause-later g c = later-on (faults_of g.S.Source.faults g.K.Sink.faults) c.args.works.items c.turn_works-works.result.works.items c.finish-works.result.works.items c.turn_works-works.ensures.later c.finish-works.ensures.later
 
 pub returns-in-Err-outcome-clause-err : goal.returns-in-Err-outcome-clause-err
-returns-in-Err-outcome-clause-err g c = unfinished-cause (faults_of g.S.Source.faults g.K.Sink.faults) c.args.works.items c.turn_works-works.result.works.items c.finish-works.result.works.items c.turn_works-works.ensures.later c.finish-works.ensures.later
-    g.S.Source c.args.stages.now c.in-Err-outcome.refusal
-    (err-of (IsUnfinished (faults_of g.S.Source.faults g.K.Sink.faults) c.turn_works-works.result.works.items c.finish-works.result.works.items) c.finish-works.result.outcome c.in-Err-outcome.refusal c.in-Err-outcome.is c.finish-works.ensures.err)
+returns-in-Err-outcome-clause-err g c =
+    let was = ok-of (λ (report : ArrayVec StageCount). (o : Opened) → WorksTell g.S.Source c.args.works.items o → CameToEnd g.K.Sink.bytes c.args.stages.now o c.turn_works-works.result.works.items report.items)
+    c.turn_works-works.result.outcome c.in-Ok.report c.in-Ok.is c.turn_works-works.ensures.ok in
+    inr (
+      unfinished-on (faults_of g.S.Source.faults g.K.Sink.faults) c.args.works.items c.turn_works-works.result.works.items c.finish-works.result.works.items c.turn_works-works.ensures.later c.finish-works.ensures.later
+      c.in-Err-outcome.refusal
+      (err-of (IsUnfinished (faults_of g.S.Source.faults g.K.Sink.faults) c.turn_works-works.result.works.items c.finish-works.result.works.items) c.finish-works.result.outcome c.in-Err-outcome.refusal c.in-Err-outcome.is c.finish-works.ensures.err),
+      λ opened tell. (was opened tell).sound,
+    )
