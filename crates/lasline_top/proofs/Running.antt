@@ -76,7 +76,7 @@ run-because file m stages rose files out map refusal plan told more cause = go r
     ]
     go (of.Device at.PipelineFile o) c = absurd c
     go (of.Device at.Out o) c = absurd c
-    go (of.Pipeline f) c = absurd c
+    go (of.Pipeline f) c = run-is ∙ c m told
     go (of.Usage k) c = absurd c
     go (of.NotBuilt k) c = absurd c
 
@@ -87,7 +87,7 @@ run-inside rose map stages (of.Data i f) c = tt
 run-inside rose map stages (of.Device (at.Stage i) o) c = tt
 run-inside rose map stages (of.Device at.PipelineFile o) c = absurd c
 run-inside rose map stages (of.Device at.Out o) c = absurd c
-run-inside rose map stages (of.Pipeline f) c = absurd c
+run-inside rose map stages (of.Pipeline f) c = tt
 run-inside rose map stages (of.Usage k) c = absurd c
 run-inside rose map stages (of.NotBuilt k) c = absurd c
 
@@ -111,7 +111,7 @@ run-risen rose files out map stages (of.Device (at.Stage i) o) none more c = eli
 ]
 run-risen rose files out map stages (of.Device at.PipelineFile o) none more c = absurd c
 run-risen rose files out map stages (of.Device at.Out o) none more c = absurd c
-run-risen rose files out map stages (of.Pipeline f) none more c = absurd c
+run-risen rose files out map stages (of.Pipeline f) none more c = tt
 run-risen rose files out map stages (of.Usage k) none more c = absurd c
 run-risen rose files out map stages (of.NotBuilt k) none more c = absurd c
 
