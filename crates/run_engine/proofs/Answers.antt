@@ -11,7 +11,7 @@ use Rattle.network_core.proofs.Opened.{some_at}
 use Rattle.run_report.specs.declared.report.StageCount.{StageCount}
 use Rattle.stage_runs.proofs.Works.{op-at-start}
 use Rattle.cloud_points.specs.declared.faults.PointFault.{PointFault}
-use Rattle.stage_kinds.specs.declared.kind.Kind.{Kind}
+use Rattle.stage_kinds.specs.declared.stage_work.StageWork.{StageWork}
 use Rattle.stage_kinds.specs.declared.held.Held.{Held}
 use Rattle.stage_kinds.specs.declared.held.Held.TheVariants.{Nothing, Source, Sink}
 use Rattle.stage_kinds.specs.Held.{op_of, held_by, op_on}
@@ -91,12 +91,12 @@ at-keeping earlier all right (Writes name) w r = r
 rose-given : (before after files end : ℕ) → Rose before after → saturating files after ≤ end → Rose files end
 rose-given before after files end rose back = omega (arith, rose, back)
 
-module _ {S K : Type 0} (s : source.Ghosts S) (faults : Kind S K → ℕ) (map : Option Names) (stages : List StageSpec) (old new : List (Kind S K)) (start mid end : ℕ)
+module _ {S K : Type 0} (s : source.Ghosts S) (faults : StageWork S K → ℕ) (map : Option Names) (stages : List StageSpec) (old new : List (StageWork S K)) (start mid end : ℕ)
     (few : length old ≡ length stages)
     (read : (m : Names) → map ≡ Some m → AreRead m stages (length stages))
     (tells : (m : Names) → map ≡ Some m → WorksTell s old (opened_in m stages))
-    (fit : (i : ℕ) (w : Kind S K) → slice_get old i ≡ Some w → op_of w ≡ op_for (role_at stages i))
-    (low : start ≤ mid) (back : (i : ℕ) (w : Kind S K) → slice_get new i ≡ Some w → saturating mid (faults w) ≤ end) where
+    (fit : (i : ℕ) (w : StageWork S K) → slice_get old i ≡ Some w → op_of w ≡ op_for (role_at stages i))
+    (low : start ≤ mid) (back : (i : ℕ) (w : StageWork S K) → slice_get new i ≡ Some w → saturating mid (faults w) ≤ end) where
   pub turns-to-cause : (r : Refusal) → IsTurnsCause s faults stages old new r → IsCause (Rose start end) map stages r
   turns-to-cause of.Memory c = tt
   turns-to-cause (of.Data i (fault.Point f)) c = λ m e. run-fault m stages i f (read m e) (c (opened_in m stages) (tells m e))
@@ -127,7 +127,7 @@ op-early i h op.Create e = tt
 op-early i h op.Write e = tt
 op-early i h op.Patch e = tt
 
-pub turns-early : {S K : Type 0} (s : source.Ghosts S) (faults : Kind S K → ℕ) (stages : List StageSpec) (old new : List (Kind S K)) (r : Refusal) → IsTurnsCause s faults stages old new r → IsEarly r
+pub turns-early : {S K : Type 0} (s : source.Ghosts S) (faults : StageWork S K → ℕ) (stages : List StageSpec) (old new : List (StageWork S K)) (r : Refusal) → IsTurnsCause s faults stages old new r → IsEarly r
 turns-early s faults stages old new of.Memory c = tt
 turns-early s faults stages old new (of.Data i f) c = tt
 turns-early s faults stages old new (of.Device (at.Stage i) o) c = op-early i (held_by c.before) o c.does
@@ -137,7 +137,7 @@ turns-early s faults stages old new (of.Pipeline f) c = tt
 turns-early s faults stages old new (of.Usage k) c = tt
 turns-early s faults stages old new (of.NotBuilt k) c = tt
 
-module _ {S K : Type 0} (bytes : K → Option (List ℕ)) (stages : List StageSpec) (works : List (Kind S K)) (few : length works ≡ length stages) where
+module _ {S K : Type 0} (bytes : K → Option (List ℕ)) (stages : List StageSpec) (works : List (StageWork S K)) (few : length works ≡ length stages) where
   -- a file that wasn't kept is the cause, where the answer is right
   pub broke-cause : (rose : Type 0) (map old new : Option Names) (r : Refusal) → ((m : Names) → map ≡ Some m → IsOk (run_of m stages)) → BrokeOff bytes rose old new stages works r → IsCause rose map stages r
   broke-cause rose map old new r right broke = elim broke.why [
@@ -170,7 +170,7 @@ pub tells-there : {S : Type 0} (s : source.Ghosts S) (m : Names) (stages : List 
 tells-there s m stages i r t = record { file = t.file; told = t.told; holds = t.holds }
 
 -- later works hold as many devices
-held-same : {S K : Type 0} (xs ys : List (Kind S K)) → length ys ≡ length xs → ((i : ℕ) (v w : Kind S K) → slice_get xs i ≡ Some v → slice_get ys i ≡ Some w → there (op_of w) ≡ there (op_of v)) → all_held ys ≡ all_held xs
+held-same : {S K : Type 0} (xs ys : List (StageWork S K)) → length ys ≡ length xs → ((i : ℕ) (v w : StageWork S K) → slice_get xs i ≡ Some v → slice_get ys i ≡ Some w → there (op_of w) ≡ there (op_of v)) → all_held ys ≡ all_held xs
 held-same [] [] l h = refl
 held-same [] (y ∷ ys) l h = absurd (omega (arith, l))
 held-same (x ∷ xs) [] l h = absurd (omega (arith, l))
@@ -181,16 +181,16 @@ held-same (x ∷ xs) (y ∷ ys) l h =
     let q = sum_by-cons (λ w. there (op_of w)) y ys in
     omega (arith, a, r, p, q)
 
-pub same-held : {S K : Type 0} (faults : Kind S K → ℕ) (old new : List (Kind S K)) → AreLater faults old new → all_held new ≡ all_held old
+pub same-held : {S K : Type 0} (faults : StageWork S K → ℕ) (old new : List (StageWork S K)) → AreLater faults old new → all_held new ≡ all_held old
 same-held faults old new later = held-same old new later.count (λ i v w e f. ap there (later.op i v w e f))
 
 -- a run whose stages came to their end
-module _ {S K : Type 0} (s : source.Ghosts S) (k : sink.Ghosts K) (map : Option Names) (stages : List StageSpec) (works done : List (Kind S K)) (few : length works ≡ length stages)
-    (begun : AreBegun s k map stages works) (read : (m : Names) → map ≡ Some m → AreRead m stages (length stages)) (faults : Kind S K → ℕ) (later : AreLater faults works done) where
+module _ {S K : Type 0} (s : source.Ghosts S) (k : sink.Ghosts K) (map : Option Names) (stages : List StageSpec) (works done : List (StageWork S K)) (few : length works ≡ length stages)
+    (begun : AreBegun s k map stages works) (read : (m : Names) → map ≡ Some m → AreRead m stages (length stages)) (faults : StageWork S K → ℕ) (later : AreLater faults works done) where
   pub works-tell : (m : Names) → map ≡ Some m → WorksTell s works (opened_in m stages)
   works-tell m e i w r a b = tells-there s m stages i r ((begun i w a).tells m e r b)
 
-  pub starts-fit : (i : ℕ) (w : Kind S K) → slice_get works i ≡ Some w → op_of w ≡ op_for (role_at stages i)
+  pub starts-fit : (i : ℕ) (w : StageWork S K) → slice_get works i ≡ Some w → op_of w ≡ op_for (role_at stages i)
   starts-fit i w e = op-at-start s k.bytes (options_at stages i) w (begun i w e).start
 
   pub fit : AreFor stages done

@@ -8,19 +8,19 @@ use Rattle.network_core.proofs.Opened.{some_at}
 use Rattle.file_devices.specs.Counts.{Rose}
 use Rattle.file_devices.specs.declared.devices.Op.{Op}
 use Rattle.cloud_points.specs.declared.point.Point.{Point}
-use Rattle.stage_kinds.specs.declared.kind.Kind.{Kind}
+use Rattle.stage_kinds.specs.declared.stage_work.StageWork.{StageWork}
 use Rattle.stage_kinds.specs.Held.{op_of}
 use Rattle.stage_kinds.specs.Stages.{holds_of}
 use Rattle.run_engine.specs.Turns.{AreLater, KeepHolding, FailedAt}
 use Rattle.run_engine.proofs.Outcomes.{same_some}
 
-module _ {S K : Type 0} (bytes : K → Option (List ℕ)) (faults : Kind S K → ℕ) (old now : List (Kind S K)) (i : ℕ) (v w : Kind S K)
+module _ {S K : Type 0} (bytes : K → Option (List ℕ)) (faults : StageWork S K → ℕ) (old now : List (StageWork S K)) (i : ℕ) (v w : StageWork S K)
     (later : AreLater faults old now) (here : slice_get now i ≡ Some v) (op : op_of w ≡ op_of v) (count : faults v ≤ faults w) where
   inside : i < length now
   inside = slice_get_within now i v here
 
   -- at the place itself the work before and after, at another place the same work
-  at-place : (Q : Kind S K → Kind S K → Type 0) → Q v w → ((x : Kind S K) → Q x x) → (k : ℕ) (y : Kind S K) → slice_get (slice_set now i w) k ≡ Some y → (x : Kind S K) × (slice_get now k ≡ Some x) × Q x y
+  at-place : (Q : StageWork S K → StageWork S K → Type 0) → Q v w → ((x : StageWork S K) → Q x x) → (k : ℕ) (y : StageWork S K) → slice_get (slice_set now i w) k ≡ Some y → (x : StageWork S K) × (slice_get now k ≡ Some x) × Q x y
   at-place Q one same k y e = elim (eqb_tells k i) [
     | inl p ↦ (v, ap (slice_get now) p.1 ∙ here, subst (Q v) (same_some w y (sym (slice_get-set_same now i w inside) ∙ ap (slice_get (slice_set now i w)) (sym p.1) ∙ e)) one)
     | inr p ↦ (y, sym (slice_get-set_other now i k w p.1) ∙ e, same y)

@@ -7,7 +7,7 @@ use Rattle.pipeline_json.specs.Stages.{Stage, taken}
 use Rattle.pipeline_json.specs.Trees.{IsTree}
 use Rattle.pipeline_json.proofs.Taken.{times-append}
 use Rattle.stage_names.specs.Kinds as names
-use Rattle.stage_kinds.specs.declared.kind.Kind.{Kind}
+use Rattle.stage_kinds.specs.declared.stage_work.StageWork.{StageWork}
 use Rattle.stage_kinds.specs.Stages.{is_reader}
 use Rattle.stage_options.specs.Kinds.{HaveOwnOptions}
 use Rattle.stage_options.specs.Shapes.{shape, shapes}
@@ -106,7 +106,7 @@ none-empty : (xs : List ℕ) → length xs ≡ 0 → is_empty xs ≡ true
 none-empty [] e = refl
 none-empty (x ∷ xs) e = absurd (omega (arith, e))
 
-leaf-inputs : {S K : Type 0} (source : source.Ghosts S) (bytes : K → Option (List ℕ)) (stages : List StageSpec) (i : ℕ) (s : StageSpec) (w : Kind S K) → IsTree (shapes stages) → HaveOwnOptions stages → slice_get stages i ≡ Some s → IsAtStart bytes s.options w
+leaf-inputs : {S K : Type 0} (source : source.Ghosts S) (bytes : K → Option (List ℕ)) (stages : List StageSpec) (i : ℕ) (s : StageSpec) (w : StageWork S K) → IsTree (shapes stages) → HaveOwnOptions stages → slice_get stages i ≡ Some s → IsAtStart bytes s.options w
     → (is_reader w ≡ true → length s.ins ≡ 0) × (length s.ins ≡ 0 → is_reader w ≡ true)
 leaf-inputs source bytes stages i s w tree own e start =
     let reads : is_empty s.ins ≡ is_reader w = tree.readers i (shape s) (shape-at stages i s e) ∙ sym (start-reads source bytes s.options w start ∙ ap names.is_reader (own i s e)) in
@@ -120,7 +120,7 @@ input-count stages i s tree lt e =
     let c = shapes-size stages in
     omega (arith, a, b, c, lt)
 
-pub leaf-at : {S K : Type 0} (source : source.Ghosts S) (bytes : K → Option (List ℕ)) (stages : List StageSpec) (i : ℕ) (w : Kind S K) → IsTree (shapes stages) → HaveOwnOptions stages → i < length stages → IsAtStart bytes (options_at stages i) w
+pub leaf-at : {S K : Type 0} (source : source.Ghosts S) (bytes : K → Option (List ℕ)) (stages : List StageSpec) (i : ℕ) (w : StageWork S K) → IsTree (shapes stages) → HaveOwnOptions stages → i < length stages → IsAtStart bytes (options_at stages i) w
     → (is_reader w ≡ true → length ((stage_at stages i).ins) ≡ 0) × (length ((stage_at stages i).ins) ≡ 0 → is_reader w ≡ true)
 leaf-at source bytes stages i w tree own lt start =
     let s = some_at stages i lt in

@@ -2,7 +2,7 @@
 use Rattle.std.proofs.Common.{◌≡◌, ℕ, ◌+◌, ◌≤◌, ◌<◌, List, length, slice_get, Option, Some, ap, sym, ◌∙◌, inl, inr, add-one}
 use Rattle.file_devices.specs.Counts.{Rose}
 use Rattle.file_devices.specs.Named.{Names}
-use Rattle.stage_kinds.specs.declared.kind.Kind.{Kind}
+use Rattle.stage_kinds.specs.declared.stage_work.StageWork.{StageWork}
 use Rattle.stage_options.specs.Roles.{Role, is_writing}
 use Rattle.stage_options.specs.declared.stage.StageSpec.{StageSpec}
 use Rattle.run_report.specs.declared.refusal.Refusal.{Refusal}
@@ -11,16 +11,16 @@ use Rattle.run_engine.specs.Keeping.{kept_one, kept_if, kept_first, NotKept, Bro
 use Rattle.run_engine.proofs.Causes.{rose-within}
 
 module _ {S K : Type 0} (bytes : K → Option (List ℕ)) where
-  kept-more : (old : Option Names) (stages : List StageSpec) (works : List (Kind S K)) (i : ℕ) (w : Kind S K) → slice_get works i ≡ Some w
+  kept-more : (old : Option Names) (stages : List StageSpec) (works : List (StageWork S K)) (i : ℕ) (w : StageWork S K) → slice_get works i ≡ Some w
       → kept_first bytes (i + 1) old stages works ≡ kept_one bytes (kept_first bytes i old stages works) (role_at stages i) w
   kept-more old stages works i w e = rw add-one (ap (kept_if bytes (kept_first bytes i old stages works) (role_at stages i)) e)
 
-  pub kept-next : (old now new : Option Names) (stages : List StageSpec) (works : List (Kind S K)) (i : ℕ) (w : Kind S K) (role : Role) → role ≡ role_at stages i → slice_get works i ≡ Some w
+  pub kept-next : (old now new : Option Names) (stages : List StageSpec) (works : List (StageWork S K)) (i : ℕ) (w : StageWork S K) (role : Role) → role ≡ role_at stages i → slice_get works i ≡ Some w
       → now ≡ kept_first bytes i old stages works → new ≡ kept_one bytes now role w → new ≡ kept_first bytes (i + 1) old stages works
   kept-next old now new stages works i w role is e was one =
       one ∙ ap (λ m. kept_one bytes m role w) was ∙ ap (λ r. kept_one bytes (kept_first bytes i old stages works) r w) is ∙ sym (kept-more old stages works i w e)
 
-  pub broke-off : (old now new end : Option Names) (f0 f1 f2 f3 : ℕ) (stages : List StageSpec) (works : List (Kind S K)) (i : ℕ) (w : Kind S K) (role : Role) (refusal : Refusal) → role ≡ role_at stages i → slice_get works i ≡ Some w
+  pub broke-off : (old now new end : Option Names) (f0 f1 f2 f3 : ℕ) (stages : List StageSpec) (works : List (StageWork S K)) (i : ℕ) (w : StageWork S K) (role : Role) (refusal : Refusal) → role ≡ role_at stages i → slice_get works i ≡ Some w
       → i < length works → now ≡ kept_first bytes i old stages works → f0 ≤ f1 → f2 ≤ f3 → end ≡ new → NotKept (Rose f1 f2) i role now new (kept_one bytes now role w) refusal
       → BrokeOff bytes (Rose f0 f3) old end stages works refusal
   broke-off old now new end f0 f1 f2 f3 stages works i w role refusal is e inside was low high same not = record {

@@ -9,7 +9,7 @@ use Rattle.file_devices.specs.declared.devices.Op.TheVariants as op
 use Rattle.file_devices.specs.declared.devices.Source as source
 use Rattle.file_devices.specs.declared.devices.Sink as sink
 use Rattle.las_reader.specs.declared.reader.LasReader.{LasReader}
-use Rattle.stage_kinds.specs.declared.kind.Kind.TheVariants.{Reader}
+use Rattle.stage_kinds.specs.declared.stage_work.StageWork.TheVariants.{Reader}
 use Rattle.stage_options.specs.Roles.{Role, Reads, Filters, Writes, role_of, is_reading}
 use Rattle.stage_options.specs.declared.options.Options.{Options}
 use Rattle.stage_options.specs.declared.stage.StageSpec.{StageSpec}

@@ -10,7 +10,7 @@ use Rattle.network_core.proofs.Opened.{some_at}
 use Rattle.file_devices.specs.Named.{Names, put, kept}
 use Rattle.file_devices.specs.Told.{IsAsTold}
 use Rattle.cloud_points.specs.Flows.{points}
-use Rattle.stage_kinds.specs.declared.kind.Kind.{Kind}
+use Rattle.stage_kinds.specs.declared.stage_work.StageWork.{StageWork}
 use Rattle.stage_kinds.specs.Held.{told_by}
 use Rattle.stage_kinds.specs.Stages.{holds_of}
 use Rattle.stage_options.specs.Roles.{Role, Reads, Filters, Writes, is_reading}
@@ -98,9 +98,9 @@ module _ (stages : List StageSpec) (opened : Opened) where
           ∙ less p
       by_place less (inr p) = before-all i (suc n) (omega (arith, p)) ∙ ap (outputs_below stages opened) (sym p)
 
-  module _ {S K : Type 0} (s : source.Ghosts S) (bytes : K → Option (List ℕ)) (works : List (Kind S K)) (fit : AreFor stages works)
-      (held : (i : ℕ) (w : Kind S K) → slice_get works i ≡ Some w → is_reading (role_at stages i) ≡ false → holds_of bytes w (points (stage_input stages opened i)) ≡ true) where
-    one-put : (i : ℕ) (w : Kind S K) (m : Names) (now : Option Names) → slice_get works i ≡ Some w → IsAsTold now (Some m) → IsAsTold (kept_one bytes now (role_at stages i) w) (Some (put_all m (output_at stages opened i)))
+  module _ {S K : Type 0} (s : source.Ghosts S) (bytes : K → Option (List ℕ)) (works : List (StageWork S K)) (fit : AreFor stages works)
+      (held : (i : ℕ) (w : StageWork S K) → slice_get works i ≡ Some w → is_reading (role_at stages i) ≡ false → holds_of bytes w (points (stage_input stages opened i)) ≡ true) where
+    one-put : (i : ℕ) (w : StageWork S K) (m : Names) (now : Option Names) → slice_get works i ≡ Some w → IsAsTold now (Some m) → IsAsTold (kept_one bytes now (role_at stages i) w) (Some (put_all m (output_at stages opened i)))
     one-put i w m now e told = by_role (role_at stages i) refl
       where
         by_role : (role : Role) → role_at stages i ≡ role → IsAsTold (kept_one bytes now role w) (Some (put_all m (written i role ((row_at stages i).bytes (points (stage_input stages opened i))))))

@@ -16,7 +16,7 @@ use Rattle.cloud_points.specs.Queue.{up_to_limit}
 use Rattle.network_core.specs.declared.node.Node.{Node}
 use Rattle.network_core.specs.Shown.{work_of}
 use Rattle.network_solo.specs.Trees.{NoneCame}
-use Rattle.stage_kinds.specs.declared.kind.Kind.{Kind}
+use Rattle.stage_kinds.specs.declared.stage_work.StageWork.{StageWork}
 use Rattle.stage_kinds.specs.Held.{op_of, faults_of}
 use Rattle.stage_kinds.specs.Stages.{holds_of}
 use Rattle.stage_options.specs.Roles.{role_of, target_of}
@@ -71,12 +71,12 @@ no-fault-device f e = ap is_device e
 same-count : (i : ℕ) (k l : _) (v v' p p' : ℕ) (w w' : Option ℕ) → k ≡ l → v ≡ v' → p ≡ p' → w ≡ w' → ◌≡◌ {A = StageCount} (record { stage = i; kind = k; views = v; points = p; wrote = w }) (record { stage = i; kind = l; views = v'; points = p'; wrote = w' })
 same-count i k l v v' p p' w w' a b c d = cc
 
-module _ {S K : Type 0} (s : source.Ghosts S) (k : sink.Ghosts K) (stages : List StageSpec) (old new : List (Node (Kind S K))) (works : List (Kind S K))
+module _ {S K : Type 0} (s : source.Ghosts S) (k : sink.Ghosts K) (stages : List StageSpec) (old new : List (Node (StageWork S K))) (works : List (StageWork S K))
     (is_works : map work_of old ≡ works) (fresh : AreNewStages s k stages old) (ran : AreRanStages s k stages old new) where
-  faults : Kind S K → ℕ
+  faults : StageWork S K → ℕ
   faults = faults_of s.faults k.faults
 
-  was : (i : ℕ) (v : Kind S K) → slice_get works i ≡ Some v → (n : Node (Kind S K)) × (slice_get old i ≡ Some n) × (work_of n ≡ v)
+  was : (i : ℕ) (v : StageWork S K) → slice_get works i ≡ Some v → (n : Node (StageWork S K)) × (slice_get old i ≡ Some n) × (work_of n ≡ v)
   was i v e = mapped-at work_of old i v (ap (λ xs. slice_get xs i) is_works ∙ e)
 
   pub later : AreLater (faults_of s.faults k.faults) works (map work_of new)
@@ -96,25 +96,25 @@ module _ {S K : Type 0} (s : source.Ghosts S) (k : sink.Ghosts K) (stages : List
   }
 
   -- the node that stood at a place before the run
-  before : (i : ℕ) (m : Node (Kind S K)) → slice_get new i ≡ Some m → (n : Node (Kind S K)) × (slice_get old i ≡ Some n)
+  before : (i : ℕ) (m : Node (StageWork S K)) → slice_get new i ≡ Some m → (n : Node (StageWork S K)) × (slice_get old i ≡ Some n)
   before i m e = some_at old i (let a = slice_get_within new i m e in let b = ran.tree.count in omega (arith, a, b))
 
-  after : (i : ℕ) → i < length stages → (m : Node (Kind S K)) × (slice_get new i ≡ Some m)
+  after : (i : ℕ) → i < length stages → (m : Node (StageWork S K)) × (slice_get new i ≡ Some m)
   after i lt = some_at new i (let a = ran.tree.count in let b = fresh.count in omega (arith, a, b, lt))
 
-  quiet : ((i : ℕ) (m : Node (Kind S K)) → slice_get new i ≡ Some m → is_device m.fault ≡ false) → NoneCame (as_works s k) old new
+  quiet : ((i : ℕ) (m : Node (StageWork S K)) → slice_get new i ≡ Some m → is_device m.fault ≡ false) → NoneCame (as_works s k) old new
   quiet none i n m e f = record { fault = none i m f; short = refl }
 
   module _ (opened : Opened) (tell : WorksTell s works opened) where
     readers-tell : ReadersTell s old opened
     readers-tell i n r e w = tell i (work_of n) r (ap (λ xs. slice_get xs i) (sym is_works) ∙ map-at work_of old i n e) w
 
-    module _ (down : IsDown stages) (none : (i : ℕ) (m : Node (Kind S K)) → slice_get new i ≡ Some m → is_device m.fault ≡ false) where
-      ends : (i : ℕ) (m : Node (Kind S K)) → slice_get new i ≡ Some m → EndsAsStage s k stages opened i m
+    module _ (down : IsDown stages) (none : (i : ℕ) (m : Node (StageWork S K)) → slice_get new i ≡ Some m → is_device m.fault ≡ false) where
+      ends : (i : ℕ) (m : Node (StageWork S K)) → slice_get new i ≡ Some m → EndsAsStage s k stages opened i m
       ends = ran.ends (quiet none) opened readers-tell
 
       -- a node without a fault is one of a stage without a fault
-      sound-at : (i : ℕ) (m : Node (Kind S K)) → slice_get new i ≡ Some m → m.fault ≡ None → stage_fault stages opened i ≡ None
+      sound-at : (i : ℕ) (m : Node (StageWork S K)) → slice_get new i ≡ Some m → m.fault ≡ None → stage_fault stages opened i ≡ None
       sound-at i m e f = no-point (stage_fault stages opened i) (sym f ∙ (ends i m e).fault)
 
       pub came : NoFault new → (counts : List StageCount) → length counts ≡ length stages → AreCounted stages new counts → CameToEnd k.bytes stages opened (map work_of new) counts
@@ -125,7 +125,7 @@ module _ {S K : Type 0} (s : source.Ghosts S) (k : sink.Ghosts K) (stages : List
             subst (λ x. holds_of k.bytes x (points (stage_input stages opened i)) ≡ true) m.2 ((ends i m.0 m.1).holds reads (sound i m.0 m.1));
       }
         where
-          one-count : (i : ℕ) (t : StageSpec) (m : Node (Kind S K)) → slice_get stages i ≡ Some t → slice_get new i ≡ Some m → node_count i t m ≡ count_at stages opened i
+          one-count : (i : ℕ) (t : StageSpec) (m : Node (StageWork S K)) → slice_get stages i ≡ Some t → slice_get new i ≡ Some m → node_count i t m ≡ count_at stages opened i
           one-count i t m e f =
               let g = (ends i m f).gave in
               let is = stage-is stages i t e in
@@ -147,7 +147,7 @@ module _ {S K : Type 0} (s : source.Ghosts S) (k : sink.Ghosts K) (stages : List
               zero-first : (n : ℕ) → n ≡ 0 + n
               zero-first n = omega arith
 
-      pub first-fault : (i : ℕ) (f : PointFault) → HasFirst point_fault new i f → ((j : ℕ) (m : Node (Kind S K)) → slice_get new j ≡ Some m → device_op m.fault ≡ None) → least_fault stages opened ≡ Some (i, f)
+      pub first-fault : (i : ℕ) (f : PointFault) → HasFirst point_fault new i f → ((j : ℕ) (m : Node (StageWork S K)) → slice_get new j ≡ Some m → device_op m.fault ≡ None) → least_fault stages opened ≡ Some (i, f)
       first-fault i f has no-devices =
           let m = has.here.node in
           let here = the-point f (stage_fault stages opened i) (sym (a-point m.fault f has.here.is) ∙ (ends i m has.here.at).fault) in
@@ -174,7 +174,7 @@ module _ {S K : Type 0} (s : source.Ghosts S) (k : sink.Ghosts K) (stages : List
   pub turns-cause : IsDown stages → (r : Refusal) → IsOutcome new r → IsTurnsCause s (faults_of s.faults k.faults) stages works (map work_of new) r
   turns-cause down (of.Device (at.Stage i) o) out = failed-at i o out
   turns-cause down (of.Data i (fault.Point f)) out = λ opened tell.
-      let none : (j : ℕ) (m : Node (Kind S K)) → slice_get new j ≡ Some m → device_op m.fault ≡ None = λ j m e. out.0 j m (slice_get_within new j m e) e in
+      let none : (j : ℕ) (m : Node (StageWork S K)) → slice_get new j ≡ Some m → device_op m.fault ≡ None = λ j m e. out.0 j m (slice_get_within new j m e) e in
       first-fault opened tell down (λ j m e. no-device m.fault (none j m e)) i f out.1 none
   turns-cause down of.Memory out = absurd out
   turns-cause down (of.Device at.PipelineFile o) out = absurd out
@@ -186,14 +186,14 @@ module _ {S K : Type 0} (s : source.Ghosts S) (k : sink.Ghosts K) (stages : List
   turns-cause down (of.NotBuilt n) out = absurd out
 
 -- works that stay
-pub same-later : {S K : Type 0} (faults : Kind S K → ℕ) (old new : List (Kind S K)) → new ≡ old → AreLater faults old new
+pub same-later : {S K : Type 0} (faults : StageWork S K → ℕ) (old new : List (StageWork S K)) → new ≡ old → AreLater faults old new
 same-later faults old new e = subst (AreLater faults old) (sym e) (record { count = refl; op = λ i v w a b. ap op_of (stays i v w a b); later = λ i v w a b. (let c = ap faults (stays i v w a b) in omega (arith, c)) })
   where
-    stays : (i : ℕ) (v w : Kind _ _) → slice_get old i ≡ Some v → slice_get old i ≡ Some w → w ≡ v
+    stays : (i : ℕ) (v w : StageWork _ _) → slice_get old i ≡ Some v → slice_get old i ≡ Some w → w ≡ v
     stays i v w a b = let c : Some v ≡ Some w = sym a ∙ b in cc
 
-module _ {S K : Type 0} (faults : Kind S K → ℕ) (old now new : List (Kind S K)) (first : AreLater faults old now) (second : AreLater faults now new) where
-  mid : (i : ℕ) (v : Kind S K) → slice_get old i ≡ Some v → (x : Kind S K) × (slice_get now i ≡ Some x)
+module _ {S K : Type 0} (faults : StageWork S K → ℕ) (old now new : List (StageWork S K)) (first : AreLater faults old now) (second : AreLater faults now new) where
+  mid : (i : ℕ) (v : StageWork S K) → slice_get old i ≡ Some v → (x : StageWork S K) × (slice_get now i ≡ Some x)
   mid i v e = some_at now i (let a = slice_get_within old i v e in let b = first.count in omega (arith, a, b))
 
   pub later-on : AreLater faults old new

@@ -5,8 +5,8 @@ use Rattle.file_devices.specs.declared.devices.Source as source
 use Rattle.file_devices.specs.declared.devices.Sink as sink
 use Rattle.las_reader.specs.declared.reader.LasReader.{LasReader}
 use Rattle.las_reader.specs.declared.reader.Progress.TheVariants.{Records}
-use Rattle.stage_kinds.specs.declared.kind.Kind.{Kind}
-use Rattle.stage_kinds.specs.declared.kind.Kind.TheVariants.{Reader}
+use Rattle.stage_kinds.specs.declared.stage_work.StageWork.{StageWork}
+use Rattle.stage_kinds.specs.declared.stage_work.StageWork.TheVariants.{Reader}
 use Rattle.stage_kinds.specs.Held.{op_of}
 use Rattle.stage_options.specs.Roles.{Role, Reads, role_of}
 use Rattle.stage_options.specs.declared.options.Options.{Options}
@@ -37,17 +37,17 @@ AreOpened {S} s map stages readers = (i : ℕ) (o : Option (LasReader S)) → sl
 -- ---- works
 
 -- the work of stage i, which has these options, at its start; a reader's source tells its file
-pub record IsWork {S K : Type 0} (s : source.Ghosts S) (k : sink.Ghosts K) (map : Option Names) (i : ℕ) (o : Options) (w : Kind S K) : Type 0 where
+pub record IsWork {S K : Type 0} (s : source.Ghosts S) (k : sink.Ghosts K) (map : Option Names) (i : ℕ) (o : Options) (w : StageWork S K) : Type 0 where
   pub start : IsAtStart k.bytes o w
   pub tells : (m : Names) → map ≡ Some m → (r : LasReader S) → w ≡ Reader r → Tells s (λ j. holds m j (role_of o)) i r
 
 -- so it is at the first stages, as many as there are
-abbrev pub AreBegun : {S K : Type 0} → source.Ghosts S → sink.Ghosts K → Option Names → List StageSpec → List (Kind S K) → Type 0
-AreBegun {S} {K} s k map stages works = (i : ℕ) (w : Kind S K) → slice_get works i ≡ Some w → IsWork s k map i (options_at stages i) w
+abbrev pub AreBegun : {S K : Type 0} → source.Ghosts S → sink.Ghosts K → Option Names → List StageSpec → List (StageWork S K) → Type 0
+AreBegun {S} {K} s k map stages works = (i : ℕ) (w : StageWork S K) → slice_get works i ≡ Some w → IsWork s k map i (options_at stages i) w
 
 -- these works are at their start
-abbrev pub AreStarts : {S K : Type 0} → (K → Option (List ℕ)) → List StageSpec → List (Kind S K) → Type 0
-AreStarts {S} {K} bytes stages works = (i : ℕ) (w : Kind S K) → slice_get works i ≡ Some w → IsAtStart bytes (options_at stages i) w
+abbrev pub AreStarts : {S K : Type 0} → (K → Option (List ℕ)) → List StageSpec → List (StageWork S K) → Type 0
+AreStarts {S} {K} bytes stages works = (i : ℕ) (w : StageWork S K) → slice_get works i ≡ Some w → IsAtStart bytes (options_at stages i) w
 
 -- ---- what they hold
 
@@ -59,5 +59,5 @@ abbrev pub all_there : {A : Type 0} → List (Option A) → ℕ
 all_there os = sum_by there os
 
 -- how many devices works hold
-abbrev pub all_held : {S K : Type 0} → List (Kind S K) → ℕ
+abbrev pub all_held : {S K : Type 0} → List (StageWork S K) → ℕ
 all_held works = sum_by (λ w. there (op_of w)) works

@@ -3,7 +3,7 @@ use Rattle.std.specs.Prelude.{◌≡◌, ◌⊎◌, ℕ, ◌+◌, ◌<◌, true,
 use Rattle.std.proofs.Common.{zero, suc}
 use Rattle.file_devices.specs.Named.{Names, kept}
 use Rattle.file_devices.specs.declared.devices.Op.TheVariants.{Keep}
-use Rattle.stage_kinds.specs.declared.kind.Kind.{Kind}
+use Rattle.stage_kinds.specs.declared.stage_work.StageWork.{StageWork}
 use Rattle.stage_kinds.specs.Held.{op_of, told_by}
 use Rattle.stage_options.specs.Roles.{Role, Writes, is_writing}
 use Rattle.stage_options.specs.declared.stage.StageSpec.{StageSpec}
@@ -14,26 +14,26 @@ use Rattle.answer_model.specs.Values.{role_at}
 use Rattle.stage_runs.specs.Works.{op_for}
 
 -- works that hold the devices of their stages' roles
-abbrev pub AreFor : {S K : Type 0} → List StageSpec → List (Kind S K) → Type 0
-AreFor {S} {K} stages works = (i : ℕ) (w : Kind S K) → slice_get works i ≡ Some w → op_of w ≡ op_for (role_at stages i)
+abbrev pub AreFor : {S K : Type 0} → List StageSpec → List (StageWork S K) → Type 0
+AreFor {S} {K} stages works = (i : ℕ) (w : StageWork S K) → slice_get works i ≡ Some w → op_of w ≡ op_for (role_at stages i)
 
 module _ {S K : Type 0} (bytes : K → Option (List ℕ)) where
   -- the map after the file of a stage that does this is kept, if it writes one
-  abbrev pub kept_one : Option Names → Role → Kind S K → Option Names
+  abbrev pub kept_one : Option Names → Role → StageWork S K → Option Names
   kept_one old (Writes name) w = kept old name (told_by bytes w)
   kept_one old _ w = old
 
-  abbrev pub kept_if : Option Names → Role → Option (Kind S K) → Option Names
+  abbrev pub kept_if : Option Names → Role → Option (StageWork S K) → Option Names
   kept_if old role None = old
   kept_if old role (Some w) = kept_one old role w
 
   -- the map after the files of the first so many stages are kept, in their order
-  abbrev pub kept_first : ℕ → Option Names → List StageSpec → List (Kind S K) → Option Names
+  abbrev pub kept_first : ℕ → Option Names → List StageSpec → List (StageWork S K) → Option Names
   kept_first zero old stages works = old
   kept_first (suc i) old stages works = kept_if (kept_first i old stages works) (role_at stages i) (slice_get works i)
 
   -- the file of a stage wasn't kept: memory was wanting or its device failed, and those before it are kept, and it is or isn't
-  pub record BrokeOff (rose : Type 0) (old new : Option Names) (stages : List StageSpec) (works : List (Kind S K)) (refusal : Refusal) : Type 0 where
+  pub record BrokeOff (rose : Type 0) (old new : Option Names) (stages : List StageSpec) (works : List (StageWork S K)) (refusal : Refusal) : Type 0 where
     pub stage : ℕ
     pub inside : stage < length works
     pub writes : is_writing (role_at stages stage) ≡ true

@@ -6,8 +6,8 @@ use Rattle.file_devices.specs.declared.devices.Source as source
 use Rattle.cloud_points.specs.declared.point.Point.{Point}
 use Rattle.cloud_points.specs.Flows.{points}
 use Rattle.las_reader.specs.declared.reader.LasReader.{LasReader}
-use Rattle.stage_kinds.specs.declared.kind.Kind.{Kind}
-use Rattle.stage_kinds.specs.declared.kind.Kind.TheVariants.{Reader}
+use Rattle.stage_kinds.specs.declared.stage_work.StageWork.{StageWork}
+use Rattle.stage_kinds.specs.declared.stage_work.StageWork.TheVariants.{Reader}
 use Rattle.stage_kinds.specs.Held.{op_of}
 use Rattle.stage_kinds.specs.Stages.{holds_of}
 use Rattle.stage_options.specs.Roles.{is_reading}
@@ -21,42 +21,42 @@ use Rattle.answer_model.specs.Values.{Opened, role_at, stage_input, least_fault,
 use Rattle.stage_runs.specs.Works.{Tells}
 
 -- the readers' sources tell these files
-abbrev pub WorksTell : {S K : Type 0} → source.Ghosts S → List (Kind S K) → Opened → Type 0
-WorksTell {S} {K} s works opened = (i : ℕ) (w : Kind S K) (r : LasReader S) → slice_get works i ≡ Some w → w ≡ Reader r → Tells s opened i r
+abbrev pub WorksTell : {S K : Type 0} → source.Ghosts S → List (StageWork S K) → Opened → Type 0
+WorksTell {S} {K} s works opened = (i : ℕ) (w : StageWork S K) (r : LasReader S) → slice_get works i ≡ Some w → w ≡ Reader r → Tells s opened i r
 
 -- the same works later: each holds the device that it held, whose count of faults didn't fall
-pub record AreLater {S K : Type 0} (faults : Kind S K → ℕ) (old new : List (Kind S K)) : Type 0 where
+pub record AreLater {S K : Type 0} (faults : StageWork S K → ℕ) (old new : List (StageWork S K)) : Type 0 where
   pub count : length new ≡ length old
-  pub op : (i : ℕ) (v w : Kind S K) → slice_get old i ≡ Some v → slice_get new i ≡ Some w → op_of w ≡ op_of v
-  pub later : (i : ℕ) (v w : Kind S K) → slice_get old i ≡ Some v → slice_get new i ≡ Some w → faults v ≤ faults w
+  pub op : (i : ℕ) (v w : StageWork S K) → slice_get old i ≡ Some v → slice_get new i ≡ Some w → op_of w ≡ op_of v
+  pub later : (i : ℕ) (v w : StageWork S K) → slice_get old i ≡ Some v → slice_get new i ≡ Some w → faults v ≤ faults w
 
 -- what a work held it holds later
-abbrev pub KeepHolding : {S K : Type 0} → (K → Option (List ℕ)) → List (Kind S K) → List (Kind S K) → Type 0
-KeepHolding {S} {K} bytes old new = (i : ℕ) (v w : Kind S K) (ps : List Point) → slice_get old i ≡ Some v → slice_get new i ≡ Some w → holds_of bytes v ps ≡ true → holds_of bytes w ps ≡ true
+abbrev pub KeepHolding : {S K : Type 0} → (K → Option (List ℕ)) → List (StageWork S K) → List (StageWork S K) → Type 0
+KeepHolding {S} {K} bytes old new = (i : ℕ) (v w : StageWork S K) (ps : List Point) → slice_get old i ≡ Some v → slice_get new i ≡ Some w → holds_of bytes v ps ≡ true → holds_of bytes w ps ≡ true
 
 -- the device of the work at a place failed in this
-pub record FailedAt {S K : Type 0} (faults : Kind S K → ℕ) (old new : List (Kind S K)) (i : ℕ) (o : Op) : Type 0 where
-  pub before : Kind S K
-  pub after : Kind S K
+pub record FailedAt {S K : Type 0} (faults : StageWork S K → ℕ) (old new : List (StageWork S K)) (i : ℕ) (o : Op) : Type 0 where
+  pub before : StageWork S K
+  pub after : StageWork S K
   pub was : slice_get old i ≡ Some before
   pub is : slice_get new i ≡ Some after
   pub does : op_of before ≡ Some o
   pub rose : Rose (faults before) (faults after)
 
 -- the stages came to their end over these files: none has a fault, they gave on so much, and writers hold what they took
-pub record CameToEnd {S K : Type 0} (bytes : K → Option (List ℕ)) (stages : List StageSpec) (opened : Opened) (works : List (Kind S K)) (counts : List StageCount) : Type 0 where
+pub record CameToEnd {S K : Type 0} (bytes : K → Option (List ℕ)) (stages : List StageSpec) (opened : Opened) (works : List (StageWork S K)) (counts : List StageCount) : Type 0 where
   pub sound : least_fault stages opened ≡ None
   pub counted : counts ≡ counts_of stages opened
-  pub held : (i : ℕ) (w : Kind S K) → slice_get works i ≡ Some w → is_reading (role_at stages i) ≡ false → holds_of bytes w (points (stage_input stages opened i)) ≡ true
+  pub held : (i : ℕ) (w : StageWork S K) → slice_get works i ≡ Some w → is_reading (role_at stages i) ≡ false → holds_of bytes w (points (stage_input stages opened i)) ≡ true
 
 -- why they didn't: memory was wanting, a device failed, or this is the fault of the least stage that has one
-abbrev pub IsTurnsCause : {S K : Type 0} → source.Ghosts S → (Kind S K → ℕ) → List StageSpec → List (Kind S K) → List (Kind S K) → Refusal → Type 0
+abbrev pub IsTurnsCause : {S K : Type 0} → source.Ghosts S → (StageWork S K → ℕ) → List StageSpec → List (StageWork S K) → List (StageWork S K) → Refusal → Type 0
 IsTurnsCause s faults stages old new of.Memory = ⊤
 IsTurnsCause s faults stages old new (of.Data i (fault.Point f)) = (opened : Opened) → WorksTell s old opened → least_fault stages opened ≡ Some (i, f)
 IsTurnsCause s faults stages old new (of.Device (at.Stage i) o) = FailedAt faults old new i o
 IsTurnsCause s faults stages old new refusal = ⊥
 
 -- a writer couldn't finish, since its device failed
-abbrev pub IsUnfinished : {S K : Type 0} → (Kind S K → ℕ) → List (Kind S K) → List (Kind S K) → Refusal → Type 0
+abbrev pub IsUnfinished : {S K : Type 0} → (StageWork S K → ℕ) → List (StageWork S K) → List (StageWork S K) → Refusal → Type 0
 IsUnfinished faults old new (of.Device (at.Stage i) o) = FailedAt faults old new i o
 IsUnfinished faults old new refusal = ⊥

@@ -14,7 +14,7 @@ use crate::release::{give_back, release_works};
 use file_devices::{DeviceErr, Files, Op};
 use las_reader::LasReader;
 use run_report::{Place, Refusal};
-use stage_kinds::Kind;
+use stage_kinds::StageWork;
 use stage_options::{Options, Role, StageSpec};
 use stage_runs::{filter_work, writer_work};
 use std::alloc::Global;
@@ -26,7 +26,7 @@ fn open_writer<F: Files>(
     options: &Options,
     name: &str,
     number: u32,
-) -> Result<Kind<F::In, F::Out>, Refusal>
+) -> Result<StageWork<F::In, F::Out>, Refusal>
     requires { role_of options.now ≡ Writes name.now }
     ensures ok { IfOk result (IsAtStart F.Out.bytes options.now) }
     ensures err { IfErr result (IsUncreated (Rose (F.faults files.old) (F.faults files.new)) number) }
@@ -56,7 +56,7 @@ fn begin_work<F: Files>(
     reader: Option<LasReader<F::In>>,
     stage: &StageSpec,
     number: u32,
-) -> Result<Kind<F::In, F::Out>, Refusal>
+) -> Result<StageWork<F::In, F::Out>, Refusal>
     requires { IsOpened F.In.Source (F.map files.old) number (role_of stage.now.options) reader }
     ensures ok { IfOk result (IsWork F.In.Source F.Out.Sink (F.map files.old) number stage.now.options) }
     ensures writes { OnErr result (is_writing (role_of stage.now.options) ≡ true) }
@@ -74,7 +74,7 @@ fn begin_work<F: Files>(
             Role::Reads(_) | Role::Filters => Ok(filter_work(&stage.options)),
         };
     };
-    Ok(Kind::Reader(reader))
+    Ok(StageWork::Reader(reader))
 }
 
 /// The works of a tree's stages at their start, over their opened readers: the files of the writers are created in the order of
@@ -84,7 +84,7 @@ pub(crate) fn begin_works<F: Files>(
     files: &mut F,
     readers: Vec<Option<LasReader<F::In>>>,
     stages: &[StageSpec],
-) -> Result<Vec<Kind<F::In, F::Out>>, Refusal>
+) -> Result<Vec<StageWork<F::In, F::Out>>, Refusal>
     requires opened { AreOpened F.In.Source (F.map files.old) stages.now readers.items }
     requires count { length readers.items ≡ length stages.now }
     requires few { length stages.now ≤ 64 }

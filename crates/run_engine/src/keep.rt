@@ -11,13 +11,13 @@ ghost use Rattle.run_engine.specs.Keeping.{AreFor, kept_one, kept_first, NotKept
 use crate::release::release_works;
 use file_devices::{DeviceErr, Files, Op};
 use run_report::{Place, Refusal};
-use stage_kinds::{Held, Kind};
+use stage_kinds::{Held, StageWork};
 use stage_options::{Role, StageSpec};
 
 /// Keeps the file of a stage under its name, if it writes one; any other is given back.
 fn keep_work<F: Files>(
     files: &mut F,
-    work: Kind<F::In, F::Out>,
+    work: StageWork<F::In, F::Out>,
     stage: &StageSpec,
     number: u32,
 ) -> Result<(), Refusal>
@@ -50,7 +50,7 @@ fn keep_work<F: Files>(
 /// last one that is tried. All that the works hold is given back.
 pub(crate) fn keep_works<F: Files>(
     files: &mut F,
-    works: Vec<Kind<F::In, F::Out>>,
+    works: Vec<StageWork<F::In, F::Out>>,
     stages: &[StageSpec],
 ) -> Result<(), Refusal>
     requires fit { AreFor stages.now works.items }

@@ -6,7 +6,7 @@ ghost use Rattle.network_core.specs.Shown.{shown, work_of};
 ghost use Rattle.pipeline_json.specs.Trees.{IsTree};
 ghost use Rattle.stage_options.specs.Kinds.{HaveOwnOptions};
 ghost use Rattle.stage_options.specs.Shapes.{shapes};
-ghost use Rattle.stage_kinds.specs.declared.kind.Kind as kind_type;
+ghost use Rattle.stage_kinds.specs.declared.stage_work.StageWork as work_type;
 ghost use Rattle.answer_model.specs.Values.{stage_at};
 ghost use Rattle.stage_runs.specs.Works.{as_works, AreNewStages};
 ghost use Rattle.run_engine.specs.Begun.{AreStarts};
@@ -14,7 +14,7 @@ ghost use Rattle.run_engine.specs.Begun.{AreStarts};
 use cloud_points::Work;
 use file_devices::{Sink, Source};
 use network_core::Node;
-use stage_kinds::Kind;
+use stage_kinds::StageWork;
 use stage_options::StageSpec;
 
 /// How many stages a stage of a tree takes.
@@ -30,11 +30,11 @@ fn inputs_of(stages: &[StageSpec], number: usize) -> u32
 /// New nodes for the works of a tree's stages, each with as many inputs as its stage takes; leaves make at most `chunk` points
 /// at once. There is room for them.
 pub(crate) fn nodes_over<S: Source, K: Sink>(
-    works: Vec<Kind<S, K>>,
+    works: Vec<StageWork<S, K>>,
     stages: &[StageSpec],
     chunk: usize,
-    room: Vec<Node<Kind<S, K>>>,
-) -> Vec<Node<Kind<S, K>>>
+    room: Vec<Node<StageWork<S, K>>>,
+) -> Vec<Node<StageWork<S, K>>>
     requires tree { IsTree (shapes stages.now) }
     requires few { length stages.now ≤ 64 }
     requires own { HaveOwnOptions stages.now }
@@ -46,7 +46,7 @@ pub(crate) fn nodes_over<S: Source, K: Sink>(
     requires most { chunk ≤ 64 }
     ensures new { AreNewStages S.Source K.Sink stages.now result.items }
     ensures works { map work_of result.items ≡ works.items }
-    ensures chunk { (i : ℕ) (n : node_type.Node (kind_type.Kind S K)) → slice_get result.items i ≡ Some n
+    ensures chunk { (i : ℕ) (n : node_type.Node (work_type.StageWork S K)) → slice_get result.items i ≡ Some n
         → (shown (as_works S.Source K.Sink) [] n).chunk ≡ chunk }
 {
     let mut works = works;

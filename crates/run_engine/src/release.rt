@@ -2,13 +2,13 @@
 
 ghost use Rattle.std.specs.Prelude.{◌≡◌, ◌≤◌, ◌+◌, ℕ, slice_get, Some};
 ghost use Rattle.file_devices.specs.Counts.{saturating};
-ghost use Rattle.stage_kinds.specs.declared.kind.Kind as kind_type;
+ghost use Rattle.stage_kinds.specs.declared.stage_work.StageWork as work_type;
 ghost use Rattle.stage_kinds.specs.Held.{op_of, faults_of};
 ghost use Rattle.run_engine.specs.Begun.{there, all_there, all_held};
 
 use file_devices::Files;
 use las_reader::LasReader;
-use stage_kinds::{Held, Kind};
+use stage_kinds::{Held, StageWork};
 
 /// Gives back the sources of readers.
 pub(crate) fn give_back<F: Files>(files: &mut F, readers: Vec<Option<LasReader<F::In>>>)
@@ -27,7 +27,7 @@ pub(crate) fn give_back<F: Files>(files: &mut F, readers: Vec<Option<LasReader<F
 }
 
 /// Gives back the device of a work; a writer's file isn't kept.
-pub(crate) fn release_work<F: Files>(files: &mut F, work: Kind<F::In, F::Out>)
+pub(crate) fn release_work<F: Files>(files: &mut F, work: StageWork<F::In, F::Out>)
     ensures map { F.map files.new ≡ F.map files.old }
     ensures lent { (others : ℕ) → F.lent files.old ≡ others + there (op_of work) → F.lent files.new ≡ others }
     ensures later { F.faults files.old ≤ F.faults files.new }
@@ -41,11 +41,11 @@ pub(crate) fn release_work<F: Files>(files: &mut F, work: Kind<F::In, F::Out>)
 }
 
 /// Gives back the devices of works; no writer's file is kept.
-pub(crate) fn release_works<F: Files>(files: &mut F, works: Vec<Kind<F::In, F::Out>>)
+pub(crate) fn release_works<F: Files>(files: &mut F, works: Vec<StageWork<F::In, F::Out>>)
     ensures map { F.map files.new ≡ F.map files.old }
     ensures lent { (others : ℕ) → F.lent files.old ≡ others + all_held works.items → F.lent files.new ≡ others }
     ensures later { F.faults files.old ≤ F.faults files.new }
-    ensures counted { (i : ℕ) (w : kind_type.Kind F.In F.Out) → slice_get works.items i ≡ Some w
+    ensures counted { (i : ℕ) (w : work_type.StageWork F.In F.Out) → slice_get works.items i ≡ Some w
         → saturating (F.faults files.old) (faults_of F.In.faults F.Out.faults w) ≤ F.faults files.new }
 {
     let mut works = works;

@@ -15,7 +15,7 @@ use crate::outcome::outcome;
 use crate::shape::Shape;
 use file_devices::{Sink, Source};
 use run_report::{Refusal, Report};
-use stage_kinds::Kind;
+use stage_kinds::StageWork;
 use stage_options::StageSpec;
 use stage_runs::run_stages;
 use std::alloc::Global;
@@ -24,7 +24,7 @@ use std::alloc::Global;
 /// failed, or else the fault of the first stage that has one.
 fn turn_works<S: Source, K: Sink>(
     alloc: Global,
-    works: Vec<Kind<S, K>>,
+    works: Vec<StageWork<S, K>>,
     stages: &[StageSpec],
     shape: Shape,
 ) -> Ran<S, K, Report>
@@ -67,7 +67,7 @@ fn turn_works<S: Source, K: Sink>(
 /// else the first writer that couldn't finish.
 pub(crate) fn take_turns<S: Source, K: Sink>(
     alloc: Global,
-    works: Vec<Kind<S, K>>,
+    works: Vec<StageWork<S, K>>,
     stages: &[StageSpec],
     shape: Shape,
 ) -> Ran<S, K, Report>

@@ -1,13 +1,14 @@
 //! The works of the stages.
 
-use crate::{Head, Held};
+use crate::{Head, Held, LasStage};
 use cloud_points::{Make, Spread, StageFault, Work};
-use file_devices::{Failed, Op, Sink, Source};
+use file_devices::{FileSink, Op, Source};
+use forward_rules::LasForm;
 use las_reader::LasReader;
-use text_writer::TextWriter;
+use text_writer::{TextForm, TextWriter};
 
 /// What a stage remembers while it runs.
-#[derive(Clone, Copy, Debug, PartialEq, Eq)]
+#[derive(Drop)]
 pub enum StageState {
     /// A reader takes no points, and remembers nothing of them.
     Reading,
@@ -18,12 +19,15 @@ pub enum StageState {
     /// A merge remembers nothing.
     Merging,
 
-    /// A writer remembers nothing of its points but what its sink holds.
-    Writing,
+    /// A text writer remembers the form of its file, and of its points nothing but what its sink holds.
+    Writing(TextForm),
+
+    /// A LAS writer remembers the form of its file, and how many points came before, over all views.
+    Recording(LasForm, u64),
 }
 
 /// The work of a stage.
-pub enum Kind<S, K> {
+pub enum StageWork<S, K: FileSink> {
     /// Reads the points of a LAS file.
     Reader(LasReader<S>),
 
@@ -35,9 +39,12 @@ pub enum Kind<S, K> {
 
     /// Writes each point as a line of text, and lets it pass.
     Text(TextWriter<K>),
+
+    /// Writes a record for each point, and lets it pass, up to the first one that has none.
+    Las(LasStage<K>),
 }
 
-impl<S: Source, K: Sink> Work for Kind<S, K> {
+impl<S: Source, K: FileSink> Work for StageWork<S, K> {
     ghost use Rattle.stage_kinds.specs.Stages.{state_of, meaning_of, is_reader, holds_of};
     ghost use Rattle.stage_kinds.specs.Held.{faults_of, op_of};
     ghost use Rattle.stage_kinds.specs.Reads.{tells_of, told_of, told_fault_of, points_left_of, views_left_of};
@@ -46,101 +53,112 @@ impl<S: Source, K: Sink> Work for Kind<S, K> {
 
     type State = StageState;
 
-    ghost state = { λ k. state_of k };
+    ghost state = { λ w. state_of w };
 
-    ghost meaning = { λ k. meaning_of k };
+    ghost meaning = { λ w. meaning_of w };
 
-    ghost leaf = { λ k. is_reader k };
+    ghost leaf = { λ w. is_reader w };
 
     ghost short = { λ _. false };
 
-    ghost faults = { λ k. faults_of S.faults K.faults k };
+    ghost faults = { λ w. faults_of S.faults K.faults w };
 
-    ghost op = { λ k. op_of k };
+    ghost op = { λ w. op_of w };
 
-    ghost tells = { λ k. tells_of S.bytes k };
+    ghost tells = { λ w. tells_of S.bytes w };
 
-    ghost told = { λ k. told_of S.bytes k };
+    ghost told = { λ w. told_of S.bytes w };
 
-    ghost told_fault = { λ k. told_fault_of S.bytes k };
+    ghost told_fault = { λ w. told_fault_of S.bytes w };
 
-    ghost points_left = { λ k. points_left_of k };
+    ghost points_left = { λ w. points_left_of w };
 
-    ghost views_left = { λ k. views_left_of k };
+    ghost views_left = { λ w. views_left_of w };
 
-    ghost holds = { λ k points. holds_of K.bytes k points };
+    ghost holds = { λ w points. holds_of K.bytes w points };
 
-    ghost cutting = { λ k. meaning_keeps k };
+    ghost cutting = { λ w. meaning_keeps w };
 
     fn is_leaf(&self) -> bool {
-        matches!(self, Kind::Reader(_))
+        matches!(self, StageWork::Reader(_))
     }
 
     fn make(&mut self, chunk: usize, into: &mut Spread) -> Make {
         match self {
-            Kind::Reader(reader) => reader.next(chunk, into),
-            Kind::Head(_) | Kind::Merge | Kind::Text(_) => unreachable!(),
+            StageWork::Reader(reader) => reader.next(chunk, into),
+            _ => unreachable!(),
         }
     }
 
     fn on_chunk(&mut self, points: &mut Spread) -> Option<StageFault> {
         match self {
-            Kind::Reader(_) => unreachable!(),
-            Kind::Head(head) => {
+            StageWork::Reader(_) => unreachable!(),
+            StageWork::Head(head) => {
                 head.pass(points);
                 None
             }
-            Kind::Merge => None,
-            Kind::Text(writer) => match writer.put(points) {
+            StageWork::Merge => None,
+            StageWork::Text(writer) => match writer.put(points) {
                 Ok(()) => None,
                 Err(_) => {
                     points.clear();
                     Some(StageFault::Device(Op::Write))
                 }
             },
+            StageWork::Las(stage) => stage.record(points),
         }
     }
 
     fn on_end_view(&mut self) -> bool {
         match self {
-            Kind::Reader(_) => unreachable!(),
-            Kind::Head(head) => {
+            StageWork::Reader(_) => unreachable!(),
+            StageWork::Head(head) => {
                 head.begin_view();
                 true
             }
-            Kind::Merge => false,
-            Kind::Text(_) => true,
+            StageWork::Merge => false,
+            StageWork::Text(_) | StageWork::Las(_) => true,
         }
     }
 
     fn on_end(&mut self, cut: bool) -> bool {
-        matches!(self, Kind::Merge) && !cut
+        matches!(self, StageWork::Merge) && !cut
     }
 }
 
-impl<S: Source, K: Sink> Kind<S, K> {
-    ghost use Rattle.std.specs.Prelude.{◌≡◌, List, Some, true, OnErr};
+impl<S: Source, K: FileSink> StageWork<S, K> {
+    ghost use Rattle.std.specs.Prelude.{◌≡◌, List, Some, true, IfErr, OnOk};
     ghost use Rattle.cloud_points.specs.declared.point.Point as point_type;
     ghost use Rattle.file_devices.specs.Counts.{HasCause};
     ghost use Rattle.file_devices.specs.Told.{IsAsTold};
-    ghost use Rattle.file_devices.specs.declared.devices.Op as op;
+    ghost use Rattle.stage_kinds.specs.declared.file_form.FileForm as form_type;
     ghost use Rattle.stage_kinds.specs.Held.{held_by, op_of, faults_of, told_by};
+    ghost use Rattle.stage_kinds.specs.Files.{HasPlaces, file_bytes, finishing_op, form_of};
     ghost use Rattle.stage_kinds.specs.Stages.{holds_of};
 
-    /// Has a writer's sink write what it holds back; any other stage does nothing. What the sink tells stays, unless it stops
-    /// telling, and so does what it holds.
+    /// Makes a writer's file whole: a text writer's sink writes what it holds back, and a LAS writer appends its EVLRs and
+    /// puts the totals of its points into the header. Any other stage does nothing.
     ///
-    /// It is `Failed` only at a writer, and only where its sink failed.
-    pub fn finish(&mut self) -> Result<(), Failed>
+    /// It is refused only where the sink of a writer failed, by `Op::Write` for text and by `Op::Patch` for LAS. What the
+    /// sink holds then is no file.
+    pub fn finish(&mut self) -> Result<(), Op>
         ensures op { op_of self.new ≡ op_of self.old }
-        ensures told { IsAsTold (told_by K.bytes self.new) (told_by K.bytes self.old) }
-        ensures holds { (points : List point_type.Point) → holds_of K.bytes self.old points ≡ true → holds_of K.bytes self.new points ≡ true }
-        ensures writer { OnErr result (op_of self.old ≡ Some op.Op.Write) }
+        ensures file { OnOk result ((form : form_type.FileForm) (points : List point_type.Point)
+            → form_of self.old ≡ Some form → holds_of K.bytes self.old points ≡ true → HasPlaces form points
+            → IsAsTold (told_by K.bytes self.new) (Some (file_bytes form points))) }
+        ensures named { IfErr result (λ op. finishing_op self.old ≡ Some op) }
         ensures cause { HasCause (faults_of S.faults K.faults self.old) (faults_of S.faults K.faults self.new) result }
     {
         match self {
-            Kind::Text(writer) => writer.finish(),
-            Kind::Reader(_) | Kind::Head(_) | Kind::Merge => Ok(()),
+            StageWork::Text(writer) => match writer.finish() {
+                Ok(()) => Ok(()),
+                Err(_) => Err(Op::Write),
+            },
+            StageWork::Las(stage) => match stage.writer.finish() {
+                Ok(()) => Ok(()),
+                Err(_) => Err(Op::Patch),
+            },
+            StageWork::Reader(_) | StageWork::Head(_) | StageWork::Merge => Ok(()),
         }
     }
 
@@ -149,9 +167,16 @@ impl<S: Source, K: Sink> Kind<S, K> {
         ensures { result ≡ held_by self }
     {
         match self {
-            Kind::Reader(reader) => Held::Source(reader.release()),
-            Kind::Head(_) | Kind::Merge => Held::Nothing,
-            Kind::Text(writer) => Held::Sink(writer.release()),
+            StageWork::Reader(reader) => Held::Source(reader.release()),
+            StageWork::Head(_) | StageWork::Merge => Held::Nothing,
+            StageWork::Text(writer) => Held::Sink(writer.release()),
+            StageWork::Las(stage) => {
+                let LasStage {
+                    writer,
+                    position: _,
+                } = stage;
+                Held::Sink(writer.release())
+            }
         }
     }
 }

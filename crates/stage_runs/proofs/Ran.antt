@@ -14,7 +14,7 @@ use Rattle.network_core.specs.declared.node.Node.{Node}
 use Rattle.network_core.specs.Shown.{shown}
 use Rattle.network_core.proofs.Opened.{some_at}
 use Rattle.network_solo.specs.Trees.{input_at, makes_of, fault_of, Streams, NoneCame, LeavesTell, EndsOver, IsRanTree}
-use Rattle.stage_kinds.specs.declared.kind.Kind.{Kind}
+use Rattle.stage_kinds.specs.declared.stage_work.StageWork.{StageWork}
 use Rattle.stage_kinds.specs.Stages.{is_reader, holds_of}
 use Rattle.stage_options.specs.Roles.{is_reading}
 use Rattle.stage_options.specs.declared.stage.StageSpec.{StageSpec}
@@ -26,18 +26,18 @@ use Rattle.stage_runs.specs.Ran.{EndsAsStage, AreRanStages}
 use Rattle.stage_runs.proofs.Forests.{children-are}
 use Rattle.stage_runs.proofs.Works.{IsLeaf, IsInner, leaf-is, inner-is, holds-nothing}
 
-module _ {S K : Type 0} (s : source.Ghosts S) (k : sink.Ghosts K) (stages : List StageSpec) (old : List (Node (Kind S K))) (new : AreNewStages s k stages old) where
-  pub fresh-in : (i : ℕ) (n : Node (Kind S K)) → slice_get old i ≡ Some n → IsFresh (shown (as_works s k) (children (ins_of stages) i) n)
+module _ {S K : Type 0} (s : source.Ghosts S) (k : sink.Ghosts K) (stages : List StageSpec) (old : List (Node (StageWork S K))) (new : AreNewStages s k stages old) where
+  pub fresh-in : (i : ℕ) (n : Node (StageWork S K)) → slice_get old i ≡ Some n → IsFresh (shown (as_works s k) (children (ins_of stages) i) n)
   fresh-in i n e = subst (λ ins. IsFresh (shown (as_works s k) ins n)) (sym (children-are stages i)) (new.fresh i n e)
 
   module _ (down : IsDown stages) (opened : Opened) (tell : ReadersTell s old opened) where
     input-is : (i : ℕ) → input_at (ins_of stages) (stage_value stages opened) i ≡ stage_input stages opened i
     input-is i = ap (λ ins. join_all (map (stage_value stages opened) ins)) (children-are stages i)
 
-    leaf-at : (i : ℕ) (n : Node (Kind S K)) → slice_get old i ≡ Some n → is_reader n.work ≡ true → IsLeaf s (options_at stages i) (opened i) n.work
+    leaf-at : (i : ℕ) (n : Node (StageWork S K)) → slice_get old i ≡ Some n → is_reader n.work ≡ true → IsLeaf s (options_at stages i) (opened i) n.work
     leaf-at i n e l = leaf-is s k.bytes (options_at stages i) opened i n.work (new.works i n e) l (λ r w. tell i n r e w)
 
-    inner-at : (i : ℕ) (n : Node (Kind S K)) → slice_get old i ≡ Some n → is_reader n.work ≡ false → IsInner (options_at stages i) n.work
+    inner-at : (i : ℕ) (n : Node (StageWork S K)) → slice_get old i ≡ Some n → is_reader n.work ≡ false → IsInner (options_at stages i) n.work
     inner-at i n e l = inner-is s k.bytes (options_at stages i) n.work (new.works i n e) l
 
     -- by whether it reads
@@ -57,14 +57,14 @@ module _ {S K : Type 0} (s : source.Ghosts S) (k : sink.Ghosts K) (stages : List
     pub leaves-tell : LeavesTell (as_works s k) old
     leaves-tell i n e l = (leaf-at i n e l).tells
 
-    module _ (now : List (Node (Kind S K))) (ran : IsRanTree (as_works s k) (ins_of stages) old now) (quiet : NoneCame (as_works s k) old now) where
+    module _ (now : List (Node (StageWork S K))) (ran : IsRanTree (as_works s k) (ins_of stages) old now) (quiet : NoneCame (as_works s k) old now) where
       over : EndsOver (as_works s k) (ins_of stages) old now (stage_value stages opened)
       over = ran.ends quiet leaves-tell (stage_value stages opened) streams
 
-      pub ends-as : (i : ℕ) (m : Node (Kind S K)) → slice_get now i ≡ Some m → EndsAsStage s k stages opened i m
+      pub ends-as : (i : ℕ) (m : Node (StageWork S K)) → slice_get now i ≡ Some m → EndsAsStage s k stages opened i m
       ends-as i m f = record { gave = over.gave i m f; fault = fault-is; holds = λ reads sound. holds-so reads sound }
         where
-          was : (n : Node (Kind S K)) × (slice_get old i ≡ Some n)
+          was : (n : Node (StageWork S K)) × (slice_get old i ≡ Some n)
           was = some_at old i (let a = slice_get_within now i m f in let c = ran.count in omega (arith, a, c))
 
           by_leaf : (b : Bool) → is_reader was.0.work ≡ b → m.fault ≡ option_map stage.Point (stage_fault stages opened i)
@@ -89,5 +89,5 @@ module _ {S K : Type 0} (s : source.Ghosts S) (k : sink.Ghosts K) (stages : List
                   ap (λ flow. holds_of k.bytes m.work (points flow)) (sym (input-is i))
                   ∙ (over.took i was.0 m was.1 f l).holds sound (holds-nothing s k.bytes (options_at stages i) was.0.work (new.works i was.0 was.1) l)
 
-  pub ran-stages : (now : List (Node (Kind S K))) → IsDown stages → IsRanTree (as_works s k) (ins_of stages) old now → AreRanStages s k stages old now
+  pub ran-stages : (now : List (Node (StageWork S K))) → IsDown stages → IsRanTree (as_works s k) (ins_of stages) old now → AreRanStages s k stages old now
   ran-stages now down ran = record { tree = ran; ends = λ quiet opened tell i m f. ends-as down opened tell now ran quiet i m f }

@@ -14,8 +14,8 @@ use Rattle.las_reader.specs.Files.{Las}
 use Rattle.las_reader.specs.Flows.{las_flow, las_fault}
 use Rattle.las_reader.specs.declared.reader.LasReader.{LasReader}
 use Rattle.network_theory.specs.Machine.{made_of, fault_on}
-use Rattle.stage_kinds.specs.declared.kind.Kind.{Kind}
-use Rattle.stage_kinds.specs.declared.kind.Kind.TheVariants.{Reader, Head, Merge, Text}
+use Rattle.stage_kinds.specs.declared.stage_work.StageWork.{StageWork}
+use Rattle.stage_kinds.specs.declared.stage_work.StageWork.TheVariants.{Reader, Head, Merge, Text}
 use Rattle.stage_kinds.specs.Held.{op_of, told_by}
 use Rattle.stage_kinds.specs.Stages.{meaning_of, state_of, is_reader, holds_of}
 use Rattle.stage_kinds.specs.Reads.{tells_of, told_of, told_fault_of}
@@ -32,20 +32,20 @@ use Rattle.text_writer.proofs.Held.{held_text}
 use Rattle.stage_runs.specs.Works.{IsAtStart, op_for, Tells}
 
 -- a leaf is the work of a reader, and tells the flow and the fault of its file
-pub record IsLeaf {S K : Type 0} (s : source.Ghosts S) (o : Options) (las : Las) (w : Kind S K) : Type 0 where
+pub record IsLeaf {S K : Type 0} (s : source.Ghosts S) (o : Options) (las : Las) (w : StageWork S K) : Type 0 where
   pub reads : is_reading (role_of o) ≡ true
   pub tells : tells_of s.bytes w ≡ true
   pub told : told_of s.bytes w ≡ flow_marks (las_flow las)
   pub fault : told_fault_of s.bytes w ≡ option_map stage.Point (las_fault las)
 
 -- any other work makes the value of its stage, and has the stage's fault
-pub record IsInner {S K : Type 0} (o : Options) (w : Kind S K) : Type 0 where
+pub record IsInner {S K : Type 0} (o : Options) (w : StageWork S K) : Type 0 where
   pub reads : is_reading (role_of o) ≡ false
   pub makes : (flow : Flow Point) → made_of (meaning_of w) (state_of w) flow ≡ flow_marks (value_on (row_of o) flow)
   pub fault : (flow : Flow Point) → fault_on (meaning_of w) (state_of w) flow ≡ option_map stage.Point (rows.fault_on (row_of o) flow)
 
 module _ {S K : Type 0} (s : source.Ghosts S) (bytes : K → Option (List ℕ)) where
-  pub leaf-is : (o : Options) (opened : Opened) (i : ℕ) (w : Kind S K) → IsAtStart bytes o w → is_reader w ≡ true → ((r : LasReader S) → w ≡ Reader r → Tells s opened i r) → IsLeaf s o (opened i) w
+  pub leaf-is : (o : Options) (opened : Opened) (i : ℕ) (w : StageWork S K) → IsAtStart bytes o w → is_reader w ≡ true → ((r : LasReader S) → w ≡ Reader r → Tells s opened i r) → IsLeaf s o (opened i) w
   leaf-is (ReadersLas o) opened i (Reader r) start leaf tell =
       let t = tell r refl in
       let f = reader_starts {K = K} s.bytes r t.file start t.told in
@@ -62,7 +62,7 @@ module _ {S K : Type 0} (s : source.Ghosts S) (bytes : K → Option (List ℕ)) 
   leaf-is o opened i Merge start leaf tell = absurd (true≢false (sym leaf))
   leaf-is o opened i (Text w) start leaf tell = absurd (true≢false (sym leaf))
 
-  pub inner-is : (o : Options) (w : Kind S K) → IsAtStart bytes o w → is_reader w ≡ false → IsInner o w
+  pub inner-is : (o : Options) (w : StageWork S K) → IsAtStart bytes o w → is_reader w ≡ false → IsInner o w
   inner-is o (Reader r) start inner = absurd (true≢false inner)
   inner-is (ReadersLas o) (Head h) start inner = absurd start
   inner-is (FiltersHead o) (Head h) start inner = subst (λ x. IsInner {S = S} {K = K} (FiltersHead o) (Head x)) (sym start)
@@ -79,7 +79,7 @@ module _ {S K : Type 0} (s : source.Ghosts S) (bytes : K → Option (List ℕ)) 
   inner-is (WritersText o) (Text w) start inner = record { reads = refl; makes = λ flow. text_gives flow; fault = λ flow. text_sound flow }
 
   -- a work at its start holds nothing, and the device of its stage's role
-  pub holds-nothing : (o : Options) (w : Kind S K) → IsAtStart bytes o w → is_reader w ≡ false → holds_of bytes w [] ≡ true
+  pub holds-nothing : (o : Options) (w : StageWork S K) → IsAtStart bytes o w → is_reader w ≡ false → holds_of bytes w [] ≡ true
   holds-nothing o (Reader r) start inner = absurd (true≢false inner)
   holds-nothing o (Head h) start inner = refl
   holds-nothing o Merge start inner = refl
@@ -88,7 +88,7 @@ module _ {S K : Type 0} (s : source.Ghosts S) (bytes : K → Option (List ℕ)) 
   holds-nothing (FiltersMerge o) (Text w) start inner = absurd start
   holds-nothing (WritersText o) (Text w) start inner = start
 
-  pub op-at-start : (o : Options) (w : Kind S K) → IsAtStart bytes o w → op_of w ≡ op_for (role_of o)
+  pub op-at-start : (o : Options) (w : StageWork S K) → IsAtStart bytes o w → op_of w ≡ op_for (role_of o)
   op-at-start (ReadersLas o) (Reader r) start = refl
   op-at-start (ReadersLas o) (Head h) start = absurd start
   op-at-start (ReadersLas o) Merge start = absurd start
@@ -107,7 +107,7 @@ module _ {S K : Type 0} (s : source.Ghosts S) (bytes : K → Option (List ℕ)) 
   op-at-start (WritersText o) (Text w) start = refl
 
   -- a writer that holds points has the bytes of its stage in its sink
-  pub written-is : (o : Options) (w : Kind S K) (ps : List Point) → op_of w ≡ op_for (role_of o) → holds_of bytes w ps ≡ true → IsAsTold (told_by bytes w) (Some ((row_of o).bytes ps))
+  pub written-is : (o : Options) (w : StageWork S K) (ps : List Point) → op_of w ≡ op_for (role_of o) → holds_of bytes w ps ≡ true → IsAsTold (told_by bytes w) (Some ((row_of o).bytes ps))
   written-is o (Reader r) ps is holds = λ x e. cc
   written-is o (Head h) ps is holds = λ x e. cc
   written-is o Merge ps is holds = λ x e. cc
@@ -117,7 +117,7 @@ module _ {S K : Type 0} (s : source.Ghosts S) (bytes : K → Option (List ℕ)) 
   written-is (WritersText o) (Text w) ps is holds = held_text (bytes w.sink) ps holds
 
   -- its work is a reader's exactly where the stage's type is
-  pub start-reads : (o : Options) (w : Kind S K) → IsAtStart bytes o w → is_reader w ≡ names.is_reader (kind_of o)
+  pub start-reads : (o : Options) (w : StageWork S K) → IsAtStart bytes o w → is_reader w ≡ names.is_reader (kind_of o)
   start-reads (ReadersLas o) (Reader r) start = refl
   start-reads (ReadersLas o) (Head h) start = absurd start
   start-reads (ReadersLas o) Merge start = absurd start
