@@ -8,8 +8,9 @@ use Rattle.cloud_points.specs.Flows.{Flow, all_of, points, map_views}
 use Rattle.cloud_points.specs.Marks.{Mark, At, View_end, End, view_marks, flow_marks}
 use Rattle.network_theory.specs.Machine.{next, output, after_all}
 use Rattle.network_theory.proofs.MachineLaws.{after_all-append, output-append, chunked, after-chunk, output-chunk}
-use Rattle.stage_kinds.specs.declared.kind.StageState.{StageState}
-use Rattle.stage_kinds.specs.declared.kind.StageState.TheVariants.{Heading, Merging, Writing}
+use Rattle.text_writer.specs.declared.form.TextForm.{TextForm}
+use Rattle.stage_kinds.specs.declared.stage_work.StageState.{StageState}
+use Rattle.stage_kinds.specs.declared.stage_work.StageState.TheVariants.{Heading, Merging, Writing}
 use Rattle.stage_kinds.specs.Stages.{head_work, merge_work, text_work, fresh}
 use Rattle.stage_kinds.specs.Keeps.{head_keeps, text_keeps}
 
@@ -70,12 +71,12 @@ pub head_sound : (n : ℕ) (f : Flow Point) → (after_all (head_work n) (fresh 
 head_sound n f = stream_sound (head_work n) (head_keeps n) (Heading n) (take n) (λ v. refl) (λ v. refl) (λ v. refl) (λ v cut. refl) f
 
 -- a text writer gives the flow itself, and has no fault
-pub text_gives : (f : Flow Point) → output text_work (fresh Writing) (flow_marks f) ≡ flow_marks f
-text_gives f = stream_gives text_work text_keeps Writing (λ v. v) (λ v. refl) (λ v. refl) (λ v. refl) (λ v cut. refl) f
+pub text_gives : (form : TextForm) (f : Flow Point) → output text_work (fresh (Writing form)) (flow_marks f) ≡ flow_marks f
+text_gives form f = stream_gives text_work text_keeps (Writing form) (λ v. v) (λ v. refl) (λ v. refl) (λ v. refl) (λ v cut. refl) f
     ∙ ap (λ vs. flow_marks (record f { views = vs })) (map_same f.views)
 
-pub text_sound : (f : Flow Point) → (after_all text_work (fresh Writing) (flow_marks f)).fault ≡ None
-text_sound f = stream_sound text_work text_keeps Writing (λ v. v) (λ v. refl) (λ v. refl) (λ v. refl) (λ v cut. refl) f
+pub text_sound : (form : TextForm) (f : Flow Point) → (after_all text_work (fresh (Writing form)) (flow_marks f)).fault ≡ None
+text_sound form f = stream_sound text_work text_keeps (Writing form) (λ v. v) (λ v. refl) (λ v. refl) (λ v. refl) (λ v cut. refl) f
 
 -- ---- a merge
 

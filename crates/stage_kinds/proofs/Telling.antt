@@ -18,8 +18,8 @@ use Rattle.las_reader.specs.declared.reader.Progress.TheVariants.{Records, ViewE
 use Rattle.las_reader.specs.declared.reader.LasReader.{LasReader}
 use Rattle.las_reader.specs.Records.{point_of}
 use Rattle.las_reader.proofs.Pieces.{length-points_from}
-use Rattle.stage_kinds.specs.declared.kind.Kind.{Kind}
-use Rattle.stage_kinds.specs.declared.kind.Kind.TheVariants.{Reader}
+use Rattle.stage_kinds.specs.declared.stage_work.StageWork.{StageWork}
+use Rattle.stage_kinds.specs.declared.stage_work.StageWork.TheVariants.{Reader}
 use Rattle.las_reader.specs.Flows.{flow_with, las_flow}
 use Rattle.stage_kinds.specs.Reads.{cut_fault, end_marks, fault_with, rest_marks, rest_fault, is_within, tells_at, told_at, told_fault_at, tells_of, told_of, told_fault_of}
 
@@ -132,7 +132,7 @@ still_tells (Some file) bytes1 header0 header1 chunk before after m points same 
     rw (same, same_header) (step_within header0 chunk file before after m points tells (step file refl no_failure) goes_on)
 
 -- a reader at its start tells its whole file
-pub record TellsFile {S K : Type 0} (bytes : S → Option (List ℕ)) (k : Kind S K) (las : Las) : Type 0 where
+pub record TellsFile {S K : Type 0} (bytes : S → Option (List ℕ)) (k : StageWork S K) (las : Las) : Type 0 where
   pub tells : tells_of bytes k ≡ true
   pub told : told_of bytes k ≡ flow_marks (las_flow las)
   pub fault : told_fault_of bytes k ≡ cut_fault las

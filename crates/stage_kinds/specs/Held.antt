@@ -4,16 +4,17 @@ use Rattle.file_devices.specs.declared.devices.Op.{Op}
 use Rattle.file_devices.specs.declared.devices.Op.TheVariants.{Read, Write}
 use Rattle.stage_kinds.specs.declared.held.Held.{Held}
 use Rattle.stage_kinds.specs.declared.held.Held.TheVariants.{Nothing, Source, Sink}
-use Rattle.stage_kinds.specs.declared.kind.Kind.{Kind}
-use Rattle.stage_kinds.specs.declared.kind.Kind.TheVariants.{Reader, Head, Merge, Text}
+use Rattle.stage_kinds.specs.declared.stage_work.StageWork.{StageWork}
+use Rattle.stage_kinds.specs.declared.stage_work.StageWork.TheVariants.{Reader, Head, Merge, Text, Las}
 
 module _ {S K : Type 0} where
   -- the device that a stage's work holds: one row for each kind
-  abbrev pub held_by : Kind S K → Held S K
+  abbrev pub held_by : StageWork S K → Held S K
   held_by (Reader r) = Source r.source
   held_by (Head h) = Nothing
   held_by Merge = Nothing
   held_by (Text w) = Sink w.sink
+  held_by (Las s) = Sink s.writer.sink
 
   -- what is done with a device while the stages take turns
   abbrev pub op_on : Held S K → Option Op
@@ -33,11 +34,11 @@ module _ {S K : Type 0} where
   told_on bytes _ = None
 
   -- the same of a stage's work
-  abbrev pub op_of : Kind S K → Option Op
+  abbrev pub op_of : StageWork S K → Option Op
   op_of k = op_on (held_by k)
 
-  abbrev pub faults_of : (S → ℕ) → (K → ℕ) → Kind S K → ℕ
+  abbrev pub faults_of : (S → ℕ) → (K → ℕ) → StageWork S K → ℕ
   faults_of source_faults sink_faults k = faults_on source_faults sink_faults (held_by k)
 
-  abbrev pub told_by : (K → Option (List ℕ)) → Kind S K → Option (List ℕ)
+  abbrev pub told_by : (K → Option (List ℕ)) → StageWork S K → Option (List ℕ)
   told_by bytes k = told_on bytes (held_by k)

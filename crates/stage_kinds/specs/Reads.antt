@@ -10,8 +10,8 @@ use Rattle.las_header.specs.Counts.{points_in}
 use Rattle.las_reader.specs.Files.{Las, las_with}
 use Rattle.las_reader.specs.declared.reader.Progress.{Progress}
 use Rattle.las_reader.specs.declared.reader.Progress.TheVariants.{Records, ViewEnded, Ended}
-use Rattle.stage_kinds.specs.declared.kind.Kind.{Kind}
-use Rattle.stage_kinds.specs.declared.kind.Kind.TheVariants.{Reader}
+use Rattle.stage_kinds.specs.declared.stage_work.StageWork.{StageWork}
+use Rattle.stage_kinds.specs.declared.stage_work.StageWork.TheVariants.{Reader}
 
 -- the fault of a file as that of a stage
 abbrev pub fault_with : Option PointFault → Option StageFault
@@ -68,22 +68,22 @@ views_left (Ended cut) = 0
 
 -- of a stage, by the bytes that a source tells: only a reader has something to give
 module _ {S K : Type 0} where
-  abbrev pub tells_of : (S → Option (List ℕ)) → Kind S K → Bool
+  abbrev pub tells_of : (S → Option (List ℕ)) → StageWork S K → Bool
   tells_of bytes (Reader r) = tells_at (bytes r.source) r.header r.progress
   tells_of bytes _ = false
 
-  abbrev pub told_of : (S → Option (List ℕ)) → Kind S K → List (Mark Point)
+  abbrev pub told_of : (S → Option (List ℕ)) → StageWork S K → List (Mark Point)
   told_of bytes (Reader r) = told_at (bytes r.source) r.header r.progress
   told_of bytes _ = []
 
-  abbrev pub told_fault_of : (S → Option (List ℕ)) → Kind S K → Option StageFault
+  abbrev pub told_fault_of : (S → Option (List ℕ)) → StageWork S K → Option StageFault
   told_fault_of bytes (Reader r) = told_fault_at (bytes r.source) r.header r.progress
   told_fault_of bytes _ = None
 
-  abbrev pub points_left_of : Kind S K → ℕ
+  abbrev pub points_left_of : StageWork S K → ℕ
   points_left_of (Reader r) = points_left (points_in r.header) r.progress
   points_left_of _ = 0
 
-  abbrev pub views_left_of : Kind S K → ℕ
+  abbrev pub views_left_of : StageWork S K → ℕ
   views_left_of (Reader r) = views_left r.progress
   views_left_of _ = 0

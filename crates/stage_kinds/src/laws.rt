@@ -5,7 +5,8 @@ ghost use Rattle.cloud_points.specs.declared.point.Point.{Point};
 ghost use Rattle.cloud_points.specs.Flows.{Flow, points, map_views};
 ghost use Rattle.cloud_points.specs.Marks.{flow_marks};
 ghost use Rattle.network_theory.specs.Machine.{output, after_all};
-ghost use Rattle.stage_kinds.specs.declared.kind.StageState.TheVariants.{Heading, Merging, Writing};
+ghost use Rattle.text_writer.specs.declared.form.TextForm.{TextForm};
+ghost use Rattle.stage_kinds.specs.declared.stage_work.StageState.TheVariants.{Heading, Merging, Writing};
 ghost use Rattle.stage_kinds.specs.Stages.{head_work, merge_work, text_work, fresh};
 
 /// A head gives the first points of each view of a flow. A merge gives one view of all its points, or of a flow that is cut no
@@ -18,6 +19,8 @@ pub fn stages_stream()
     ensures merge_cut { (f : Flow Point) → f.cut ≡ true
         → output merge_work (fresh Merging) (flow_marks f) ≡ flow_marks (record { views = []; open_view = points f; cut = true }) }
     ensures merge_sound { (f : Flow Point) → (after_all merge_work (fresh Merging) (flow_marks f)).fault ≡ None }
-    ensures text_gives { (f : Flow Point) → output text_work (fresh Writing) (flow_marks f) ≡ flow_marks f }
-    ensures text_sound { (f : Flow Point) → (after_all text_work (fresh Writing) (flow_marks f)).fault ≡ None }
+    ensures text_gives { (form : TextForm) (f : Flow Point)
+        → output text_work (fresh (Writing form)) (flow_marks f) ≡ flow_marks f }
+    ensures text_sound { (form : TextForm) (f : Flow Point)
+        → (after_all text_work (fresh (Writing form)) (flow_marks f)).fault ≡ None }
 {}

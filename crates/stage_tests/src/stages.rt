@@ -6,12 +6,12 @@ use cloud_points::{Make, Point, PointFault, Spread, StageFault, Work, put_points
 use file_devices::{MemIn, MemOut, Op};
 use las_reader::LasReader;
 use recorded_files::two_points;
-use stage_kinds::{Head, Kind};
+use stage_kinds::{Head, StageWork};
 use std::alloc::Global;
 use text_writer::TextWriter;
 
 /// A stage over devices in memory.
-type Stage = Kind<MemIn, MemOut>;
+type Stage = StageWork<MemIn, MemOut>;
 
 /// What a leaf makes, and how many points it puts into the spread.
 type Made = (Make, usize);
@@ -57,16 +57,16 @@ fn hand<W: Work>(stage: &mut W, count: usize) -> (Option<StageFault>, usize)
 
 fn drop_stage(stage: Stage) {
     match stage {
-        Kind::Reader(reader) => drop(reader.release()),
-        Kind::Head(_) | Kind::Merge => {}
-        Kind::Text(writer) => drop(writer.release()),
+        StageWork::Reader(reader) => drop(reader.release()),
+        StageWork::Head(_) | StageWork::Merge => {}
+        StageWork::Text(writer) => drop(writer.release()),
     }
 }
 
 /// What passes of three times three points in a view that a head of five cuts, and of six in the next one; and whether the end
 /// of the view passes and one before the end of all.
 fn headed() -> ([(Option<StageFault>, usize); 4], bool, bool) {
-    let mut stage: Stage = Kind::Head(Head::new(5));
+    let mut stage: Stage = StageWork::Head(Head::new(5));
     let first = hand(&mut stage, 3);
     let second = hand(&mut stage, 3);
     let third = hand(&mut stage, 3);
@@ -88,7 +88,7 @@ fn a_head_counts_over_chunks_and_begins_anew_with_a_view(rt: HostRuntime) {
 /// What passes a merge of three points in a view and of two behind it; and whether the end of the view passes, one before an
 /// end that is cut, and one before an end that isn't.
 fn merged() -> ([(Option<StageFault>, usize); 2], bool, bool, bool) {
-    let mut stage: Stage = Kind::Merge;
+    let mut stage: Stage = StageWork::Merge;
     let first = hand(&mut stage, 3);
     let view = stage.on_end_view();
     let second = hand(&mut stage, 2);
@@ -110,7 +110,7 @@ fn made(alloc: Global, size: usize, has_view: bool) -> Option<(bool, Made, Optio
     let Ok(reader) = LasReader::begin(alloc, MemIn::new(content, 7, Vec::new(alloc))) else {
         return None;
     };
-    let mut stage: Stage = Kind::Reader(reader);
+    let mut stage: Stage = StageWork::Reader(reader);
     let leaf = stage.is_leaf();
     let mut spread = Spread::new();
     let points = make(&mut stage, &mut spread);
@@ -138,7 +138,7 @@ fn written(alloc: Global) -> Option<[(Option<StageFault>, usize); 2]> {
     let Ok(writer) = TextWriter::begin(MemOut::new(alloc, 200, fails).ok()?) else {
         return None;
     };
-    let mut stage: Stage = Kind::Text(writer);
+    let mut stage: Stage = StageWork::Text(writer);
     let first = hand(&mut stage, 2);
     let second = hand(&mut stage, 1);
     drop_stage(stage);

@@ -1,5 +1,5 @@
 use Rattle.stage_kinds.proofs.Telling.{gives_told, still_tells}
-use Rattle.stage_kinds.proofs.kind.KindWork.make.Goals as goal
+use Rattle.stage_kinds.proofs.stage_work.StageWorkWork.make.Goals as goal
 
 pub returns-clause-part : goal.returns-clause-part
 returns-clause-part g c = λ tells calm.

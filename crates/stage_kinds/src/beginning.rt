@@ -1,0 +1,81 @@
+//! How a writer's work begins.
+
+ghost use Rattle.std.specs.Prelude.{◌≡◌, ◌≤◌, [], Some, true, IfOk, IfErr};
+ghost use Rattle.file_devices.specs.Counts.{Rose};
+ghost use Rattle.file_devices.specs.Told.{IsAsTold};
+ghost use Rattle.file_devices.specs.declared.devices.Op as op_type;
+ghost use Rattle.stage_kinds.specs.declared.beginning.BeginErr.TheVariants.{Failed as BeginFailed, Memory as BeginMemory};
+ghost use Rattle.stage_kinds.specs.Files.{IsFileForm, begin_err_of_text, begin_err_of_las, begun, form_of};
+ghost use Rattle.stage_kinds.specs.Held.{op_of, faults_of};
+ghost use Rattle.stage_kinds.specs.Stages.{state_of, holds_of};
+
+use crate::{FileForm, LasStage, StageWork};
+use file_devices::{FileSink, Source};
+use las_writer::LasWriter;
+use std::alloc::Global;
+use text_writer::TextWriter;
+
+/// Why a writer's work doesn't begin.
+#[derive(Clone, Copy, Debug, PartialEq, Eq)]
+pub enum BeginErr {
+    /// The sink failed.
+    Failed,
+
+    /// There was no memory.
+    Memory,
+}
+
+impl From<text_writer::BeginErr> for BeginErr {
+    ghost from_gives = { λ e mine. mine ≡ begin_err_of_text e };
+
+    fn from(e: text_writer::BeginErr) -> Self {
+        match e {
+            text_writer::BeginErr::Failed => BeginErr::Failed,
+            text_writer::BeginErr::Memory => BeginErr::Memory,
+        }
+    }
+}
+
+impl From<las_writer::BeginErr> for BeginErr {
+    ghost from_gives = { λ e mine. mine ≡ begin_err_of_las e };
+
+    fn from(e: las_writer::BeginErr) -> Self {
+        match e {
+            las_writer::BeginErr::Failed => BeginErr::Failed,
+            las_writer::BeginErr::Memory => BeginErr::Memory,
+        }
+    }
+}
+
+/// The work of a writer onto a sink to which nothing was appended; what stands in front of the points is appended.
+///
+/// A refusal gives the sink back. It is `Failed` only where the sink failed, and `Memory` only where there is none for what
+/// the writer holds.
+pub fn begin_file<S: Source, K: FileSink>(
+    alloc: Global,
+    sink: K,
+    form: FileForm,
+) -> Result<StageWork<S, K>, (K, BeginErr)>
+    requires { IsFileForm form }
+    ensures form { IfOk result (λ w. form_of w ≡ Some form) }
+    ensures state { IfOk result (λ w. state_of w ≡ begun form) }
+    ensures holds { IfOk result (λ w. IsAsTold (K.bytes sink) (Some []) → holds_of K.bytes w [] ≡ true) }
+    ensures writes { IfOk result (λ w. op_of w ≡ Some op_type.Op.Write) }
+    ensures later { IfOk result (λ w. K.faults sink ≤ faults_of S.faults K.faults w) }
+    ensures failed { IfErr result (λ e. e.1 ≡ BeginErr.Failed → Rose (K.faults sink) (K.faults e.0)) }
+    ensures count { IfErr result (λ e. K.faults sink ≤ K.faults e.0) }
+{
+    match form {
+        FileForm::Text(form) => match TextWriter::begin(alloc, sink, form) {
+            Ok(writer) => Ok(StageWork::Text(writer)),
+            Err((sink, e)) => Err((sink, e.into())),
+        },
+        FileForm::Las(form) => match LasWriter::begin(alloc, sink, form) {
+            Ok(writer) => Ok(StageWork::Las(LasStage {
+                writer,
+                position: 0,
+            })),
+            Err((sink, e)) => Err((sink, e.into())),
+        },
+    }
+}
