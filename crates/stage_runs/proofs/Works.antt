@@ -30,6 +30,7 @@ use Rattle.stage_kinds.specs.Stages.{meaning_of, state_of, is_reader, holds_of}
 use Rattle.stage_kinds.specs.Reads.{tells_of, told_of, told_fault_of}
 use Rattle.stage_kinds.proofs.Streams.{head_gives, head_sound, merge_gives, merge_sound, text_gives, text_sound, las_gives, las_faults}
 use Rattle.stage_kinds.proofs.Telling.{reader_starts}
+use Rattle.stage_kinds.proofs.ViewByView as as_streamed
 use Rattle.stage_options.specs.declared.options.Options.{Options}
 use Rattle.stage_options.specs.declared.options.Options.TheVariants.{ReadersLas, FiltersHead, FiltersMerge, WritersLas, WritersText}
 use Rattle.answer_model.specs.Forms.{text_form}
@@ -51,6 +52,11 @@ pub record IsInner {S K : Type 0} (o : Options) (reads : List ReadFile) (w : Sta
   pub inner : is_reading (role_of o) ≡ false
   pub makes : (flow : Flow Point) → made_of (meaning_of w) (state_of w) flow ≡ flow_marks (value_on (row_of o reads) flow)
   pub fault : (flow : Flow Point) → fault_on (meaning_of w) (state_of w) flow ≡ option_map stage.Point (rows.fault_on (row_of o reads) flow)
+
+-- what stands before a stop
+before_same : (o : Option (ℕ × PointFault)) (flow : Flow Point) → as_streamed.before_stop o flow ≡ before_stop o flow
+before_same None flow = refl
+before_same (Some s) flow = refl
 
 -- the fault of a stop
 fault_of_stop : (o : Option (ℕ × PointFault)) → option_map (λ s. stage.Point s.1) o ≡ option_map stage.Point (stop_fault o)
@@ -118,7 +124,7 @@ module _ {S K : Type 0} (s : source.Ghosts S) (bytes : K → Option (List ℕ)) 
       let form = form_of o.fields reads in
       record {
         inner = refl;
-        makes = λ flow. ap (λ t. made_of (meaning_of {S = S} {K = K} (Las l)) t flow) start.state ∙ las_gives form flow;
+        makes = λ flow. ap (λ t. made_of (meaning_of {S = S} {K = K} (Las l)) t flow) start.state ∙ las_gives form flow ∙ ap flow_marks (before_same (stop_of form (points flow)) flow);
         fault = λ flow. ap (λ t. fault_on (meaning_of {S = S} {K = K} (Las l)) t flow) start.state ∙ las_faults form flow ∙ fault_of_stop (stop_of form (points flow));
       })
   inner-is (WritersLas o) reads (Text w) start inner = absurd start
