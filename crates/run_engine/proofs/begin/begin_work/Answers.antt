@@ -5,5 +5,5 @@ use Rattle.run_engine.proofs.Opening.{reader-work}
 use Rattle.run_engine.proofs.begin.begin_work.Goals as goal
 
 pub returns-clause-ok : goal.returns-clause-ok
-returns-clause-ok g c = reader-work g.F.In.Source g.F.Out.Sink (g.F.Files.map c.args.files.now) c.args.number c.args.stage.now.options c.in-Some.reader
-    (subst (IsOpened g.F.In.Source (g.F.Files.map c.args.files.now) c.args.number (role_of c.args.stage.now.options)) c.in-Some.is c.requires)
+returns-clause-ok g c = reader-work g.F.In.Source g.F.Out.Sink (g.F.Files.map c.args.files.now) c.args.number c.args.stage.now.options c.in-Some.reader c.args.form
+    (subst (IsOpened g.F.In.Source (g.F.Files.map c.args.files.now) c.args.number (role_of c.args.stage.now.options)) c.in-Some.is c.requires.opened)

@@ -1,7 +1,7 @@
 use Rattle.std.proofs.Common.{◌≡◌, ◌+◌, ◌<◌, ◌≤◌, length, reverse, vec_len, refl, ap, sym, subst, ◌∙◌, arith}
 use Rattle.std.proofs.lemmas.List.{reverse-reverse}
-use Rattle.std.proofs.lemmas.Option.{slice_get_read}
-use Rattle.std.specs.Prelude.{slice_get}
+use Rattle.std.proofs.lemmas.Option.{slice_get_read, get_or_from_slice_get}
+use Rattle.std.specs.Prelude.{slice_get, slice_index_or, None}
 use Rattle.file_devices.specs.Counts.{Rose}
 use Rattle.stage_kinds.specs.Held.{op_of}
 use Rattle.stage_options.specs.Roles.{role_of, is_writing}
@@ -23,6 +23,8 @@ loop-reader-init g c =
       left = ap reverse turned ∙ reverse-reverse c.args.readers.items;
       count = (let a = c.reverse.ensures.len in let k = c.args.readers.ok in omega (arith, a, k));
       begun = λ i w e. (let none = sym (ap (λ xs. slice_get xs i) empty) ∙ e in cc);
+      forms = c.requires.forms;
+      left_forms = λ j le. refl;
       works = c.in-Ok.ensures.len;
       room = c.in-Ok.ensures.capacity;
       map = refl;
@@ -30,8 +32,8 @@ loop-reader-init g c =
       later = omega arith;
     }
 
-pub begin_work-requires : goal.begin_work-requires
-begin_work-requires g c =
+pub begin_work-requires-clause-opened : goal.begin_work-requires-clause-opened
+begin_work-requires-clause-opened g c =
     let now = c.loop-reader.invariant in
     let p = popped c.args.readers.items c.loop-reader.readers.items c.pop.new.self.items c.loop-reader.at c.in-Some.reader now.left c.in-Some.ensures.items in
     let n = one_less c.loop-reader.at (vec_len c.loop-reader.readers) (vec_len c.pop.new.self) (length c.args.readers.items) now.count c.in-Some.ensures.cases in
@@ -51,7 +53,7 @@ returns-in-Err-clause-err g c =
     let end : files.faults c.begin_work.new.files ≤ files.faults c.release_works.new.files = (let a = c.give_back-in-Err.ensures.later in let b = c.release_works.ensures.later in omega (arith, a, b)) in
     cause-weaker (files.map c.args.files.now) c.args.stages.now c.in-Err.refusal
     (rose-within (files.faults c.args.files.now) (files.faults c.loop-reader.files) (files.faults c.begin_work.new.files) (files.faults c.release_works.new.files) now.later end)
-    (uncreated-cause rose (files.map c.args.files.now) c.args.stages.now c.loop-reader.at c.in-Err.refusal lt c.requires.read
+    (uncreated-cause rose (files.map c.args.files.now) c.args.stages.now c.loop-reader.at c.in-Err.refusal lt c.requires.come
     (ap is_writing (sym (role-is c.args.stages.now c.loop-reader.at c.index-stages-at.result at)) ∙ c.in-Err.ensures.writes) c.in-Err.ensures.err)
 
 pub returns-in-Err-clause-lent_err : goal.returns-in-Err-clause-lent_err
@@ -74,14 +76,19 @@ loop-reader-preserved g c =
     let at = slice_get_read c.args.stages.now (length c.args.stages.now) c.loop-reader.at c.index-stages-at.result refl (let a = n.0 in let b = c.requires.count in omega (arith, a, b)) c.index-stages-at.is in
     let size : c.loop-reader.at ≡ length c.loop-reader.works.items = (let a = now.works in let k = c.loop-reader.works.ok in omega (arith, a, k)) in
     let pushed = c.push_reserved.ensures.items in
-    let one = subst (λ o. IsWork g.F.In.Source g.F.Out.Sink (files.map c.args.files.now) c.loop-reader.at o c.in-Ok-begin_work.work) (ap (λ (s : StageSpec). s.options) (sym (stage-is c.args.stages.now c.loop-reader.at c.index-stages-at.result at)))
-    (subst (λ map. IsWork g.F.In.Source g.F.Out.Sink map c.loop-reader.at c.index-stages-at.result.options c.in-Ok-begin_work.work) now.map c.in-Ok-begin_work.ensures.ok) in
+    let o = options_at c.args.stages.now c.loop-reader.at in
+    let reader-here = get_or_from_slice_get c.args.readers.items c.loop-reader.at c.in-Some.reader None p.0 in
+    let form-here = ? in
+    let one = subst (λ f. IsWork g.F.In.Source g.F.Out.Sink (files.map c.args.files.now) c.loop-reader.at o (slice_index_or c.args.readers.items c.loop-reader.at None) f c.in-Ok-begin_work.work) form-here
+        (subst (λ r. IsWork g.F.In.Source g.F.Out.Sink (files.map c.args.files.now) c.loop-reader.at o r c.take.result c.in-Ok-begin_work.work) (sym reader-here)
+        (subst (λ x. IsWork g.F.In.Source g.F.Out.Sink (files.map c.args.files.now) c.loop-reader.at x c.in-Some.reader c.take.result c.in-Ok-begin_work.work) (ap (λ (s : StageSpec). s.options) (sym (stage-is c.args.stages.now c.loop-reader.at c.index-stages-at.result at)))
+        (subst (λ map. IsWork g.F.In.Source g.F.Out.Sink map c.loop-reader.at c.index-stages-at.result.options c.in-Some.reader c.take.result c.in-Ok-begin_work.work) now.map c.in-Ok-begin_work.ensures.ok))) in
     let less = sum-pop there c.loop-reader.readers.items c.pop.new.self.items c.in-Some.reader c.in-Some.ensures.items in
     let more = ap all_held pushed ∙ sum-push (λ w. there (op_of w)) c.loop-reader.works.items c.in-Ok-begin_work.work in
     record {
       left = p.1;
       count = n.1;
-      begun = λ i w e. each-push (λ j v. IsWork g.F.In.Source g.F.Out.Sink (files.map c.args.files.now) j (options_at c.args.stages.now j) v) c.loop-reader.works.items c.in-Ok-begin_work.work c.loop-reader.at size now.begun one i w (ap (λ xs. slice_get xs i) (sym pushed) ∙ e);
+      begun = λ i w e. each-push (λ j v. IsWork g.F.In.Source g.F.Out.Sink (files.map c.args.files.now) j (options_at c.args.stages.now j) (slice_index_or c.args.readers.items j None) (slice_index_or c.args.forms.items j None) v) c.loop-reader.works.items c.in-Ok-begin_work.work c.loop-reader.at size now.begun one i w (ap (λ xs. slice_get xs i) (sym pushed) ∙ e);
       works = (let a = c.push_reserved.ensures.len in let b = now.works in omega (arith, a, b));
       room = (let a = c.push_reserved.ensures.capacity in let b = now.room in omega (arith, a, b));
       map = c.begin_work.ensures.map ∙ now.map;

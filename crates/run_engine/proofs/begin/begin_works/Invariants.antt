@@ -1,5 +1,5 @@
 use Rattle.std.proofs.Common.{◌≡◌, ◌≤◌, ◌+◌, ℕ, length, drop, reverse, vec_len}
-use Rattle.std.specs.Prelude.{vec_capacity}
+use Rattle.std.specs.Prelude.{slice_get, vec_capacity}
 use Rattle.run_engine.specs.Begun.{AreBegun, all_there, all_held}
 use Rattle.run_engine.proofs.begin.begin_works.Given as goal
 
@@ -9,7 +9,9 @@ invariant-loop-reader g l =
     record {
       left : reverse l.readers.items ≡ drop l.at l.fn.readers.items;
       count : l.at + vec_len l.readers ≡ length l.fn.readers.items;
-      begun : AreBegun g.F.In.Source g.F.Out.Sink (files.map l.fn.files) l.stages l.works.items;
+      begun : AreBegun g.F.In.Source g.F.Out.Sink (files.map l.fn.files) l.stages l.fn.readers.items l.fn.forms.items l.works.items;
+      forms : length l.forms.items ≡ length l.stages;
+      left_forms : (j : ℕ) → l.at ≤ j → slice_get l.forms.items j ≡ slice_get l.fn.forms.items j;
       works : vec_len l.works ≡ l.at;
       room : length l.stages ≤ vec_capacity l.works;
       map : files.map l.files ≡ files.map l.fn.files;

@@ -10,15 +10,12 @@ use Rattle.answer_model.specs.Runs.{run_of}
 use Rattle.run_engine.specs.Begun.{AreBegun}
 use Rattle.run_engine.specs.Cause.{IsCause}
 use Rattle.run_engine.specs.Keeping.{kept_first, BrokeOff}
-use Rattle.run_engine.specs.Turns.{WorksTell, CameToEnd, IsTurnsCause}
+use Rattle.run_engine.specs.Turns.{WorksTell, AreDone, IsRunCause}
 use Rattle.run_engine.proofs.Results.{ok-of, err-of}
 use Rattle.run_engine.proofs.Causes.{rose-within, cause-weaker}
 use Rattle.run_engine.proofs.Opening.{are-read}
-use Rattle.run_engine.proofs.Answers.{early-left, turns-to-cause, turns-early, same-held, works-tell, starts-fit, fit, is-run, unkept-cause, unkept-left}
+use Rattle.run_engine.proofs.Answers.{early-left, run-to-cause, run-early, same-held, works-tell, starts-fit, fit, is-run, unkept-cause, unkept-left}
 use Rattle.run_engine.proofs.run.run_pipeline.Goals as goal
-
-pub begin_works-requires-clause-read : goal.begin_works-requires-clause-read
-begin_works-requires-clause-read g c = λ m e. are-read g.F.In.Source (g.F.Files.map c.args.files.now) c.args.stages.now c.in-Ok.readers.items (length c.args.stages.now) (sym c.in-Ok.ensures.count) c.in-Ok.ensures.ok m (sym c.open_readers.ensures.map ∙ e)
 
 pub returns-in-Err-clause-left : goal.returns-in-Err-clause-left
 returns-in-Err-clause-left g c = λ m e. early-left c.in-Err.refusal (g.F.Files.map c.args.files.now) (g.F.Files.map c.open_readers.new.files) (run_of m c.args.stages.now) c.in-Err.ensures.early c.open_readers.ensures.map
@@ -38,22 +35,14 @@ returns-in-Err-begin_works-clause-left g c = λ m e. early-left c.in-Err-begin_w
 pub returns-in-Err-begin_works-clause-lent : goal.returns-in-Err-begin_works-clause-lent
 returns-in-Err-begin_works-clause-lent g c = c.in-Err-begin_works.ensures.lent_err (g.F.Files.lent c.args.files.now) c.in-Ok.ensures.lent_ok
 
-pub take_turns-works-requires-clause-starts : goal.take_turns-works-requires-clause-starts
-take_turns-works-requires-clause-starts g c = λ i w e. (c.in-Ok-begin_works.ensures.ok i w e).start
-
-pub keep_works-requires-clause-fit : goal.keep_works-requires-clause-fit
-keep_works-requires-clause-fit g c = fit g.F.In.Source g.F.Out.Sink (g.F.Files.map c.open_readers.new.files) c.args.stages.now c.in-Ok-begin_works.works.items c.take_turns-works.result.works.items c.in-Ok-begin_works.ensures.count
-    c.in-Ok-begin_works.ensures.ok (λ m e. are-read g.F.In.Source (g.F.Files.map c.args.files.now) c.args.stages.now c.in-Ok.readers.items (length c.args.stages.now) (sym c.in-Ok.ensures.count) c.in-Ok.ensures.ok m (sym c.open_readers.ensures.map ∙ e))
-    (faults_of g.F.In.Source.faults g.F.Out.Sink.faults) c.take_turns-works.ensures.later
-
 pub returns-in-Ok-keep_works-clause-ok : goal.returns-in-Ok-keep_works-clause-ok
 returns-in-Ok-keep_works-clause-ok g c = λ m e.
     let files = g.F.Files in
-    let read = λ (x : Names) (f : files.map c.args.files.now ≡ Some x). are-read g.F.In.Source (files.map c.args.files.now) c.args.stages.now c.in-Ok.readers.items (length c.args.stages.now) (sym c.in-Ok.ensures.count) c.in-Ok.ensures.ok x f in
-    let begun = subst (λ map. AreBegun g.F.In.Source g.F.Out.Sink map c.args.stages.now c.in-Ok-begin_works.works.items) c.open_readers.ensures.map c.in-Ok-begin_works.ensures.ok in
-    let came = ok-of (λ (report : ArrayVec StageCount). (o : Opened) → WorksTell g.F.In.Source c.in-Ok-begin_works.works.items o → CameToEnd g.F.Out.Sink.bytes c.args.stages.now o c.take_turns-works.result.works.items report.items)
+    let come = can-begin g.F.In.Source (files.map c.args.files.now) c.args.stages.now c.in-Ok.readers.items c.in-Ok.ensures.count c.in-Ok.ensures.ok (bound-over c.as_slice.ensures.value c.in-Ok-bind_stages.ensures.bound) in
+    let begun = subst (λ map. AreBegun g.F.In.Source g.F.Out.Sink map c.args.stages.now c.in-Ok.readers.items c.in-Ok-bind_stages.forms.items c.in-Ok-begin_works.works.items) c.open_readers.ensures.map c.in-Ok-begin_works.ensures.ok in
+    let came = ok-of (λ (report : ArrayVec StageCount). (o : Opened) → WorksTell g.F.In.Source c.in-Ok-begin_works.works.items o → AreDone g.F.Out.Sink.bytes c.args.stages.now o c.take_turns-works.result.works.items report.items)
     c.take_turns-works.result.outcome c.in-Ok-outcome.report c.in-Ok-outcome.is c.take_turns-works.ensures.ok in
-    is-run g.F.In.Source g.F.Out.Sink (files.map c.args.files.now) c.args.stages.now c.in-Ok-begin_works.works.items c.take_turns-works.result.works.items c.in-Ok-begin_works.ensures.count begun read
+    is-run g.F.In.Source g.F.Out.Sink (files.map c.args.files.now) c.args.stages.now c.in-Ok-begin_works.works.items c.take_turns-works.result.works.items c.in-Ok-begin_works.ensures.count c.in-Ok.readers.items c.in-Ok-bind_stages.forms.items begun come
     (faults_of g.F.In.Source.faults g.F.Out.Sink.faults) c.take_turns-works.ensures.later c.in-Ok-outcome.report.items came m e (files.map c.keep_works.new.files)
     (c.in-Ok-keep_works.ensures.ok ∙ ap (λ map. kept_first g.F.Out.Sink.bytes (length c.take_turns-works.result.works.items) map c.args.stages.now c.take_turns-works.result.works.items) (c.begin_works.ensures.map ∙ c.open_readers.ensures.map))
 
@@ -65,29 +54,29 @@ returns-in-Ok-keep_works-clause-lent g c = c.keep_works.ensures.lent (g.F.Files.
 pub returns-in-Err-keep_works-clause-err : goal.returns-in-Err-keep_works-clause-err
 returns-in-Err-keep_works-clause-err g c =
     let files = g.F.Files in
-    let read = λ (x : Names) (f : files.map c.args.files.now ≡ Some x). are-read g.F.In.Source (files.map c.args.files.now) c.args.stages.now c.in-Ok.readers.items (length c.args.stages.now) (sym c.in-Ok.ensures.count) c.in-Ok.ensures.ok x f in
-    let begun = subst (λ map. AreBegun g.F.In.Source g.F.Out.Sink map c.args.stages.now c.in-Ok-begin_works.works.items) c.open_readers.ensures.map c.in-Ok-begin_works.ensures.ok in
-    let came = ok-of (λ (report : ArrayVec StageCount). (o : Opened) → WorksTell g.F.In.Source c.in-Ok-begin_works.works.items o → CameToEnd g.F.Out.Sink.bytes c.args.stages.now o c.take_turns-works.result.works.items report.items)
+    let come = can-begin g.F.In.Source (files.map c.args.files.now) c.args.stages.now c.in-Ok.readers.items c.in-Ok.ensures.count c.in-Ok.ensures.ok (bound-over c.as_slice.ensures.value c.in-Ok-bind_stages.ensures.bound) in
+    let begun = subst (λ map. AreBegun g.F.In.Source g.F.Out.Sink map c.args.stages.now c.in-Ok.readers.items c.in-Ok-bind_stages.forms.items c.in-Ok-begin_works.works.items) c.open_readers.ensures.map c.in-Ok-begin_works.ensures.ok in
+    let came = ok-of (λ (report : ArrayVec StageCount). (o : Opened) → WorksTell g.F.In.Source c.in-Ok-begin_works.works.items o → AreDone g.F.Out.Sink.bytes c.args.stages.now o c.take_turns-works.result.works.items report.items)
     c.take_turns-works.result.outcome c.in-Ok-outcome.report c.in-Ok-outcome.is c.take_turns-works.ensures.ok in
     let low : files.faults c.args.files.now ≤ files.faults c.begin_works.new.files = (let a = c.open_readers.ensures.later in let b = c.begin_works.ensures.later in omega (arith, a, b)) in
     let broke = subst (λ map. BrokeOff g.F.Out.Sink.bytes (Rose (files.faults c.begin_works.new.files) (files.faults c.keep_works.new.files)) map (files.map c.keep_works.new.files) c.args.stages.now c.take_turns-works.result.works.items c.in-Err-keep_works.refusal)
     (c.begin_works.ensures.map ∙ c.open_readers.ensures.map) c.in-Err-keep_works.ensures.err in
     cause-weaker (files.map c.args.files.now) c.args.stages.now c.in-Err-keep_works.refusal
     (rose-within (files.faults c.args.files.now) (files.faults c.begin_works.new.files) (files.faults c.keep_works.new.files) (files.faults c.keep_works.new.files) low (omega arith))
-    (unkept-cause g.F.In.Source g.F.Out.Sink (files.map c.args.files.now) c.args.stages.now c.in-Ok-begin_works.works.items c.take_turns-works.result.works.items c.in-Ok-begin_works.ensures.count begun read
+    (unkept-cause g.F.In.Source g.F.Out.Sink (files.map c.args.files.now) c.args.stages.now c.in-Ok-begin_works.works.items c.take_turns-works.result.works.items c.in-Ok-begin_works.ensures.count c.in-Ok.readers.items c.in-Ok-bind_stages.forms.items begun come
     (faults_of g.F.In.Source.faults g.F.Out.Sink.faults) c.take_turns-works.ensures.later c.in-Ok-outcome.report.items came
     (Rose (files.faults c.begin_works.new.files) (files.faults c.keep_works.new.files)) (files.map c.keep_works.new.files) c.in-Err-keep_works.refusal broke)
 
 pub returns-in-Err-keep_works-clause-left : goal.returns-in-Err-keep_works-clause-left
 returns-in-Err-keep_works-clause-left g c = λ m e.
     let files = g.F.Files in
-    let read = λ (x : Names) (f : files.map c.args.files.now ≡ Some x). are-read g.F.In.Source (files.map c.args.files.now) c.args.stages.now c.in-Ok.readers.items (length c.args.stages.now) (sym c.in-Ok.ensures.count) c.in-Ok.ensures.ok x f in
-    let begun = subst (λ map. AreBegun g.F.In.Source g.F.Out.Sink map c.args.stages.now c.in-Ok-begin_works.works.items) c.open_readers.ensures.map c.in-Ok-begin_works.ensures.ok in
-    let came = ok-of (λ (report : ArrayVec StageCount). (o : Opened) → WorksTell g.F.In.Source c.in-Ok-begin_works.works.items o → CameToEnd g.F.Out.Sink.bytes c.args.stages.now o c.take_turns-works.result.works.items report.items)
+    let come = can-begin g.F.In.Source (files.map c.args.files.now) c.args.stages.now c.in-Ok.readers.items c.in-Ok.ensures.count c.in-Ok.ensures.ok (bound-over c.as_slice.ensures.value c.in-Ok-bind_stages.ensures.bound) in
+    let begun = subst (λ map. AreBegun g.F.In.Source g.F.Out.Sink map c.args.stages.now c.in-Ok.readers.items c.in-Ok-bind_stages.forms.items c.in-Ok-begin_works.works.items) c.open_readers.ensures.map c.in-Ok-begin_works.ensures.ok in
+    let came = ok-of (λ (report : ArrayVec StageCount). (o : Opened) → WorksTell g.F.In.Source c.in-Ok-begin_works.works.items o → AreDone g.F.Out.Sink.bytes c.args.stages.now o c.take_turns-works.result.works.items report.items)
     c.take_turns-works.result.outcome c.in-Ok-outcome.report c.in-Ok-outcome.is c.take_turns-works.ensures.ok in
     let broke = subst (λ map. BrokeOff g.F.Out.Sink.bytes (Rose (files.faults c.begin_works.new.files) (files.faults c.keep_works.new.files)) map (files.map c.keep_works.new.files) c.args.stages.now c.take_turns-works.result.works.items c.in-Err-keep_works.refusal)
     (c.begin_works.ensures.map ∙ c.open_readers.ensures.map) c.in-Err-keep_works.ensures.err in
-    unkept-left g.F.In.Source g.F.Out.Sink (files.map c.args.files.now) c.args.stages.now c.in-Ok-begin_works.works.items c.take_turns-works.result.works.items c.in-Ok-begin_works.ensures.count begun read
+    unkept-left g.F.In.Source g.F.Out.Sink (files.map c.args.files.now) c.args.stages.now c.in-Ok-begin_works.works.items c.take_turns-works.result.works.items c.in-Ok-begin_works.ensures.count c.in-Ok.readers.items c.in-Ok-bind_stages.forms.items begun come
     (faults_of g.F.In.Source.faults g.F.Out.Sink.faults) c.take_turns-works.ensures.later c.in-Ok-outcome.report.items came
     (Rose (files.faults c.begin_works.new.files) (files.faults c.keep_works.new.files)) (files.map c.keep_works.new.files) c.in-Err-keep_works.refusal broke m e
 
@@ -99,23 +88,23 @@ returns-in-Err-keep_works-clause-lent g c = c.keep_works.ensures.lent (g.F.Files
 pub returns-in-Err-outcome-clause-err : goal.returns-in-Err-outcome-clause-err
 returns-in-Err-outcome-clause-err g c =
     let files = g.F.Files in
-    let read = λ (x : Names) (f : files.map c.args.files.now ≡ Some x). are-read g.F.In.Source (files.map c.args.files.now) c.args.stages.now c.in-Ok.readers.items (length c.args.stages.now) (sym c.in-Ok.ensures.count) c.in-Ok.ensures.ok x f in
-    let begun = subst (λ map. AreBegun g.F.In.Source g.F.Out.Sink map c.args.stages.now c.in-Ok-begin_works.works.items) c.open_readers.ensures.map c.in-Ok-begin_works.ensures.ok in
+    let come = can-begin g.F.In.Source (files.map c.args.files.now) c.args.stages.now c.in-Ok.readers.items c.in-Ok.ensures.count c.in-Ok.ensures.ok (bound-over c.as_slice.ensures.value c.in-Ok-bind_stages.ensures.bound) in
+    let begun = subst (λ map. AreBegun g.F.In.Source g.F.Out.Sink map c.args.stages.now c.in-Ok.readers.items c.in-Ok-bind_stages.forms.items c.in-Ok-begin_works.works.items) c.open_readers.ensures.map c.in-Ok-begin_works.ensures.ok in
     let low : files.faults c.args.files.now ≤ files.faults c.begin_works.new.files = (let a = c.open_readers.ensures.later in let b = c.begin_works.ensures.later in omega (arith, a, b)) in
-    turns-to-cause g.F.In.Source (faults_of g.F.In.Source.faults g.F.Out.Sink.faults) (files.map c.args.files.now) c.args.stages.now c.in-Ok-begin_works.works.items c.take_turns-works.result.works.items
-    (files.faults c.args.files.now) (files.faults c.begin_works.new.files) (files.faults c.release_works.new.files) c.in-Ok-begin_works.ensures.count read
-    (works-tell g.F.In.Source g.F.Out.Sink (files.map c.args.files.now) c.args.stages.now c.in-Ok-begin_works.works.items c.take_turns-works.result.works.items c.in-Ok-begin_works.ensures.count begun read
+    run-to-cause g.F.In.Source (faults_of g.F.In.Source.faults g.F.Out.Sink.faults) (files.map c.args.files.now) c.args.stages.now c.in-Ok-begin_works.works.items c.take_turns-works.result.works.items
+    (files.faults c.args.files.now) (files.faults c.begin_works.new.files) (files.faults c.release_works.new.files) c.in-Ok-begin_works.ensures.count come
+    (works-tell g.F.In.Source g.F.Out.Sink (files.map c.args.files.now) c.args.stages.now c.in-Ok-begin_works.works.items c.take_turns-works.result.works.items c.in-Ok-begin_works.ensures.count c.in-Ok.readers.items c.in-Ok-bind_stages.forms.items begun come
     (faults_of g.F.In.Source.faults g.F.Out.Sink.faults) c.take_turns-works.ensures.later)
-    (starts-fit g.F.In.Source g.F.Out.Sink (files.map c.args.files.now) c.args.stages.now c.in-Ok-begin_works.works.items c.take_turns-works.result.works.items c.in-Ok-begin_works.ensures.count begun read
+    (starts-fit g.F.In.Source g.F.Out.Sink (files.map c.args.files.now) c.args.stages.now c.in-Ok-begin_works.works.items c.take_turns-works.result.works.items c.in-Ok-begin_works.ensures.count c.in-Ok.readers.items c.in-Ok-bind_stages.forms.items begun come
     (faults_of g.F.In.Source.faults g.F.Out.Sink.faults) c.take_turns-works.ensures.later)
     low c.release_works.ensures.counted c.in-Err-outcome.refusal
-    (err-of (IsTurnsCause g.F.In.Source (faults_of g.F.In.Source.faults g.F.Out.Sink.faults) c.args.stages.now c.in-Ok-begin_works.works.items c.take_turns-works.result.works.items)
+    (err-of (IsRunCause g.F.In.Source (faults_of g.F.In.Source.faults g.F.Out.Sink.faults) c.args.stages.now c.in-Ok-begin_works.works.items c.take_turns-works.result.works.items)
     c.take_turns-works.result.outcome c.in-Err-outcome.refusal c.in-Err-outcome.is c.take_turns-works.ensures.err)
 
 pub returns-in-Err-outcome-clause-left : goal.returns-in-Err-outcome-clause-left
 returns-in-Err-outcome-clause-left g c = λ m e. early-left c.in-Err-outcome.refusal (g.F.Files.map c.args.files.now) (g.F.Files.map c.release_works.new.files) (run_of m c.args.stages.now)
-    (turns-early g.F.In.Source (faults_of g.F.In.Source.faults g.F.Out.Sink.faults) c.args.stages.now c.in-Ok-begin_works.works.items c.take_turns-works.result.works.items c.in-Err-outcome.refusal
-    (err-of (IsTurnsCause g.F.In.Source (faults_of g.F.In.Source.faults g.F.Out.Sink.faults) c.args.stages.now c.in-Ok-begin_works.works.items c.take_turns-works.result.works.items)
+    (run-early g.F.In.Source (faults_of g.F.In.Source.faults g.F.Out.Sink.faults) c.args.stages.now c.in-Ok-begin_works.works.items c.take_turns-works.result.works.items c.in-Err-outcome.refusal
+    (err-of (IsRunCause g.F.In.Source (faults_of g.F.In.Source.faults g.F.Out.Sink.faults) c.args.stages.now c.in-Ok-begin_works.works.items c.take_turns-works.result.works.items)
     c.take_turns-works.result.outcome c.in-Err-outcome.refusal c.in-Err-outcome.is c.take_turns-works.ensures.err))
     (c.release_works.ensures.map ∙ c.begin_works.ensures.map ∙ c.open_readers.ensures.map)
 

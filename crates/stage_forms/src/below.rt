@@ -1,0 +1,98 @@
+//! What stands below a stage.
+
+ghost use Rattle.std.specs.Prelude.{◌≡◌, ◌<◌, ◌≤◌, ◌++◌, ◌||◌, ℕ, Some, true, false, All, IfOk, OnErr, flat_map, length, slice_get};
+ghost use Rattle.std.specs.List.{list_any};
+ghost use Rattle.cloud_points.specs.Layouts.{holds};
+ghost use Rattle.cloud_points.specs.declared.dims.Dim.{Dim};
+ghost use Rattle.pipeline_json.specs.Lists.{has};
+ghost use Rattle.pipeline_json.specs.Trees.{IsTree};
+ghost use Rattle.stage_options.specs.Shapes.{shapes};
+ghost use Rattle.stage_forms.specs.Below.{AreReaders, AreBelow};
+ghost use Rattle.stage_forms.specs.Joined.{IsOwn, IsJoined, StandsBelow};
+
+use cloud_points::Layout;
+use las_header::Format;
+use las_reader::LasReader;
+use file_devices::Source;
+use point_formats::dims;
+use stage_options::StageSpec;
+use std::alloc::{AllocError, Global};
+
+/// What stands below a stage.
+#[derive(Drop)]
+pub struct Below {
+    /// The numbers of the readers from which its points come, in the order in which they come.
+    pub readers: Vec<u32>,
+
+    /// The dimensions of its points.
+    pub layout: Layout,
+}
+
+/// What stands below a reader with this number, whose file has records of this format: itself.
+fn below_reader(alloc: Global, number: u32, format: Format) -> Result<Below, AllocError>
+    ensures { IfOk result (IsOwn number format) }
+{
+    let mut readers = Vec::new(alloc);
+    readers.push(number)?;
+    Ok(Below {
+        readers,
+        layout: dims(format),
+    })
+}
+
+/// What stands below a stage that takes these earlier ones: what stands below each of them, in their order.
+fn below_inputs(alloc: Global, inputs: &[u32], belows: &[Below]) -> Result<Below, AllocError>
+    requires { All (λ j. j < length belows.now) inputs.now }
+    ensures { IfOk result (IsJoined belows.now inputs.now) }
+{
+    let mut readers = Vec::new(alloc);
+    let mut layout = Layout::none();
+    for j in inputs {
+        let below = &belows[*j as usize];
+        readers.extend_from_slice(below.readers.as_slice())?;
+        layout.join(&below.layout);
+    }
+    Ok(Below { readers, layout })
+}
+
+/// What stands below the stage with this number, whose reader is this one where it has one, and which takes these earlier
+/// ones where it has none.
+fn below_stage<S: Source>(
+    alloc: Global,
+    number: u32,
+    reader: &Option<LasReader<S>>,
+    inputs: &[u32],
+    belows: &[Below],
+) -> Result<Below, AllocError>
+    requires { All (λ j. j < length belows.now) inputs.now }
+    ensures { IfOk result (StandsBelow reader.now number belows.now inputs.now) }
+{
+    match reader {
+        Some(reader) => below_reader(alloc, number, reader.header().format),
+        None => below_inputs(alloc, inputs, belows),
+    }
+}
+
+/// What stands below each stage of a tree, at whose numbers these readers stand. Refused only where memory is wanting.
+pub fn below_all<S: Source>(
+    alloc: Global,
+    stages: &[StageSpec],
+    readers: &[Option<LasReader<S>>],
+) -> Result<Vec<Below>, AllocError>
+    requires tree { IsTree (shapes stages.now) }
+    requires few { length stages.now ≤ 64 }
+    requires count { length readers.now ≡ length stages.now }
+    requires fit { AreReaders stages.now readers.now }
+    ensures below { IfOk result (λ belows. AreBelow stages.now readers.now belows.items) }
+    ensures count { IfOk result (λ belows. length belows.items ≡ length stages.now) }
+    ensures inside { IfOk result (λ belows. (i : ℕ) (b : Below) → slice_get belows.items i ≡ Some b
+        → All (λ j. j < length readers.now) b.readers.items) }
+{
+    let mut belows = Vec::with_capacity(alloc, stages.len())?;
+    for (i, stage) in stages.iter().enumerate() {
+        let inputs = stage.ins.as_slice();
+        let below = below_stage(alloc, i as u32, &readers[i], inputs, belows.as_slice())?;
+        belows.push(below)?;
+    }
+    Ok(belows)
+}

@@ -1,0 +1,82 @@
+//! The forms of files that are written.
+
+ghost use Rattle.std.specs.Prelude.{◌≡◌, ◌<◌, ◌≤◌, All, IfOk, length, map};
+ghost use Rattle.answer_model.specs.Forms.{column_of, dim_of, text_form};
+ghost use Rattle.forward_rules.specs.Forwarded.{form_of};
+ghost use Rattle.las_writer.specs.LasOutput.{IsForm};
+ghost use Rattle.stage_forms.specs.Below.{reads_in};
+ghost use Rattle.text_writer.specs.TextOutput.{IsTextForm};
+
+use cloud_points::{Dim, ExtraNames};
+use file_devices::{Name, Source};
+use forward_rules::{Forwarding, LasForm};
+use las_reader::LasReader;
+use option_texts::NamedColumn;
+use stage_options::{LasFields, TextOptions};
+use std::alloc::{AllocError, Global};
+use text_writer::{Column, ColumnList, TextForm};
+
+/// The dimension of a name; it is there in every run, since names are bound before.
+fn dim_of(alloc: Global, name: &str) -> Dim
+    ensures { result ≡ dim_of name.now }
+{
+    cloud_points::dim_of(name, &ExtraNames::none(alloc)).unwrap_or(Dim::X)
+}
+
+/// A column of a file whose columns have so many places where they say none.
+fn column(alloc: Global, precision: u32, named: &NamedColumn) -> Result<Column, AllocError>
+    ensures { IfOk result (λ c. c ≡ column_of precision named.now) }
+{
+    Ok(Column {
+        dim: dim_of(alloc, named.name.as_str()),
+        name: named.name.try_copy(alloc)?,
+        places: named.places.unwrap_or(precision),
+    })
+}
+
+/// The columns of such a file.
+fn columns(alloc: Global, precision: u32, named: &[NamedColumn]) -> Result<ColumnList, AllocError>
+    ensures { IfOk result (λ columns. columns ≡ map (column_of precision) named.now) }
+{
+    let mut columns = Vec::with_capacity(alloc, named.len())?;
+    for one in named {
+        columns.push(column(alloc, precision, one)?)?;
+    }
+    Ok(ColumnList::new(columns))
+}
+
+/// The form of the file of a text writer with these options. Refused only where memory is wanting.
+pub fn text_form(alloc: Global, options: &TextOptions) -> Result<TextForm, AllocError>
+    ensures value { IfOk result (λ f. f ≡ text_form options.now) }
+    ensures form { IfOk result IsTextForm }
+{
+    let precision = options.precision.count();
+    let delimiter = String::from_str(alloc, options.delimiter.as_str())?;
+    Ok(TextForm {
+        columns: columns(alloc, precision, options.columns.as_slice())?,
+        delimiter: Name::new(delimiter),
+        quote_header: options.quote_header,
+        write_header: options.write_header,
+    })
+}
+
+/// The form of the file of a LAS writer with these options, behind the readers of these numbers. Refused only where memory is
+/// wanting.
+pub fn las_form<S: Source>(
+    alloc: Global,
+    fields: &LasFields,
+    readers: &[Option<LasReader<S>>],
+    below: &[u32],
+) -> Result<LasForm, AllocError>
+    requires inside { All (λ j. j < length readers.now) below.now }
+    ensures value { IfOk result (λ f. f ≡ form_of fields.now (reads_in readers.now below.now)) }
+    ensures form { IfOk result IsForm }
+{
+    let mut forwarding = Forwarding::begin(alloc, fields.as_options())?;
+    for number in below {
+        if let Some(reader) = &readers[*number as usize] {
+            forwarding.add(alloc, reader.header(), reader.vlrs(), reader.evlrs())?;
+        }
+    }
+    Ok(forwarding.form())
+}
