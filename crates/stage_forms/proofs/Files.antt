@@ -1,11 +1,12 @@
 -- The files of readers, in the order in which they stand below a stage.
-use Rattle.std.proofs.Common.{◌≡◌, ℕ, List, [], ◌∷◌, ◌++◌, slice_get, Some, None, All, refl, ap, ◌∙◌}
+use Rattle.std.proofs.Common.{◌≡◌, ℕ, List, [], ◌∷◌, ◌++◌, slice_get, Some, None, ap, ◌∙◌}
 use Rattle.std.specs.Prelude.{slice_index_or, Option}
 use Rattle.std.proofs.lemmas.Grind.{flat_map-append}
+use Rattle.std.proofs.lemmas.List.{append-nil}
 use Rattle.std.proofs.lemmas.Option.{get_or_from_slice_get}
 use Rattle.forward_rules.specs.Forwarded.{ReadFile}
 use Rattle.las_reader.specs.declared.reader.LasReader.{LasReader}
-use Rattle.las_writer.specs.Laws.{IsGoodRead, AreGoodReads}
+use Rattle.las_writer.specs.Laws.{AreGoodReads}
 use Rattle.stage_forms.specs.Below.{read_of, read_in, reads_in}
 
 module _ {S : Type 0} (readers : List (Option (LasReader S))) where
@@ -16,9 +17,12 @@ module _ {S : Type 0} (readers : List (Option (LasReader S))) where
   pub read-one : (j : ℕ) (o : Option (LasReader S)) → slice_get readers j ≡ Some o → reads_in readers (j ∷ []) ≡ read_in o ++ []
   read-one j o e = ap (λ p. read_in p ++ []) (get_or_from_slice_get readers j o None e)
 
-  -- one place more
-  pub reads-more : (js : List ℕ) (j : ℕ) (o : Option (LasReader S)) → slice_get readers j ≡ Some o → reads_in readers (js ++ j ∷ []) ≡ reads_in readers js ++ (read_in o ++ [])
-  reads-more js j o e = reads-append js (j ∷ []) ∙ ap (λ more. reads_in readers js ++ more) (read-one j o e)
+  -- a place with a reader, and one without
+  pub reads-more : (js : List ℕ) (j : ℕ) (r : LasReader S) → slice_get readers j ≡ Some (Some r) → reads_in readers (js ++ j ∷ []) ≡ reads_in readers js ++ read_of r ∷ []
+  reads-more js j r e = reads-append js (j ∷ []) ∙ ap (λ more. reads_in readers js ++ more) (read-one j (Some r) e)
+
+  pub reads-same : (js : List ℕ) (j : ℕ) → slice_get readers j ≡ Some None → reads_in readers (js ++ j ∷ []) ≡ reads_in readers js
+  reads-same js j e = reads-append js (j ∷ []) ∙ ap (λ more. reads_in readers js ++ more) (read-one j None e) ∙ append-nil (reads_in readers js)
 
   good-read : (o : Option (LasReader S)) (reads : List ReadFile) → AreGoodReads reads → AreGoodReads (read_in o ++ reads)
   good-read None reads are = are

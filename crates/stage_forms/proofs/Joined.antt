@@ -1,9 +1,10 @@
 -- What stands below a stage is what its definition says, by its reader or by its inputs.
-use Rattle.std.proofs.Common.{◌≡◌, ℕ, zero, suc, ◌+◌, ◌<◌, Bool, true, false, ◌||◌, cond, List, [], ◌∷◌, ◌++◌, length, map, slice_get, Some, None, All, refl, ap, sym, subst, ◌∙◌, arith}
-use Rattle.std.specs.Prelude.{slice_index_or, is_some, flat_map, Option}
+use Rattle.std.proofs.Common.{◌≡◌, ℕ, zero, suc, ◌<◌, Bool, true, false, ◌||◌, cond, List, [], ◌∷◌, ◌++◌, length, map, slice_get, Some, None, All, refl, ap, sym, subst, ◌∙◌, arith}
+use Rattle.std.specs.Prelude.{flat_map, Option}
 use Rattle.std.specs.List.{list_any}
 use Rattle.std.proofs.lemmas.Grind.{flat_map-append}
-use Rattle.std.proofs.lemmas.Option.{get_or_from_slice_get, slice_get-get_or}
+use Rattle.std.proofs.lemmas.Option.{get_or_from_slice_get}
+use Rattle.std.proofs.lemmas.List.{append-nil}
 use Rattle.std.proofs.lemmas.List.Elements.{All-nil, All-cons, All-append}
 use Rattle.std.proofs.lemmas.List.Folds.{list_any-append}
 use Rattle.cloud_points.specs.declared.dims.Dim.{Dim}
@@ -16,7 +17,7 @@ use Rattle.stage_options.specs.Roles.{is_reading}
 use Rattle.stage_options.specs.declared.stage.StageSpec.{StageSpec}
 use Rattle.answer_model.specs.Values.{Opened, IsDown, stage_at, role_at, reads_at, reads_with, dims_at, dims_with}
 use Rattle.answer_model.proofs.Values.{has-own, has-later, fold-inputs}
-use Rattle.stage_forms.specs.Below.{read_of, read_in, reads_in, HaveReaders, AreReaders, IsBelow, AreBelow}
+use Rattle.stage_forms.specs.Below.{reads_in, HaveReaders, AreReaders, IsBelow}
 use Rattle.stage_forms.specs.Joined.{readers_in, dims_in, IsOwn, IsJoined, StandsBelow}
 use Rattle.stage_forms.specs.declared.below.Below.{Below}
 use Rattle.stage_forms.proofs.Files.{reads-append, read-one}
@@ -46,10 +47,6 @@ joined-more belows js j b more after is at readers dims = record {
   where
     all : ℕ → List ℕ
     all k = readers_in (slice_get belows k)
-
-    append-nil : (xs : List ℕ) → xs ++ [] ≡ xs
-    append-nil [] = refl
-    append-nil (x ∷ xs) = ap (λ ys. x ∷ ys) (append-nil xs)
 
 -- ---- what stands below, as it is defined
 

@@ -1,5 +1,5 @@
 -- What stands below the stages of a tree, by their opened readers.
-use Rattle.std.specs.Prelude.{◌≡◌, ℕ, Bool, true, List, [], ◌∷◌, map, flat_map, slice_get, slice_index_or, is_some, Option, Some, None}
+use Rattle.std.specs.Prelude.{◌≡◌, ℕ, List, [], ◌∷◌, flat_map, slice_get, slice_index_or, is_some, Option, Some, None}
 use Rattle.cloud_points.specs.declared.dims.Dim.{Dim}
 use Rattle.cloud_points.specs.Layouts.{holds}
 use Rattle.forward_rules.specs.Forwarded.{ReadFile, read_file}

@@ -11,9 +11,9 @@ ghost use Rattle.stage_forms.specs.Below.{AreReaders, AreBelow};
 ghost use Rattle.stage_forms.specs.Joined.{IsOwn, IsJoined, StandsBelow};
 
 use cloud_points::Layout;
+use file_devices::Source;
 use las_header::Format;
 use las_reader::LasReader;
-use file_devices::Source;
 use point_formats::dims;
 use stage_options::StageSpec;
 use std::alloc::{AllocError, Global};
