@@ -11,12 +11,12 @@ use Rattle.answer_model.specs.Values.{LasFile, Opened, options_at, reads_at}
 use Rattle.stage_runs.specs.Works.{HaveRead, IsAtStart, AreAtStart}
 
 module _ {S K : Type 0} where
-  file_of : Option (StageWork S K) → LasFile
+  abbrev file_of : Option (StageWork S K) → LasFile
   file_of (Some (Reader r)) = record no_file { read = read_of r }
   file_of _ = no_file
 
   -- the files of the readers among works
-  read_by : List (StageWork S K) → Opened
+  abbrev read_by : List (StageWork S K) → Opened
   read_by works i = file_of (slice_get works i)
 
   have-read : (works : List (StageWork S K)) → HaveRead works (read_by works)

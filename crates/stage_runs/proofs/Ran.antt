@@ -122,7 +122,7 @@ module _ {S K : Type 0} (s : source.Ghosts S) (k : sink.Ghosts K) (stages : List
               by_kind false l =
                   let took = over.took i was.0 m was.1 f l in
                   record {
-                    form = form-kept was.0.work m.work (input_at (ins_of stages) (stage_value stages opened) i) took.state
+                    is = form-kept was.0.work m.work (input_at (ins_of stages) (stage_value stages opened) i) took.state
                         ∙ form-at-start s k.bytes (options_at stages i) (reads_at stages opened i) was.0.work start form is;
                     holds = ap (λ flow. holds_of k.bytes m.work (points flow)) (sym (input-is i))
                         ∙ took.holds sound (holds-nothing s k.bytes (options_at stages i) (reads_at stages opened i) was.0.work start);

@@ -13,7 +13,7 @@ use Rattle.cloud_points.specs.Flows.{Flow, points, upto}
 use Rattle.cloud_points.specs.Queue.{up_to_limit}
 use Rattle.cloud_points.specs.Marks.{flow_marks}
 use Rattle.forward_rules.specs.Forwarded.{ReadFile, form_of}
-use Rattle.las_reader.specs.Files.{Las}
+use Rattle.las_reader.specs.Files.{Las as LasPoints}
 use Rattle.las_reader.specs.Flows.{las_flow, las_fault}
 use Rattle.las_reader.specs.declared.reader.LasReader.{LasReader}
 use Rattle.las_writer.specs.Records.{refusal}
@@ -41,7 +41,7 @@ use Rattle.stage_options.specs.Roles.{Role, role_of, target_of, is_reading, is_w
 use Rattle.stage_runs.specs.Works.{IsAtStart, IsBegun, form_for, op_for, Tells}
 
 -- a leaf is the work of a reader, and tells the flow and the fault of its file
-pub record IsLeaf {S K : Type 0} (s : source.Ghosts S) (o : Options) (las : Las) (w : StageWork S K) : Type 0 where
+pub record IsLeaf {S K : Type 0} (s : source.Ghosts S) (o : Options) (las : LasPoints) (w : StageWork S K) : Type 0 where
   pub reads : is_reading (role_of o) ≡ true
   pub tells : tells_of s.bytes w ≡ true
   pub told : told_of s.bytes w ≡ flow_marks (las_flow las)
@@ -238,29 +238,29 @@ module _ {S K : Type 0} (s : source.Ghosts S) (bytes : K → Option (List ℕ)) 
   form-at-start (WritersLas o) reads (Reader r) start form e = absurd start
   form-at-start (WritersLas o) reads (Head h) start form e = absurd start
   form-at-start (WritersLas o) reads Merge start form e = absurd start
-  form-at-start (WritersLas o) reads (Las l) start form e = start.form ∙ e
+  form-at-start (WritersLas o) reads (Las l) start form e = start.is ∙ e
   form-at-start (WritersLas o) reads (Text w) start form e = absurd start
   form-at-start (WritersText o) reads (Reader r) start form e = absurd start
   form-at-start (WritersText o) reads (Head h) start form e = absurd start
   form-at-start (WritersText o) reads Merge start form e = absurd start
   form-at-start (WritersText o) reads (Las l) start form e = absurd start
-  form-at-start (WritersText o) reads (Text w) start form e = start.form ∙ e
+  form-at-start (WritersText o) reads (Text w) start form e = start.is ∙ e
 
   -- a writer of the form of its stage that had no point yet is the stage's work at its start
   pub begun-starts : (o : Options) (reads : List ReadFile) (form : FileForm) (w : StageWork S K) → form_for o reads ≡ Some form → IsBegun bytes form w → IsAtStart bytes o reads w
   begun-starts (ReadersLas o) reads form w e b = absurd (none-some form e)
   begun-starts (FiltersHead o) reads form w e b = absurd (none-some form e)
   begun-starts (FiltersMerge o) reads form w e b = absurd (none-some form e)
-  begun-starts (WritersLas o) reads form (Reader r) e b = absurd (none-some form b.form)
-  begun-starts (WritersLas o) reads form (Head h) e b = absurd (none-some form b.form)
-  begun-starts (WritersLas o) reads form Merge e b = absurd (none-some form b.form)
-  begun-starts (WritersLas o) reads form (Las l) e b = subst (λ f. IsBegun bytes f (Las l)) (sym (same_Some (file.Las (form_of o.fields reads)) form e)) b
-  begun-starts (WritersLas o) reads form (Text w) e b = absurd (let a = same_Some (file.Las (form_of o.fields reads)) form e in let c = b.form in cc)
-  begun-starts (WritersText o) reads form (Reader r) e b = absurd (none-some form b.form)
-  begun-starts (WritersText o) reads form (Head h) e b = absurd (none-some form b.form)
-  begun-starts (WritersText o) reads form Merge e b = absurd (none-some form b.form)
-  begun-starts (WritersText o) reads form (Las l) e b = absurd (let a = same_Some (file.Text (text_form o)) form e in let c = b.form in cc)
-  begun-starts (WritersText o) reads form (Text w) e b = subst (λ f. IsBegun bytes f (Text w)) (sym (same_Some (file.Text (text_form o)) form e)) b
+  begun-starts (WritersLas o) reads form (Reader r) e b = absurd (none-some form b.is)
+  begun-starts (WritersLas o) reads form (Head h) e b = absurd (none-some form b.is)
+  begun-starts (WritersLas o) reads form Merge e b = absurd (none-some form b.is)
+  begun-starts (WritersLas o) reads form (Las l) e b = subst (λ f. IsBegun {S = S} {K = K} bytes f (Las l)) (sym (same_Some (file.Las (form_of o.fields reads)) form e)) b
+  begun-starts (WritersLas o) reads form (Text w) e b = absurd (let a = same_Some (file.Las (form_of o.fields reads)) form e in let c = b.is in cc)
+  begun-starts (WritersText o) reads form (Reader r) e b = absurd (none-some form b.is)
+  begun-starts (WritersText o) reads form (Head h) e b = absurd (none-some form b.is)
+  begun-starts (WritersText o) reads form Merge e b = absurd (none-some form b.is)
+  begun-starts (WritersText o) reads form (Las l) e b = absurd (let a = same_Some (file.Text (text_form o)) form e in let c = b.is in cc)
+  begun-starts (WritersText o) reads form (Text w) e b = subst (λ f. IsBegun {S = S} {K = K} bytes f (Text w)) (sym (same_Some (file.Text (text_form o)) form e)) b
 
   -- a reader that gave nothing yet is the work of a stage that reads
   pub reader-start : (o : Options) (reads : List ReadFile) (r : LasReader S) → is_reading (role_of o) ≡ true → r.progress ≡ Records 0 → IsAtStart bytes o reads (Reader r)
@@ -298,7 +298,7 @@ no-stop : (o : Option (ℕ × PointFault)) → stop_fault o ≡ None → o ≡ N
 no-stop None e = refl
 no-stop (Some x) e = absurd (none-some x.1 (sym e))
 
-none-refused : (o : Option (ℕ × EncodeFault)) → option_map (λ r. (r.0, point_fault (up_to_limit r.0) r.1)) o ≡ None → o ≡ None
+none-refused : (o : Option (ℕ × EncodeFault)) → option_map {U = ℕ × PointFault} (λ r. (r.0, point_fault (up_to_limit r.0) r.1)) o ≡ None → o ≡ None
 none-refused None e = refl
 none-refused (Some r) e = absurd (none-some (r.0, point_fault (up_to_limit r.0) r.1) (sym e))
 
@@ -312,7 +312,7 @@ places-are (WritersLas o) reads form flow e sound = subst (λ f. HasPlaces f (po
 places-are (WritersText o) reads form flow e sound = subst (λ f. HasPlaces f (points flow)) (same_Some (file.Text (text_form o)) form e) tt
 
 -- what a writer takes it gives on, where it has no fault
-pub written-count : (o : Options) (reads : List ReadFile) (las : Las) (flow : Flow Point) → rows.fault_on (row_of o reads) flow ≡ None
+pub written-count : (o : Options) (reads : List ReadFile) (las : LasPoints) (flow : Flow Point) → rows.fault_on (row_of o reads) flow ≡ None
     → option_map (λ (name : List ℕ). up_to_limit (length (points (value_of (role_of o) (row_of o reads) las flow)))) (target_of (role_of o)) ≡ option_map (λ name. up_to_limit (length (points flow))) (target_of (role_of o))
 written-count (ReadersLas o) reads las flow sound = refl
 written-count (FiltersHead o) reads las flow sound = refl

@@ -55,18 +55,18 @@ form_for _ reads = None
 
 -- a writer of a file of this form that had no point yet; `bytes` is what a sink tells
 pub record IsBegun {S K : Type 0} (bytes : K → Option (List ℕ)) (form : FileForm) (w : StageWork S K) : Type 0 where
-  pub form : form_in w ≡ Some form
+  pub is : form_in w ≡ Some form
   pub state : state_of w ≡ begun form
   pub holds : holds_of bytes w [] ≡ true
 
 -- a work does what a stage with these options does behind these files, and had no turn yet
 abbrev pub IsAtStart : {S K : Type 0} → (K → Option (List ℕ)) → Options → List ReadFile → StageWork S K → Type 0
-IsAtStart bytes (ReadersLas o) reads (Reader r) = r.progress ≡ Records 0
-IsAtStart bytes (FiltersHead o) reads (Head h) = h ≡ record { limit = o.count; left = o.count }
-IsAtStart bytes (FiltersMerge o) reads Merge = ⊤
-IsAtStart bytes (WritersLas o) reads (Las s) = IsBegun bytes (file.Las (form_of o.fields reads)) (Las s)
-IsAtStart bytes (WritersText o) reads (Text w) = IsBegun bytes (file.Text (text_form o)) (Text w)
-IsAtStart bytes _ reads _ = ⊥
+IsAtStart {S} {K} bytes (ReadersLas o) reads (Reader r) = r.progress ≡ Records 0
+IsAtStart {S} {K} bytes (FiltersHead o) reads (Head h) = h ≡ record { limit = o.count; left = o.count }
+IsAtStart {S} {K} bytes (FiltersMerge o) reads Merge = ⊤
+IsAtStart {S} {K} bytes (WritersLas o) reads (Las l) = IsBegun {S = S} {K = K} bytes (file.Las (form_of o.fields reads)) (Las l)
+IsAtStart {S} {K} bytes (WritersText o) reads (Text w) = IsBegun {S = S} {K = K} bytes (file.Text (text_form o)) (Text w)
+IsAtStart {S} {K} bytes _ reads _ = ⊥
 
 -- what a stage that does this does with its device while the stages take turns
 abbrev pub op_for : Role → Option Op

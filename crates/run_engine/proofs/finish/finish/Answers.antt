@@ -19,7 +19,7 @@ loop-i-preserved g c =
       later = later-more bytes faults c.args.works.items c.loop-i.works.items c.loop-i.i v c.finish.new.self now.later here c.finish.ensures.op c.finish.ensures.later;
       finished = finished-more bytes faults c.args.works.items c.loop-i.works.items c.loop-i.i v c.finish.new.self now.later here c.finish.ensures.op c.finish.ensures.later
           (IsFinished bytes) 0 now.finished (λ a e. subst (λ x. IsFinished bytes x c.finish.new.self) (same_some v a (sym was ∙ e))
-          (λ form ps h. c.in-Ok.ensures.file form ps h.form h.holds h.places));
+          (λ form ps h. c.in-Ok.ensures.file form ps h.is h.holds h.places));
       left = left-more bytes faults c.args.works.items c.loop-i.works.items c.loop-i.i v c.finish.new.self now.later here c.finish.ensures.op c.finish.ensures.later
           (c.loop-i.i + 1) (omega arith) now.left;
     }
