@@ -18,9 +18,10 @@ use Rattle.answer_model.specs.Values.{Opened, options_at, reads_at, unbound_at, 
 use Rattle.answer_model.specs.Runs.{AreRead, opened_in, unless_unbound, run_with, run_over, run_of}
 use Rattle.answer_model.specs.Values.{evaluated}
 use Rattle.stage_runs.specs.Works.{AreAtStart, HaveRead}
-use Rattle.run_engine.specs.Begun.{AreBegun, AreForms, IsUnbound, reader_of}
-use Rattle.run_engine.specs.Cause.{IsCause, IsEarly}
+use Rattle.run_engine.specs.Begun.{AreOpened, AreBegun, AreForms, AreNamesBound, IsUnbound, reader_of}
+use Rattle.run_engine.specs.Cause.{CanBegin, IsCause, IsEarly}
 use Rattle.run_engine.proofs.Answers.{all-read}
+use Rattle.run_engine.proofs.Opening.{are-read, have-readers}
 
 is-reader : {S K : Type 0} (w : StageWork S K) (r : LasReader S) → reader_of w ≡ Some r → w ≡ Reader r
 is-reader (Reader q) r e = ap Reader (same_Some q r e)
@@ -41,7 +42,7 @@ are-at-start {S} {K} s k map stages readers forms works a b c are begun opened h
     have_readers j r f =
         let there = slice_get_within readers j (Some r) f in
         let v = some_at works j (omega (arith, a, b, there)) in
-        let is = is-reader v.0 r ((begun j v.0 v.1).reader ∙ get_or_from_slice_get readers j (Some r) None f) in
+        let is = is-reader v.0 r ((begun j v.0 v.1).same ∙ get_or_from_slice_get readers j (Some r) None f) in
         have j r (v.1 ∙ ap (λ x. Some x) is)
 
 -- the fault of the first stage whose options name another dimension is the answer, where all files are read
@@ -63,3 +64,9 @@ unbound-early stages readers (of.Data i f) why = absurd why
 unbound-early stages readers (of.Device p o) why = absurd why
 unbound-early stages readers (of.Usage k) why = absurd why
 unbound-early stages readers (of.NotBuilt k) why = absurd why
+
+-- where the readers are opened over the map and all names are bound, a run can begin
+pub can-begin : {S : Type 0} (s : source.Ghosts S) (map : Option Names) (stages : List StageSpec) (readers : List (Option (LasReader S))) → length readers ≡ length stages → AreOpened s map stages readers
+    → AreNamesBound stages readers (length stages) → (m : Names) → map ≡ Some m → CanBegin m stages
+can-begin s map stages readers count are bound m e =
+    (are-read s map stages readers (length stages) (sym count) are m e, λ i lt. bound (opened_in m stages) (have-readers s map stages readers are m e) i lt)

@@ -128,3 +128,7 @@ leaf-at source bytes stages i w reads tree own lt start =
     let is = stage-is stages i s.0 s.1 in
     subst (λ (t : StageSpec). (is_reader w ≡ true → length t.ins ≡ 0) × (length t.ins ≡ 0 → is_reader w ≡ true)) (sym is)
     (leaf-inputs source bytes stages i s.0 w reads tree own s.1 (subst (λ (t : StageSpec). IsAtStart bytes t.options reads w) is start))
+
+-- a tree has at most 64 stages
+pub few-stages : (stages : List StageSpec) → IsTree (shapes stages) → length stages ≤ 64
+few-stages stages tree = (let a = shapes-size stages in let b = tree.few in omega (arith, a, b))

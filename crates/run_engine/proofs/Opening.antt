@@ -15,7 +15,7 @@ use Rattle.stage_kinds.specs.declared.file_form.FileForm.{FileForm}
 use Rattle.stage_kinds.specs.declared.stage_work.StageWork.{StageWork}
 use Rattle.stage_kinds.specs.declared.stage_work.StageWork.TheVariants.{Reader, Head, Merge, Las, Text}
 use Rattle.stage_kinds.specs.Held.{op_of}
-use Rattle.stage_options.specs.Roles.{Role, Reads, Filters, Writes, role_of, is_reading}
+use Rattle.stage_options.specs.Roles.{Role, Reads, Filters, Writes, role_of, is_reading, is_writing}
 use Rattle.stage_options.specs.declared.options.Options.{Options}
 use Rattle.stage_options.specs.declared.stage.StageSpec.{StageSpec}
 use Rattle.run_report.specs.declared.refusal.Refusal.{Refusal}
@@ -109,7 +109,7 @@ module _ {S : Type 0} (s : source.Ghosts S) (map : Option Names) (i : ℕ) where
 -- an opened reader is the work of its stage
 pub reader-work : {S K : Type 0} (s : source.Ghosts S) (k : sink.Ghosts K) (map : Option Names) (i : ℕ) (o : Options) (r : LasReader S) (form : Option FileForm) → IsOpened s map i (role_of o) (Some r) → IsWork s k map i o (Some r) form (Reader r)
 reader-work {S} {K} s k map i o r form is = record {
-  reader = refl;
+  same = refl;
   start = λ reads e. reader-start s k.bytes o reads r (opened.0) (opened.1.start);
   device = op-at-start s k.bytes o [] (Reader r) (reader-start s k.bytes o [] r (opened.0) (opened.1.start));
   tells = λ m e q w. (let same : r ≡ q = cc in subst (λ (x : LasReader S). Tells s (λ j. holds m j (role_of o)) i x) same (opened.1.tells m e));
@@ -122,7 +122,7 @@ reader-work {S} {K} s k map i o r form is = record {
 pub other-work : {S K : Type 0} (s : source.Ghosts S) (k : sink.Ghosts K) (map : Option Names) (i : ℕ) (o : Options) (form : Option FileForm) (w : StageWork S K) → is_reading (role_of o) ≡ false
     → op_of w ≡ op_for (role_of o) → ((reads : List ReadFile) → form ≡ form_for o reads → IsAtStart k.bytes o reads w) → IsWork s k map i o None form w
 other-work {S} {K} s k map i o form w inner device start = record {
-  reader = no_reader w device;
+  same = no_reader w device;
   start = start;
   device = device;
   tells = λ m e r is. absurd (reads_not (role_of o) inner (ap op_of (sym is) ∙ device));
@@ -147,3 +147,9 @@ module _ {S : Type 0} (s : source.Ghosts S) (map : Option Names) (stages : List 
   -- the readers' files are those of the map
   pub have-readers : (m : Names) → map ≡ Some m → HaveReaders readers (opened_in m stages)
   have-readers m told i r e = ap (λ (x : LasFile). x.read) ((by-reader s map i (role_at stages i) r (are i (Some r) e)).1.tells m told).holds
+
+-- a stage that neither reads nor writes has no device
+pub no-device : (role : Role) → is_reading role ≡ false → is_writing role ≡ false → op_for role ≡ None
+no-device (Reads name) r w = absurd (true≢false r)
+no-device Filters r w = refl
+no-device (Writes name) r w = absurd (true≢false w)

@@ -1,5 +1,5 @@
 -- What holds of the answer of a step, by what held of it.
-use Rattle.std.proofs.Common.{◌≡◌, Result, Ok, Err, IfOk, IfErr, subst}
+use Rattle.std.proofs.Common.{◌≡◌, Result, Ok, Err, IfOk, IfErr, OnOk, subst}
 
 pub if-ok : {R E : Type 0} (o : Result R E) {P Q : R → Type 0} → IfOk o P → ((r : R) → P r → Q r) → IfOk o Q
 if-ok (Ok r) p f = f r p
@@ -20,3 +20,7 @@ ok-of P (Err f) r e p = cc
 pub err-of : {R E : Type 0} (P : E → Type 0) (o : Result R E) (f : E) → o ≡ Err f → IfErr o P → P f
 err-of P (Ok r) f e p = cc
 err-of P (Err g) f e p = let same : g ≡ f = cc in subst P same p
+
+pub on-ok : {R E : Type 0} (o : Result R E) (r : R) {P : Type 0} → o ≡ Ok r → OnOk o P → P
+on-ok (Ok s) r e p = p
+on-ok (Err f) r e p = cc

@@ -74,7 +74,7 @@ reader_of _ = None
 -- the work of stage i, which has these options, at its start: over its reader, or with its file in this form; a reader's source
 -- tells its file
 pub record IsWork {S K : Type 0} (s : source.Ghosts S) (k : sink.Ghosts K) (map : Option Names) (i : ℕ) (o : Options) (reader : Option (LasReader S)) (form : Option FileForm) (w : StageWork S K) : Type 0 where
-  pub reader : reader_of w ≡ reader
+  pub same : reader_of w ≡ reader
   pub start : (reads : List ReadFile) → form ≡ form_for o reads → IsAtStart k.bytes o reads w
   pub device : op_of w ≡ op_for (role_of o)
   pub tells : (m : Names) → map ≡ Some m → (r : LasReader S) → w ≡ Reader r → Tells s (λ j. holds m j (role_of o)) i r

@@ -5,7 +5,8 @@ use Rattle.stage_kinds.specs.Held.{op_of}
 use Rattle.stage_options.specs.Roles.{role_of}
 use Rattle.stage_runs.specs.Works.{op_for}
 use Rattle.run_engine.specs.Begun.{there, all_held}
-use Rattle.run_engine.proofs.Lists.{popped, one_less}
+use Rattle.run_engine.specs.Keeping.{kept_first}
+use Rattle.run_engine.proofs.Lists.{popped, one_less, none_left}
 use Rattle.run_engine.proofs.Sums.{sum-pop, sum-reverse, none-there}
 use Rattle.run_engine.proofs.Opening.{role-is}
 use Rattle.run_engine.proofs.Keeping.{kept-next, broke-off}
@@ -70,3 +71,9 @@ returns-clause-lent g c = λ others e.
     let a = c.loop-work.invariant.lent others e in
     let b : all_held c.loop-work.works.items ≡ 0 = ap all_held none in
     omega (arith, a, b)
+
+pub returns-clause-ok : goal.returns-clause-ok
+returns-clause-ok g c =
+    let now = c.loop-work.invariant in
+    let all = none_left (length c.args.works.items) c.loop-work.at (vec_len c.loop-work.works) now.count c.in_default.ensures.cases.0 in
+    now.kept ∙ ap (λ n. kept_first g.F.Out.Sink.bytes n (g.F.Files.map c.args.files.now) c.args.stages.now c.args.works.items) all

@@ -1,4 +1,5 @@
 use Rattle.std.proofs.Common.{◌≡◌, ◌<◌, [], ◌∷◌, ◌++◌, map, take, length, vec_len, ap, sym, subst, ◌∙◌, arith}
+use Rattle.std.proofs.Math.Seq.{take-length}
 use Rattle.std.proofs.lemmas.List.{map-append}
 use Rattle.std.specs.Prelude.{slice_get}
 use Rattle.network_core.specs.Shown.{work_of}
@@ -55,7 +56,8 @@ returns-clause-new g c =
     record {
       count = (let a = now.nodes in let k = c.loop-work.nodes.ok in let b = c.requires.count in omega (arith, a, k, b, all));
       fresh = λ i n e. (now.new i n e).fresh;
-      works = subst (AreAtStart g.K.Sink.bytes c.args.stages.now) (sym c.ensures.works) c.requires.starts;
+      works = subst (AreAtStart g.K.Sink.bytes c.args.stages.now)
+          (sym (now.moved ∙ ap (λ n. take n c.args.works.items) all ∙ take-length c.args.works.items)) c.requires.starts;
     }
 
 pub returns-clause-chunk : goal.returns-clause-chunk

@@ -7,13 +7,16 @@ use Rattle.stage_kinds.specs.Held.{faults_of}
 use Rattle.run_report.specs.declared.report.StageCount.{StageCount}
 use Rattle.answer_model.specs.Values.{Opened}
 use Rattle.answer_model.specs.Runs.{run_of}
-use Rattle.run_engine.specs.Begun.{AreBegun}
+use Rattle.run_engine.specs.Begun.{AreBegun, AreForms, AreNamesBound, AreOpened, IsUnbound}
 use Rattle.run_engine.specs.Cause.{IsCause}
 use Rattle.run_engine.specs.Keeping.{kept_first, BrokeOff}
 use Rattle.run_engine.specs.Turns.{WorksTell, AreDone, IsRunCause}
+use Rattle.stage_forms.specs.Below.{AreReaders}
+use Rattle.run_engine.proofs.Inputs.{few-stages}
 use Rattle.run_engine.proofs.Results.{ok-of, err-of}
 use Rattle.run_engine.proofs.Causes.{rose-within, cause-weaker}
-use Rattle.run_engine.proofs.Opening.{are-read}
+use Rattle.run_engine.proofs.Bound.{are-at-start, can-begin, unbound-cause, unbound-early}
+use Rattle.run_engine.proofs.Opening.{are-read, are-readers, have-readers}
 use Rattle.run_engine.proofs.Answers.{early-left, run-to-cause, run-early, same-held, works-tell, starts-fit, fit, is-run, unkept-cause, unkept-left}
 use Rattle.run_engine.proofs.run.run_pipeline.Goals as goal
 
@@ -38,7 +41,7 @@ returns-in-Err-begin_works-clause-lent g c = c.in-Err-begin_works.ensures.lent_e
 pub returns-in-Ok-keep_works-clause-ok : goal.returns-in-Ok-keep_works-clause-ok
 returns-in-Ok-keep_works-clause-ok g c = λ m e.
     let files = g.F.Files in
-    let come = can-begin g.F.In.Source (files.map c.args.files.now) c.args.stages.now c.in-Ok.readers.items c.in-Ok.ensures.count c.in-Ok.ensures.ok (bound-over c.as_slice.ensures.value c.in-Ok-bind_stages.ensures.bound) in
+    let come = can-begin g.F.In.Source (files.map c.args.files.now) c.args.stages.now c.in-Ok.readers.items c.in-Ok.ensures.count c.in-Ok.ensures.ok (subst (λ rs. AreNamesBound c.args.stages.now rs (length c.args.stages.now)) c.as_slice.ensures.value c.in-Ok-bind_stages.ensures.bound) in
     let begun = subst (λ map. AreBegun g.F.In.Source g.F.Out.Sink map c.args.stages.now c.in-Ok.readers.items c.in-Ok-bind_stages.forms.items c.in-Ok-begin_works.works.items) c.open_readers.ensures.map c.in-Ok-begin_works.ensures.ok in
     let came = ok-of (λ (report : ArrayVec StageCount). (o : Opened) → WorksTell g.F.In.Source c.in-Ok-begin_works.works.items o → AreDone g.F.Out.Sink.bytes c.args.stages.now o c.take_turns-works.result.works.items report.items)
     c.take_turns-works.result.outcome c.in-Ok-outcome.report c.in-Ok-outcome.is c.take_turns-works.ensures.ok in
@@ -54,7 +57,7 @@ returns-in-Ok-keep_works-clause-lent g c = c.keep_works.ensures.lent (g.F.Files.
 pub returns-in-Err-keep_works-clause-err : goal.returns-in-Err-keep_works-clause-err
 returns-in-Err-keep_works-clause-err g c =
     let files = g.F.Files in
-    let come = can-begin g.F.In.Source (files.map c.args.files.now) c.args.stages.now c.in-Ok.readers.items c.in-Ok.ensures.count c.in-Ok.ensures.ok (bound-over c.as_slice.ensures.value c.in-Ok-bind_stages.ensures.bound) in
+    let come = can-begin g.F.In.Source (files.map c.args.files.now) c.args.stages.now c.in-Ok.readers.items c.in-Ok.ensures.count c.in-Ok.ensures.ok (subst (λ rs. AreNamesBound c.args.stages.now rs (length c.args.stages.now)) c.as_slice.ensures.value c.in-Ok-bind_stages.ensures.bound) in
     let begun = subst (λ map. AreBegun g.F.In.Source g.F.Out.Sink map c.args.stages.now c.in-Ok.readers.items c.in-Ok-bind_stages.forms.items c.in-Ok-begin_works.works.items) c.open_readers.ensures.map c.in-Ok-begin_works.ensures.ok in
     let came = ok-of (λ (report : ArrayVec StageCount). (o : Opened) → WorksTell g.F.In.Source c.in-Ok-begin_works.works.items o → AreDone g.F.Out.Sink.bytes c.args.stages.now o c.take_turns-works.result.works.items report.items)
     c.take_turns-works.result.outcome c.in-Ok-outcome.report c.in-Ok-outcome.is c.take_turns-works.ensures.ok in
@@ -70,7 +73,7 @@ returns-in-Err-keep_works-clause-err g c =
 pub returns-in-Err-keep_works-clause-left : goal.returns-in-Err-keep_works-clause-left
 returns-in-Err-keep_works-clause-left g c = λ m e.
     let files = g.F.Files in
-    let come = can-begin g.F.In.Source (files.map c.args.files.now) c.args.stages.now c.in-Ok.readers.items c.in-Ok.ensures.count c.in-Ok.ensures.ok (bound-over c.as_slice.ensures.value c.in-Ok-bind_stages.ensures.bound) in
+    let come = can-begin g.F.In.Source (files.map c.args.files.now) c.args.stages.now c.in-Ok.readers.items c.in-Ok.ensures.count c.in-Ok.ensures.ok (subst (λ rs. AreNamesBound c.args.stages.now rs (length c.args.stages.now)) c.as_slice.ensures.value c.in-Ok-bind_stages.ensures.bound) in
     let begun = subst (λ map. AreBegun g.F.In.Source g.F.Out.Sink map c.args.stages.now c.in-Ok.readers.items c.in-Ok-bind_stages.forms.items c.in-Ok-begin_works.works.items) c.open_readers.ensures.map c.in-Ok-begin_works.ensures.ok in
     let came = ok-of (λ (report : ArrayVec StageCount). (o : Opened) → WorksTell g.F.In.Source c.in-Ok-begin_works.works.items o → AreDone g.F.Out.Sink.bytes c.args.stages.now o c.take_turns-works.result.works.items report.items)
     c.take_turns-works.result.outcome c.in-Ok-outcome.report c.in-Ok-outcome.is c.take_turns-works.ensures.ok in
@@ -88,7 +91,7 @@ returns-in-Err-keep_works-clause-lent g c = c.keep_works.ensures.lent (g.F.Files
 pub returns-in-Err-outcome-clause-err : goal.returns-in-Err-outcome-clause-err
 returns-in-Err-outcome-clause-err g c =
     let files = g.F.Files in
-    let come = can-begin g.F.In.Source (files.map c.args.files.now) c.args.stages.now c.in-Ok.readers.items c.in-Ok.ensures.count c.in-Ok.ensures.ok (bound-over c.as_slice.ensures.value c.in-Ok-bind_stages.ensures.bound) in
+    let come = can-begin g.F.In.Source (files.map c.args.files.now) c.args.stages.now c.in-Ok.readers.items c.in-Ok.ensures.count c.in-Ok.ensures.ok (subst (λ rs. AreNamesBound c.args.stages.now rs (length c.args.stages.now)) c.as_slice.ensures.value c.in-Ok-bind_stages.ensures.bound) in
     let begun = subst (λ map. AreBegun g.F.In.Source g.F.Out.Sink map c.args.stages.now c.in-Ok.readers.items c.in-Ok-bind_stages.forms.items c.in-Ok-begin_works.works.items) c.open_readers.ensures.map c.in-Ok-begin_works.ensures.ok in
     let low : files.faults c.args.files.now ≤ files.faults c.begin_works.new.files = (let a = c.open_readers.ensures.later in let b = c.begin_works.ensures.later in omega (arith, a, b)) in
     run-to-cause g.F.In.Source (faults_of g.F.In.Source.faults g.F.Out.Sink.faults) (files.map c.args.files.now) c.args.stages.now c.in-Ok-begin_works.works.items c.take_turns-works.result.works.items
@@ -112,3 +115,46 @@ pub returns-in-Err-outcome-clause-lent : goal.returns-in-Err-outcome-clause-lent
 returns-in-Err-outcome-clause-lent g c = c.release_works.ensures.lent (g.F.Files.lent c.args.files.now)
     (c.in-Ok-begin_works.ensures.lent_ok (g.F.Files.lent c.args.files.now) c.in-Ok.ensures.lent_ok
     ∙ ap (λ n. g.F.Files.lent c.args.files.now + n) (sym (same-held (faults_of g.F.In.Source.faults g.F.Out.Sink.faults) c.in-Ok-begin_works.works.items c.take_turns-works.result.works.items c.take_turns-works.ensures.later)))
+
+pub bind_stages-requires-clause-fit : goal.bind_stages-requires-clause-fit
+bind_stages-requires-clause-fit g c = subst (AreReaders c.args.stages.now) (sym c.as_slice.ensures.value)
+    (are-readers g.F.In.Source (g.F.Files.map c.args.files.now) c.args.stages.now c.in-Ok.readers.items c.in-Ok.ensures.ok)
+
+pub returns-in-Err-bind_stages-clause-err : goal.returns-in-Err-bind_stages-clause-err
+returns-in-Err-bind_stages-clause-err g c =
+    let files = g.F.Files in
+    unbound-cause (Rose (files.faults c.args.files.now) (files.faults c.give_back.new.files)) (files.map c.args.files.now) c.args.stages.now c.in-Ok.readers.items c.in-Err-bind_stages.refusal
+    (are-read g.F.In.Source (files.map c.args.files.now) c.args.stages.now c.in-Ok.readers.items (length c.args.stages.now) (sym c.in-Ok.ensures.count) c.in-Ok.ensures.ok)
+    (have-readers g.F.In.Source (files.map c.args.files.now) c.args.stages.now c.in-Ok.readers.items c.in-Ok.ensures.ok)
+    (subst (λ rs. IsUnbound c.args.stages.now rs c.in-Err-bind_stages.refusal) c.as_slice.ensures.value c.in-Err-bind_stages.ensures.err)
+
+pub returns-in-Err-bind_stages-clause-left : goal.returns-in-Err-bind_stages-clause-left
+returns-in-Err-bind_stages-clause-left g c = λ m e. early-left c.in-Err-bind_stages.refusal (g.F.Files.map c.args.files.now) (g.F.Files.map c.give_back.new.files) (run_of m c.args.stages.now)
+    (unbound-early c.args.stages.now c.in-Ok.readers.items c.in-Err-bind_stages.refusal (subst (λ rs. IsUnbound c.args.stages.now rs c.in-Err-bind_stages.refusal) c.as_slice.ensures.value c.in-Err-bind_stages.ensures.err))
+    (c.give_back.ensures.map ∙ c.open_readers.ensures.map)
+
+pub returns-in-Err-bind_stages-clause-lent : goal.returns-in-Err-bind_stages-clause-lent
+returns-in-Err-bind_stages-clause-lent g c = c.give_back.ensures.lent (g.F.Files.lent c.args.files.now) c.in-Ok.ensures.lent_ok
+
+pub begin_works-requires-clause-come : goal.begin_works-requires-clause-come
+begin_works-requires-clause-come g c = λ m e. can-begin g.F.In.Source (g.F.Files.map c.args.files.now) c.args.stages.now c.in-Ok.readers.items c.in-Ok.ensures.count c.in-Ok.ensures.ok
+    (subst (λ rs. AreNamesBound c.args.stages.now rs (length c.args.stages.now)) c.as_slice.ensures.value c.in-Ok-bind_stages.ensures.bound) m (sym c.open_readers.ensures.map ∙ e)
+
+pub take_turns-works-requires-clause-few : goal.take_turns-works-requires-clause-few
+take_turns-works-requires-clause-few g c = few-stages c.args.stages.now c.requires.tree
+
+pub take_turns-works-requires-clause-starts : goal.take_turns-works-requires-clause-starts
+take_turns-works-requires-clause-starts g c = are-at-start g.F.In.Source g.F.Out.Sink (g.F.Files.map c.open_readers.new.files) c.args.stages.now c.in-Ok.readers.items c.in-Ok-bind_stages.forms.items c.in-Ok-begin_works.works.items
+    c.in-Ok-begin_works.ensures.count c.in-Ok.ensures.count c.in-Ok-bind_stages.ensures.count
+    (subst (λ rs. AreForms c.args.stages.now rs c.in-Ok-bind_stages.forms.items) c.as_slice.ensures.value c.in-Ok-bind_stages.ensures.forms) c.in-Ok-begin_works.ensures.ok
+
+pub keep_works-requires-clause-fit : goal.keep_works-requires-clause-fit
+keep_works-requires-clause-fit g c =
+    let files = g.F.Files in
+    let come = can-begin g.F.In.Source (files.map c.args.files.now) c.args.stages.now c.in-Ok.readers.items c.in-Ok.ensures.count c.in-Ok.ensures.ok (subst (λ rs. AreNamesBound c.args.stages.now rs (length c.args.stages.now)) c.as_slice.ensures.value c.in-Ok-bind_stages.ensures.bound) in
+    let begun = subst (λ map. AreBegun g.F.In.Source g.F.Out.Sink map c.args.stages.now c.in-Ok.readers.items c.in-Ok-bind_stages.forms.items c.in-Ok-begin_works.works.items) c.open_readers.ensures.map c.in-Ok-begin_works.ensures.ok in
+    fit g.F.In.Source g.F.Out.Sink (files.map c.args.files.now) c.args.stages.now c.in-Ok-begin_works.works.items c.take_turns-works.result.works.items c.in-Ok-begin_works.ensures.count
+    c.in-Ok.readers.items c.in-Ok-bind_stages.forms.items begun come (faults_of g.F.In.Source.faults g.F.Out.Sink.faults) c.take_turns-works.ensures.later
+
+pub keep_works-requires-clause-few : goal.keep_works-requires-clause-few
+keep_works-requires-clause-few g c = few-stages c.args.stages.now c.requires.tree

@@ -4,7 +4,7 @@ use Rattle.stage_kinds.specs.Held.{faults_of}
 use Rattle.answer_model.specs.Values.{Opened}
 use Rattle.arrayvec.specs.ArrayVec.{ArrayVec}
 use Rattle.run_engine.specs.Turns.{WorksTell, CameToEnd, IsUnfinished}
-use Rattle.run_engine.proofs.Results.{ok-of, err-of}
+use Rattle.run_engine.proofs.Results.{ok-of, err-of, on-ok}
 use Rattle.run_engine.proofs.Ran.{later-on, done-on, unfinished-on}
 use Rattle.run_engine.proofs.turns.take_turns.Goals as goal
 
@@ -16,7 +16,7 @@ returns-in-Ok-outcome-clause-ok g c = λ opened tell.
     let was = ok-of (λ (report : ArrayVec StageCount). (o : Opened) → WorksTell g.S.Source c.args.works.items o → CameToEnd g.K.Sink.bytes c.args.stages.now o c.turn_works-works.result.works.items report.items)
     c.turn_works-works.result.outcome c.in-Ok.report c.in-Ok.is c.turn_works-works.ensures.ok in
     done-on (faults_of g.S.Source.faults g.K.Sink.faults) c.args.works.items c.turn_works-works.result.works.items c.finish-works.result.works.items c.turn_works-works.ensures.later c.finish-works.ensures.later
-    g.K.Sink.bytes c.args.stages.now opened c.in-Ok.report.items (c.in-Ok-outcome.ensures.finished) (was opened tell)
+    g.K.Sink.bytes c.args.stages.now opened c.in-Ok.report.items (on-ok c.finish-works.result.outcome c.in-Ok-outcome.field-0 c.in-Ok-outcome.is c.finish-works.ensures.finished) (was opened tell)
 
 pub returns-in-Err-outcome-clause-later : goal.returns-in-Err-outcome-clause-later
 returns-in-Err-outcome-clause-later g c = later-on (faults_of g.S.Source.faults g.K.Sink.faults) c.args.works.items c.turn_works-works.result.works.items c.finish-works.result.works.items c.turn_works-works.ensures.later c.finish-works.ensures.later

@@ -1,4 +1,4 @@
-use Rattle.std.proofs.Common.{List, map, ap, sym, subst, ◌∙◌}
+use Rattle.std.proofs.Common.{List, map, length, ap, sym, subst, ◌∙◌, arith}
 use Rattle.network_core.specs.declared.node.Node.{Node}
 use Rattle.network_core.specs.Shown.{work_of}
 use Rattle.stage_kinds.specs.Held.{faults_of}
@@ -32,3 +32,17 @@ returns-in-Ok-run_stages-clause-err g c = if-err c.outcome-outcome.result c.outc
 pub returns-in-Err-clause-later : goal.returns-in-Err-clause-later
 returns-in-Err-clause-later g c = same-later (faults_of g.S.Source.faults g.K.Sink.faults) c.args.works.items c.works_in-works-in-Err.result.items
     (c.works_in-works-in-Err.ensures ∙ ap (map work_of) c.in-Err.ensures.refused ∙ c.nodes_over-nodes.ensures.works)
+
+pub outcome-outcome-requires-clause-fit : goal.outcome-outcome-requires-clause-fit
+outcome-outcome-requires-clause-fit g c =
+    let same = ap (λ (ns : List (Node _)). length ns) c.deref.ensures.value in
+    let ran = c.in-Ok-run_stages.ensures.ran.tree.count in
+    let new = c.nodes_over-nodes.ensures.new.count in
+    omega (arith, same, ran, new)
+
+pub works_in-works-requires-clause-room : goal.works_in-works-requires-clause-room
+works_in-works-requires-clause-room g c =
+    let ran = c.in-Ok-run_stages.ensures.ran.tree.count in
+    let new = c.nodes_over-nodes.ensures.new.count in
+    let room = c.in-Ok-with_capacity.ensures.capacity in
+    omega (arith, ran, new, room)
