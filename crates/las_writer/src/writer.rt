@@ -149,12 +149,14 @@ impl<K: FileSink> LasWriter<K> {
         }
     }
 
-    /// Appends the records of a chunk of points, in their order, with one call of the sink.
+    /// Appends the records of a chunk of points, in their order, with one call of the sink, or with none where there are no
+    /// points: an empty piece would have the sink write what it holds back.
     ///
     /// It is `Refused` exactly where a point has no record, with the first such point, and changes nothing then. It is
     /// `Failed` only where the sink failed. A prefix of the records was appended then.
     pub fn put_all(&mut self, points: &[Point]) -> Result<(), ChunkErr>
         requires { length points.now ≤ MOST_POINTS }
+        ensures idle { points.now ≡ [] → self.new ≡ self.old }
         ensures ok { OnOk result (Appends (K.bytes self.old.sink) (records self.old.form points.now)
             (K.bytes self.new.sink)) }
         ensures held { OnOk result (refusal self.old.form points.now ≡ None) }
@@ -174,6 +176,9 @@ impl<K: FileSink> LasWriter<K> {
             → Rose (K.faults self.old.sink) (K.faults self.new.sink)) }
         ensures later { K.faults self.old.sink ≤ K.faults self.new.sink }
     {
+        if points.is_empty() {
+            return Ok(());
+        }
         let mut totals = self.totals;
         let size = match put_records(points, &self.form, &mut self.buffer, &mut totals) {
             Ok(size) => size,
