@@ -4,8 +4,14 @@ use Rattle.cloud_points.specs.declared.point.Point.{Point}
 use Rattle.cloud_points.specs.declared.faults.PointFault.{PointFault}
 use Rattle.cloud_points.specs.Flows.{Flow, points, map_views, upto}
 use Rattle.stage_options.specs.declared.options.Options.{Options}
-use Rattle.stage_options.specs.declared.options.Options.TheVariants.{ReadersLas, FiltersHead, FiltersMerge, WritersText}
+use Rattle.stage_options.specs.declared.options.Options.TheVariants.{ReadersLas, FiltersHead, FiltersMerge, WritersLas, WritersText}
+use Rattle.forward_rules.specs.Forwarded.{ReadFile, form_of}
+use Rattle.forward_rules.specs.declared.form.LasForm.{LasForm}
+use Rattle.las_writer.specs.LasOutput.{las_output}
+use Rattle.las_writer.specs.Stops.{stop_of}
+use Rattle.text_writer.specs.declared.form.TextForm.{TextForm}
 use Rattle.text_writer.specs.TextOutput.{text_output}
+use Rattle.answer_model.specs.Forms.{text_form}
 
 -- a type of stage
 pub record Row : Type 0 where
@@ -33,16 +39,20 @@ merged flow = if flow.cut then record { views = []; open_view = points flow; cut
 abbrev pub one_view : Row
 one_view = record { stop = λ flow. None; made = merged; bytes = λ points. [] }
 
--- a writer that writes all points that it takes, and gives them on
-abbrev pub writer : (List Point → List ℕ) → Row
-writer bytes = record { stop = λ flow. None; made = λ flow. flow; bytes = bytes }
+-- a writer gives on the points that it takes: one of text all of them, one of LAS those before the first without a record
+abbrev pub text_writer : TextForm → Row
+text_writer form = record { stop = λ flow. None; made = λ flow. flow; bytes = text_output form }
 
--- the rows
-abbrev pub row_of : Options → Row
-row_of (ReadersLas o) = reader
-row_of (FiltersHead o) = each_view (take o.count)
-row_of (FiltersMerge o) = one_view
-row_of (WritersText o) = writer text_output
+abbrev pub las_writer : LasForm → Row
+las_writer form = record { stop = λ flow. stop_of form (points flow); made = λ flow. flow; bytes = las_output form }
+
+-- the rows, by the options of a stage and the files that are read below it
+abbrev pub row_of : Options → List ReadFile → Row
+row_of (ReadersLas o) reads = reader
+row_of (FiltersHead o) reads = each_view (take o.count)
+row_of (FiltersMerge o) reads = one_view
+row_of (WritersLas o) reads = las_writer (form_of o.fields reads)
+row_of (WritersText o) reads = text_writer (text_form o)
 
 -- what stands before the point at which a stage stops
 abbrev pub before_stop : Option (ℕ × PointFault) → Flow Point → Flow Point

@@ -1,53 +1,91 @@
 -- What each stage of a tree gives on, and its fault, on whole flows.
-use Rattle.std.specs.Prelude.{◌≡◌, ℕ, ◌+◌, ◌<◌, true, cond, List, [], ◌∷◌, map, flat_map, length, slice_index_or, Option, Some, None, option_map, Result, Ok, Err}
+use Rattle.std.specs.Prelude.{◌≡◌, ℕ, ◌+◌, ◌<◌, Bool, true, false, cond, List, [], ◌∷◌, map, flat_map, length, slice_index_or, Option, Some, None, option_map, Result, Ok, Err}
 use Rattle.std.proofs.Common.{zero, suc}
-use Rattle.std.specs.List.{range_with_len}
+use Rattle.std.specs.List.{range_with_len, list_any}
+use Rattle.cloud_points.specs.declared.dims.Dim.{Dim}
 use Rattle.cloud_points.specs.declared.point.Point.{Point}
 use Rattle.cloud_points.specs.declared.faults.PointFault.{PointFault}
 use Rattle.cloud_points.specs.Flows.{Flow, points, empty_flow, join_all}
 use Rattle.cloud_points.specs.Queue.{up_to_limit}
+use Rattle.point_formats.specs.Layouts.{dims_of, is_among}
 use Rattle.las_reader.specs.Files.{Las}
 use Rattle.las_reader.specs.Flows.{las_flow, las_fault}
+use Rattle.forward_rules.specs.Forwarded.{ReadFile}
+use Rattle.stage_names.specs.declared.faults.PipeFault.{PipeFault}
 use Rattle.stage_names.specs.declared.kinds.KindName.TheVariants as kind
 use Rattle.pipeline_json.specs.Lists.{has}
+use Rattle.stage_options.specs.Binding.{binding_fault}
 use Rattle.stage_options.specs.Roles.{Role, Writes, role_of, is_reading, target_of}
 use Rattle.stage_options.specs.declared.options.Options.{Options}
 use Rattle.stage_options.specs.declared.options.Options.TheVariants.{ReadersLas}
 use Rattle.stage_options.specs.declared.stage.StageSpec.{StageSpec}
 use Rattle.run_report.specs.declared.report.StageCount.{StageCount}
+use Rattle.answer_model.specs.Forms.{extra_names}
 use Rattle.answer_model.specs.Rows.{Row, row_of, value_on, fault_on}
 
--- what the readers' files hold, by the reader's number
+-- a file that is read: what a writer may take over, and its points
+pub record LasFile : Type 0 where
+  pub read : ReadFile
+  pub las : Las
+
+-- the readers' files, by the reader's number
 abbrev pub Opened : Type 0
-Opened = ℕ → Las
+Opened = ℕ → LasFile
 
 -- stage k; at a number that no stage has stands a reader
 abbrev pub stage_at : List StageSpec → ℕ → StageSpec
 stage_at stages k = slice_index_or stages k (record { kind = kind.ReadersLas; ins = []; options = ReadersLas (record { filename = [] }) })
 
--- its options, what it does with files, and its row
+-- its options, and what it does with files
 abbrev pub options_at : List StageSpec → ℕ → Options
 options_at stages k = (stage_at stages k).options
 
 abbrev pub role_at : List StageSpec → ℕ → Role
 role_at stages k = role_of (options_at stages k)
 
-abbrev pub row_at : List StageSpec → ℕ → Row
-row_at stages k = row_of (options_at stages k)
+-- ---- what stands below a stage
+
+-- what a stage has by what those have that it takes; the number is above that of the stage
+abbrev pub fold_below : {A : Type 0} → A → (ℕ → List A → A) → List StageSpec → ℕ → ℕ → A
+fold_below none f stages zero k = none
+fold_below none f stages (suc d) k = f k (map (fold_below none f stages d) ((stage_at stages k).ins))
+
+abbrev pub fold_at : {A : Type 0} → A → (ℕ → List A → A) → List StageSpec → ℕ → A
+fold_at none f stages k = fold_below none f stages (k + 1) k
+
+-- the files of the readers from which the points of stage k come: a reader's own, another stage's those of its inputs
+abbrev pub reads_with : List StageSpec → Opened → ℕ → List (List ReadFile) → List ReadFile
+reads_with stages opened k lists = cond (is_reading (role_at stages k)) ((opened k).read ∷ []) (flat_map (λ list. list) lists)
+
+abbrev pub reads_at : List StageSpec → Opened → ℕ → List ReadFile
+reads_at stages opened k = fold_at [] (reads_with stages opened) stages k
+
+-- the dimensions of the points of stage k: a reader's those of its file's format, another stage's those of any input
+abbrev pub dims_with : List StageSpec → Opened → ℕ → List (Dim → Bool) → Dim → Bool
+dims_with stages opened k sets dim = cond (is_reading (role_at stages k)) (is_among dim (dims_of (opened k).read.values.format)) (list_any (λ set. set dim) sets)
+
+abbrev pub dims_at : List StageSpec → Opened → ℕ → Dim → Bool
+dims_at stages opened k = fold_at (λ dim. false) (dims_with stages opened) stages k
+
+-- the fault of stage k's options, beside the points that it takes
+abbrev pub unbound_at : List StageSpec → Opened → ℕ → Option PipeFault
+unbound_at stages opened k = binding_fault k extra_names (dims_at stages opened k) (options_at stages k)
+
+-- ---- values
+
+abbrev pub row_at : List StageSpec → Opened → ℕ → Row
+row_at stages opened k = row_of (options_at stages k) (reads_at stages opened k)
 
 -- what a stage gives on: a reader the flow of its file, another one its value on the flow that it takes
-abbrev pub value_of : Options → Las → Flow Point → Flow Point
-value_of o las flow = cond (is_reading (role_of o)) (las_flow las) (value_on (row_of o) flow)
+abbrev pub value_of : Role → Row → Las → Flow Point → Flow Point
+value_of role row las flow = cond (is_reading role) (las_flow las) (value_on row flow)
 
--- what stage k gives on, by the values of the stages below it; the first number is above k
-abbrev pub value_below : List StageSpec → Opened → ℕ → ℕ → Flow Point
-value_below stages opened zero k = empty_flow
-value_below stages opened (suc d) k =
-    value_of (options_at stages k) (opened k) (join_all (map (value_below stages opened d) ((stage_at stages k).ins)))
+abbrev pub value_with : List StageSpec → Opened → ℕ → List (Flow Point) → Flow Point
+value_with stages opened k flows = value_of (role_at stages k) (row_at stages opened k) (opened k).las (join_all flows)
 
 -- what stage k gives on
 abbrev pub stage_value : List StageSpec → Opened → ℕ → Flow Point
-stage_value stages opened k = value_below stages opened (k + 1) k
+stage_value stages opened k = fold_at empty_flow (value_with stages opened) stages k
 
 -- what it takes: the values of its inputs, joined in their order
 abbrev pub stage_input : List StageSpec → Opened → ℕ → Flow Point
@@ -56,7 +94,7 @@ stage_input stages opened k = join_all (map (stage_value stages opened) ((stage_
 -- the fault of a stage: of a reader that of its file, of another one that on the flow that it takes
 abbrev pub stage_fault : List StageSpec → Opened → ℕ → Option PointFault
 stage_fault stages opened k =
-    cond (is_reading (role_at stages k)) (las_fault (opened k)) (fault_on (row_at stages k) (stage_input stages opened k))
+    cond (is_reading (role_at stages k)) (las_fault (opened k).las) (fault_on (row_at stages opened k) (stage_input stages opened k))
 
 -- the least of so many numbers from k on at which there is one
 abbrev pub or_later : {A : Type 0} → ℕ → Option A → Option (ℕ × A) → Option (ℕ × A)
@@ -83,7 +121,7 @@ written k (Writes name) bytes = record { stage = k; name = name; bytes = bytes }
 written k _ bytes = []
 
 abbrev pub output_at : List StageSpec → Opened → ℕ → List Output
-output_at stages opened k = written k (role_at stages k) ((row_at stages k).bytes (points (stage_input stages opened k)))
+output_at stages opened k = written k (role_at stages k) ((row_at stages opened k).bytes (points (stage_input stages opened k)))
 
 -- how many views and points a stage gave on, and how many points it wrote
 abbrev pub count_at : List StageSpec → Opened → ℕ → StageCount

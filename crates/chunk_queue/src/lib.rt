@@ -5,4 +5,4 @@ mod plain;
 mod tag;
 
 pub use plain::PlainQueue;
-pub use tag::{Kind, Tag};
+pub use tag::{ItemKind, Tag};

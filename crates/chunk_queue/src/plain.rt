@@ -4,9 +4,9 @@ ghost use Rattle.std.specs.Prelude.{◌≡◌, ◌<◌, ◌≤◌, ◌+◌, [], 
 ghost use Rattle.std.specs.Bool.{OnTrue, OnFalse};
 ghost use Rattle.circular_buffer.specs.Buffer.{buffer};
 ghost use Rattle.chunk_queue.specs.Rule.{StandsBetween, KeepsRuleOnPush, KeepsRuleOnPop};
-ghost use Rattle.chunk_queue.specs.Slots.{next_slot, slot_after, filled, tag_item, kind_body, brings_points, IsPopped};
+ghost use Rattle.chunk_queue.specs.Slots.{filled, tag_item, kind_body, brings_points, IsPopped};
 
-use crate::tag::{Kind, Tag};
+use crate::tag::{Entry, ItemKind, Tag};
 use circular_buffer::HeapCircularBuffer;
 use cloud_points::{Body, Chunk, Item, Point, Spread, put_points};
 use std::alloc::{AllocError, Global};
@@ -20,15 +20,15 @@ use std::marker::Model;
 /// with the next number and before any End, and of each item that comes out.
 ///
 /// The points of an item lie in a slot of their own, so that they are copied once into the queue and once out of it,
-/// and no call but `new` takes memory.
+/// and no call but `new` takes memory. The slot that came free last is taken first, so that those in use stay in the cache.
 #[derive(Drop)]
 pub struct PlainQueue {
-    tags: HeapCircularBuffer<Tag>,
-    slots: Vec<Spread>,
-    first: usize,
+    entries: HeapCircularBuffer<Entry>,
+    free: Vec<Box<Spread>>,
 }
 
 impl Model for PlainQueue {
+    ghost use Rattle.std.specs.Prelude.{length, vec_capacity};
     ghost use Rattle.circular_buffer.specs.Buffer.{Buffer, buffer};
     ghost use Rattle.cloud_points.specs.declared.item.Item.{Item};
 
@@ -36,9 +36,9 @@ impl Model for PlainQueue {
 
     ghost use Rattle.chunk_queue.specs.Slots.{held_items, IsSlotted};
 
-    ghost view = { λ q. buffer (held_items q.tags.capacity q.slots.items q.first q.tags.items) q.tags.capacity };
+    ghost view = { λ q. buffer (held_items q.entries.items) q.entries.capacity };
 
-    ghost invariant = { λ q. IsSlotted q.tags.capacity q.slots.items q.first q.tags.items };
+    ghost invariant = { λ q. IsSlotted q.entries (length q.free.items) (vec_capacity q.free) };
 }
 
 impl PlainQueue {
@@ -49,16 +49,12 @@ impl PlainQueue {
         ensures empty { IfOk result (λ q. q ≡ buffer [] capacity) }
         ensures rule { IfOk result (λ q. StandsBetween [] [] q) }
     {
-        let tags = HeapCircularBuffer::with_capacity(alloc, capacity)?;
-        let mut slots = Vec::with_capacity(alloc, capacity)?;
+        let entries = HeapCircularBuffer::with_capacity(alloc, capacity)?;
+        let mut free = Vec::with_capacity(alloc, capacity)?;
         for _ in 0..capacity {
-            slots.push(Spread::new())?;
+            free.push(Box::new(alloc, Spread::new())?)?;
         }
-        Ok(PlainQueue {
-            tags,
-            slots,
-            first: 0,
-        })
+        Ok(PlainQueue { entries, free })
     }
 
     /// The first item, which leaves the queue; None exactly where the queue is empty.
@@ -94,14 +90,14 @@ impl PlainQueue {
     pub fn has_room(&self) -> bool
         ensures { result ≡ nat_lt (length self.now.items) self.now.capacity }
     {
-        self.tags.len() < self.tags.capacity()
+        self.entries.len() < self.entries.capacity()
     }
 
     /// Whether it holds no item.
     pub fn is_empty(&self) -> bool
         ensures { result ≡ (length self.now.items == 0) }
     {
-        self.tags.is_empty()
+        self.entries.is_empty()
     }
 
     /// Appends the item that a tag and points make, or changes nothing exactly where the queue is full. The points count
@@ -128,10 +124,9 @@ impl PlainQueue {
         ensures items { self.new ≡ buffer (drop 1 self.old.items) self.old.capacity }
         ensures rule { IfSome result (λ tag. KeepsRuleOnPop self.old (tag_item tag points.new.items) self.new) }
     {
-        let tag = self.tags.pop_front()?;
-        let slot = &self.slots[self.first];
-        take_slot(points, tag.kind, slot);
-        self.first = following(self.first, self.tags.capacity());
+        let Entry { tag, slot } = self.entries.pop_front()?;
+        take_slot(points, tag.kind, &slot);
+        let _ = self.free.push(slot);
         Some(tag)
     }
 
@@ -141,80 +136,62 @@ impl PlainQueue {
         ensures { self.new ≡ buffer (self.old.items ++ record { no = no; body = body.now } ∷ []) self.old.capacity }
     {
         match body {
-            Body::Points(chunk) => self.put(no, Kind::Points, chunk.points()),
-            Body::EndView => self.put(no, Kind::EndView, &[]),
-            Body::End(cut) => self.put(no, Kind::End(*cut), &[]),
+            Body::Points(chunk) => self.put(no, ItemKind::Points, chunk.points()),
+            Body::EndView => self.put(no, ItemKind::EndView, &[]),
+            Body::End(cut) => self.put(no, ItemKind::End(*cut), &[]),
         }
     }
 
     /// Appends an item where there is room.
-    fn put(&mut self, no: u64, kind: Kind, points: &[Point])
+    fn put(&mut self, no: u64, kind: ItemKind, points: &[Point])
         requires room { length self.old.items < self.old.capacity }
         requires some { brings_points kind ≡ true → 0 < length points.now }
         requires most { length points.now ≤ 64 }
         ensures { self.new ≡ buffer (self.old.items ++ tag_item (record { no = no; kind = kind }) points.now ∷ []) self.old.capacity }
     {
-        let at = place_after(self.first, self.tags.len(), self.tags.capacity());
-        fill_slot(&mut self.slots[at], kind, points);
-        let _ = self.tags.try_push_back(Tag { no, kind });
+        let Some(mut slot) = self.free.pop() else {
+            unreachable!()
+        };
+        fill_slot(&mut slot, kind, points);
+        let tag = Tag { no, kind };
+        let _ = self.entries.try_push_back(Entry { tag, slot });
     }
 }
 
 /// What an item brings, with its points.
-fn body_of(kind: Kind, points: &Spread) -> Body
+fn body_of(kind: ItemKind, points: &Spread) -> Body
     requires { brings_points kind ≡ true → 0 < length points.now.items }
     ensures { result ≡ kind_body kind points.now.items }
 {
     match kind {
-        Kind::Points => match Chunk::of(points) {
+        ItemKind::Points => match Chunk::of(points) {
             Some(chunk) => Body::Points(chunk),
             None => unreachable!(),
         },
-        Kind::EndView => Body::EndView,
-        Kind::End(cut) => Body::End(cut),
+        ItemKind::EndView => Body::EndView,
+        ItemKind::End(cut) => Body::End(cut),
     }
 }
 
 /// Puts the points of an item into its slot.
-fn fill_slot(slot: &mut Spread, kind: Kind, points: &[Point])
+fn fill_slot(slot: &mut Spread, kind: ItemKind, points: &[Point])
     requires { length points.now ≤ 64 }
     ensures { slot.new.items ≡ filled kind slot.old.items points.now }
 {
     match kind {
-        Kind::Points => put_points(slot, points),
-        Kind::EndView => {}
-        Kind::End(_) => {}
+        ItemKind::Points => put_points(slot, points),
+        ItemKind::EndView => {}
+        ItemKind::End(_) => {}
     }
 }
 
 /// Takes the points of an item out of its slot.
-fn take_slot(into: &mut Spread, kind: Kind, slot: &Spread)
+fn take_slot(into: &mut Spread, kind: ItemKind, slot: &Spread)
     ensures { into.new.items ≡ filled kind into.old.items slot.now.items }
 {
     match kind {
-        Kind::Points => put_points(into, slot.as_slice()),
-        Kind::EndView => {}
-        Kind::End(_) => {}
+        ItemKind::Points => put_points(into, slot.as_slice()),
+        ItemKind::EndView => {}
+        ItemKind::End(_) => {}
     }
-}
-
-/// The slot that follows this one round the queue.
-fn following(slot: usize, capacity: usize) -> usize
-    requires { slot < capacity }
-    ensures slot { result ≡ next_slot capacity slot }
-    ensures within { result < capacity }
-{
-    if slot + 1 == capacity { 0 } else { slot + 1 }
-}
-
-/// The slot so many places on round the queue.
-fn place_after(first: usize, count: usize, capacity: usize) -> usize
-    requires first { first < capacity }
-    requires count { count < capacity }
-    requires small { capacity < 2 ^ 63 }
-    ensures slot { result ≡ slot_after capacity first count }
-    ensures within { result < capacity }
-{
-    let at = first + count;
-    if at < capacity { at } else { at - capacity }
 }

@@ -1,8 +1,10 @@
 //! An item apart from its points.
 
+use cloud_points::Spread;
+
 /// What an item brings, apart from its points.
 #[derive(Clone, Copy, Debug, PartialEq, Eq)]
-pub enum Kind {
+pub enum ItemKind {
     Points,
     EndView,
     End(bool),
@@ -12,5 +14,12 @@ pub enum Kind {
 #[derive(Clone, Copy, Debug, PartialEq, Eq)]
 pub struct Tag {
     pub no: u64,
-    pub kind: Kind,
+    pub kind: ItemKind,
+}
+
+/// An item in a queue: its tag, and the slot in which its points lie.
+#[derive(Drop)]
+pub(crate) struct Entry {
+    pub(crate) tag: Tag,
+    pub(crate) slot: Box<Spread>,
 }

@@ -2,6 +2,9 @@
 use Rattle.std.proofs.Common.{◌≡◌, ℕ, ◌+◌, ◌-◌, ◌*◌, ◌/◌, ◌<◌, ◌≤◌, eqb, List, length, Some, None, inl, inr, ap, sym, ◌∙◌, arith}
 use Rattle.std.proofs.Math.Nat.{mul-add-div, mul-div-le, mul-le-mul_left}
 use Rattle.std.proofs.lemmas.Bool.{cases_lt, cases_eq, cond-true, cond-false, eq-eqb, ne_eqb}
+use Rattle.std.specs.Prelude.{Option}
+use Rattle.cloud_points.specs.declared.faults.PointFault.{PointFault}
+use Rattle.cloud_points.specs.declared.faults.PointFault.TheVariants.{Cut}
 use Rattle.las_header.specs.declared.block.Header.{Header}
 use Rattle.las_header.specs.Counts.{points_in}
 use Rattle.las_reader.specs.Files.{records_in, whole_records, cut_of}
@@ -29,30 +32,30 @@ module _ (header : Header) (file : List ℕ) (some : 0 < header.record_length) w
       let l : header.record_length * 1 ≤ header.record_length * (k + 1) = (let one : 1 ≤ k + 1 = omega arith in mul-le-mul_left header.record_length one) in omega arith
 
   -- by the count of the whole records
-  cut_at : (k : ℕ) → cut_of (points_in header) (whole_records header file) ≡ Some k → (whole_records header file ≡ k) × (k < points_in header)
+  cut_at : (k : ℕ) → cut_of (points_in header) (whole_records header file) ≡ Some (Cut k) → (whole_records header file ≡ k) × (k < points_in header)
   cut_at k e = elim (cases_eq (whole_records header file) (points_in header)) [
-    | inl all ↦ absurd (none_some (sym (cond-true (eqb (whole_records header file) (points_in header)) None (Some (whole_records header file)) (eq-eqb (whole_records header file) (points_in header) all)) ∙ e))
+    | inl all ↦ absurd (none_some (sym (cond-true (eqb (whole_records header file) (points_in header)) None (Some (Cut (whole_records header file))) (eq-eqb (whole_records header file) (points_in header) all)) ∙ e))
     | inr other ↦
-        let f : Some (whole_records header file) ≡ Some k = sym (cond-false (eqb (whole_records header file) (points_in header)) None (Some (whole_records header file)) (ne_eqb (whole_records header file) (points_in header) other)) ∙ e in
+        let f : Some (Cut (whole_records header file)) ≡ Some (Cut k) = sym (cond-false (eqb (whole_records header file) (points_in header)) None (Some (Cut (whole_records header file))) (ne_eqb (whole_records header file) (points_in header) other)) ∙ e in
         let is : whole_records header file ≡ k = same f in (is, omega arith)
   ]
     where
-      none_some : None ≡ Some k → ⊥
+      none_some : ◌≡◌ {A = Option PointFault} None (Some (Cut k)) → ⊥
       none_some f = cc
 
-      same : {n : ℕ} → Some n ≡ Some k → n ≡ k
+      same : {n : ℕ} → Some (Cut n) ≡ Some (Cut k) → n ≡ k
       same f = cc
 
   not_cut : cut_of (points_in header) (whole_records header file) ≡ None → whole_records header file ≡ points_in header
   not_cut e = elim (cases_eq (whole_records header file) (points_in header)) [
     | inl all ↦ all
-    | inr other ↦ absurd (some_none (sym (cond-false (eqb (whole_records header file) (points_in header)) None (Some (whole_records header file)) (ne_eqb (whole_records header file) (points_in header) other)) ∙ e))
+    | inr other ↦ absurd (some_none (sym (cond-false (eqb (whole_records header file) (points_in header)) None (Some (Cut (whole_records header file))) (ne_eqb (whole_records header file) (points_in header) other)) ∙ e))
   ]
     where
-      some_none : {n : ℕ} → Some n ≡ None → ⊥
+      some_none : {n : ℕ} → Some (Cut n) ≡ None → ⊥
       some_none f = cc
 
-  first_is_cut : (k : ℕ) → IsFirstCut header file k → cut_of (points_in header) (whole_records header file) ≡ Some k
+  first_is_cut : (k : ℕ) → IsFirstCut header file k → cut_of (points_in header) (whole_records header file) ≡ Some (Cut k)
   first_is_cut k first =
       let counted = first.counted in
       let few : records_in header file ≤ k = elim (cases_lt k (records_in header file)) [
@@ -64,7 +67,7 @@ module _ (header : Header) (file : List ℕ) (some : 0 < header.record_length) w
         | inr l ↦ l
       ] in
       let is : whole_records header file ≡ k = omega arith in
-      cond-false (eqb (whole_records header file) (points_in header)) None (Some (whole_records header file)) (ne_eqb (whole_records header file) (points_in header) (λ e. omega arith)) ∙ ap Some is
+      cond-false (eqb (whole_records header file) (points_in header)) None (Some (Cut (whole_records header file))) (ne_eqb (whole_records header file) (points_in header) (λ e. omega arith)) ∙ ap (λ n. Some (Cut n)) is
 
   all_are_not_cut : AreAllWithin header file → cut_of (points_in header) (whole_records header file) ≡ None
   all_are_not_cut all =
@@ -73,7 +76,7 @@ module _ (header : Header) (file : List ℕ) (some : 0 < header.record_length) w
         | inr l ↦ l
       ] in
       let is : whole_records header file ≡ points_in header = omega arith in
-      cond-true (eqb (whole_records header file) (points_in header)) None (Some (whole_records header file)) (eq-eqb (whole_records header file) (points_in header) is)
+      cond-true (eqb (whole_records header file) (points_in header)) None (Some (Cut (whole_records header file))) (eq-eqb (whole_records header file) (points_in header) is)
 
 pub cut_is_the_first : CutIsTheFirst
 cut_is_the_first header file some = (

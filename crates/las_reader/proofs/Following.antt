@@ -9,11 +9,13 @@ use Rattle.cloud_points.specs.declared.point.Point.{Point}
 use Rattle.cloud_points.specs.declared.faults.Make.{Make}
 use Rattle.cloud_points.specs.declared.faults.Make.TheVariants.{Points, EndView}
 use Rattle.las_header.specs.Counts.{points_in}
+use Rattle.cloud_points.specs.declared.faults.PointFault.TheVariants.{Cut}
 use Rattle.las_reader.specs.declared.reader.Progress.{Progress}
 use Rattle.las_reader.specs.declared.reader.Progress.TheVariants.{Records, ViewEnded}
 use Rattle.las_reader.specs.Files.{las_with, whole_records, cut_of}
 use Rattle.las_reader.specs.Following.{IsChunk, AreSteps, IsEnd, EndAtLast, ComeToTheEnd, GivesPoints, points_given, ending, StepsGiveFile, StepsComeToTheEnd}
 use Rattle.las_reader.specs.Reading.{Step, IsStep, step_of, gives, ends, view_ends}
+use Rattle.las_reader.specs.Records.{point_of}
 use Rattle.las_reader.proofs.Pieces.{length-points_from}
 
 same_step : (step s : Step) → IsStep step s.made s.points s.progress → s ≡ step
@@ -33,7 +35,7 @@ module _ (count : ℕ) (points : List Point) (given chunk : ℕ) where
   more_step : given < length points → step_of count points (Records given) chunk ≡ gives given (take chunk (drop given points))
   more_step l = cond-true (ltb given (length points)) _ _ (lt-ltb given (length points) l)
 
-  cut_step : length points ≤ given → given < count → step_of count points (Records given) chunk ≡ ends true (Some given)
+  cut_step : length points ≤ given → given < count → step_of count points (Records given) chunk ≡ ends true (Some (Cut given))
   cut_step l k = cond-false (ltb given (length points)) _ _ (le-ltb given (length points) l) ∙ cond-true (ltb given count) _ _ (lt-ltb given count k)
 
   view_step : length points ≤ given → count ≤ given → step_of count points (Records given) chunk ≡ view_ends
@@ -92,11 +94,11 @@ record FromPlace (count : ℕ) (points : List Point) (given : ℕ) (steps : List
   give : All GivesPoints giving
   points_are : points_given giving ≡ drop given points
 
-cut_behind : (count given n : ℕ) → n ≡ given → given < count → cut_of count n ≡ Some given
-cut_behind count given n is k = cond-false (eqb n count) None (Some n) (ne_eqb n count (λ e. omega arith)) ∙ ap Some is
+cut_behind : (count given n : ℕ) → n ≡ given → given < count → cut_of count n ≡ Some (Cut given)
+cut_behind count given n is k = cond-false (eqb n count) None (Some (Cut n)) (ne_eqb n count (λ e. omega arith)) ∙ ap (λ k. Some (Cut k)) is
 
 whole_behind : (count given n : ℕ) → n ≤ count → n ≡ given → count ≤ given → cut_of count n ≡ None
-whole_behind count given n few is k = cond-true (eqb n count) None (Some n) (eq-eqb n count (omega arith))
+whole_behind count given n few is k = cond-true (eqb n count) None (Some (Cut n)) (eq-eqb n count (omega arith))
 
 after_view : (count : ℕ) (points : List Point) (chunks : List ℕ) (steps : List Step) → AreSteps count points ViewEnded chunks steps → EndAtLast steps → steps ≡ ends false None ∷ []
 after_view count points [] [] a e = absurd e
@@ -125,7 +127,7 @@ follow count points (c ∷ cs) (s ∷ ss) given few within all a e = elim (cases
       }
   | inr l ↦ elim (cases_lt given count) [
     | inl k ↦
-        let is : s ≡ ends true (Some given) = same_step (ends true (Some given)) s (subst (λ z. IsStep z s.made s.points s.progress) (cut_step count points given c l k) a.0) in
+        let is : s ≡ ends true (Some (Cut given)) = same_step (ends true (Some (Cut given))) s (subst (λ z. IsStep z s.made s.points s.progress) (cut_step count points given c l k) a.0) in
         let here : IsEnd s.made = subst (λ (z : Step). IsEnd z.made) (sym is) tt in
         let cut = cut_behind count given (length points) (omega arith) k in
         record {
@@ -163,7 +165,7 @@ ended count points (c ∷ cs) (s ∷ ss) given within all a many = elim (cases_l
       inr (ended count points cs ss (given + size count points given c) g.within (All-tail IsChunk c cs all) next (omega arith))
   | inr l ↦ elim (cases_lt given count) [
     | inl k ↦
-        let is : s ≡ ends true (Some given) = same_step (ends true (Some given)) s (subst (λ z. IsStep z s.made s.points s.progress) (cut_step count points given c l k) a.0) in
+        let is : s ≡ ends true (Some (Cut given)) = same_step (ends true (Some (Cut given))) s (subst (λ z. IsStep z s.made s.points s.progress) (cut_step count points given c l k) a.0) in
         inl (subst (λ (z : Step). IsEnd z.made) (sym is) tt)
     | inr k ↦
         let p = subst (λ z. IsStep z s.made s.points s.progress) (view_step count points given c l k) a.0 in
@@ -179,7 +181,7 @@ ended count points (c ∷ cs) (s ∷ ss) given within all a many = elim (cases_l
 
 pub steps_give_file : StepsGiveFile
 steps_give_file header file chunks steps all a e =
-    let long = length-points_from header 0 (whole_records header file) (drop header.points_at file) in
+    let long = length-points_from (point_of header) header.record_length 0 (whole_records header file) (drop header.points_at file) in
     let f = follow (points_in header) (las_with header file).points chunks steps 0 (omega arith) (omega arith) all a e in
     record {
       giving = f.giving;

@@ -1,5 +1,6 @@
 -- The record with whose number a file is cut.
 use Rattle.std.specs.Prelude.{◌≡◌, ◌↔◌, ℕ, ◌+◌, ◌*◌, ◌<◌, ◌≤◌, List, length, Some, None}
+use Rattle.cloud_points.specs.declared.faults.PointFault.TheVariants.{Cut}
 use Rattle.las_header.specs.declared.block.Header.{Header}
 use Rattle.las_header.specs.Counts.{points_in}
 use Rattle.las_reader.specs.Files.{las_with}
@@ -21,5 +22,5 @@ AreAllWithin header file = (k : ℕ) → k < points_in header → EndsWithin hea
 -- a file is cut exactly with the number of that record, and it isn't exactly where there is none
 abbrev pub CutIsTheFirst : Type 0
 CutIsTheFirst = (header : Header) (file : List ℕ) → 0 < header.record_length
-    → ((k : ℕ) → ((las_with header file).cut ≡ Some k) ↔ IsFirstCut header file k)
-    × (((las_with header file).cut ≡ None) ↔ AreAllWithin header file)
+    → ((k : ℕ) → ((las_with header file).fault ≡ Some (Cut k)) ↔ IsFirstCut header file k)
+    × (((las_with header file).fault ≡ None) ↔ AreAllWithin header file)

@@ -2,6 +2,7 @@
 use Rattle.std.specs.Prelude.{◌≡◌, ◌⊎◌, ℕ, ◌+◌, ◌<◌, ◌≤◌, List, [], ◌∷◌, ◌++◌, length, Option, Some, None, true, false, ⊤}
 use Rattle.std.specs.List.{All, flat_map}
 use Rattle.cloud_points.specs.declared.point.Point.{Point}
+use Rattle.cloud_points.specs.declared.faults.PointFault.{PointFault}
 use Rattle.cloud_points.specs.declared.faults.Make.{Make}
 use Rattle.cloud_points.specs.declared.faults.Make.TheVariants.{Points, End}
 use Rattle.las_header.specs.declared.block.Header.{Header}
@@ -48,14 +49,14 @@ abbrev pub points_given : List Step → List Point
 points_given steps = flat_map (λ step. step.points) steps
 
 -- what comes behind the points: the end of the view and the end of all, or the end that is cut short
-abbrev pub ending : Option ℕ → List Step
+abbrev pub ending : Option PointFault → List Step
 ending None = view_ends ∷ ends false None ∷ []
-ending (Some k) = ends true (Some k) ∷ []
+ending (Some fault) = ends true (Some fault) ∷ []
 
 -- steps that give the points of a file, and then its end
 pub record GiveFile (las : Las) (steps : List Step) : Type 0 where
   pub giving : List Step
-  pub steps_are : steps ≡ giving ++ ending las.cut
+  pub steps_are : steps ≡ giving ++ ending las.fault
   pub give : All GivesPoints giving
   pub points_are : points_given giving ≡ las.points
 

@@ -3,7 +3,7 @@ use Rattle.std.specs.Prelude.{◌≡◌, ℕ, ◌+◌, ◌-◌, ◌*◌, min, Li
 use Rattle.cloud_points.specs.declared.point.Point.{Point}
 use Rattle.las_header.specs.declared.block.Header.{Header}
 use Rattle.las_reader.specs.Files.{records_in}
-use Rattle.las_reader.specs.Records.{points_from}
+use Rattle.las_reader.specs.Records.{point_of, points_from}
 
 -- how many of `most` records from number `given` on are wholly in the file
 abbrev pub whole_from : Header → List ℕ → ℕ → ℕ → ℕ
@@ -16,4 +16,4 @@ pub record HasRecords (header : Header) (file : List ℕ) (given most n : ℕ) (
 
 -- these are the points of the records from number `given` on, at most so many
 abbrev pub HasPoints : Header → List ℕ → ℕ → ℕ → List Point → Type 0
-HasPoints header file given most points = points ≡ points_from header given (whole_from header file given most) (drop header.points_at file)
+HasPoints header file given most points = points ≡ points_from (point_of header) header.record_length given (whole_from header file given most) (drop header.points_at file)

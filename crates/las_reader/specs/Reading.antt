@@ -1,10 +1,11 @@
 -- A file that is read piece by piece.
-use Rattle.std.specs.Prelude.{◌≡◌, ◌⊎◌, ℕ, ◌+◌, ◌*◌, ◌<◌, ◌≤◌, min, nat_lt, if◌then◌else◌, Bool, true, false, List, [], length, take, drop, Option, Some, None}
+use Rattle.std.specs.Prelude.{◌≡◌, ◌⊎◌, ℕ, ◌+◌, ◌*◌, ◌<◌, ◌≤◌, min, nat_lt, if◌then◌else◌, Bool, true, false, List, [], length, take, drop, Option, Some, None, option_map}
 use Rattle.file_devices.specs.declared.devices.Op.TheVariants.{Read}
 use Rattle.cloud_points.specs.declared.point.Point.{Point}
 use Rattle.cloud_points.specs.declared.faults.Make.{Make}
 use Rattle.cloud_points.specs.declared.faults.Make.TheVariants.{Points, EndView, End}
 use Rattle.cloud_points.specs.declared.faults.StageFault.TheVariants as stage
+use Rattle.cloud_points.specs.declared.faults.PointFault.{PointFault}
 use Rattle.cloud_points.specs.declared.faults.PointFault.TheVariants.{Cut}
 use Rattle.las_header.specs.declared.block.Header.{Header}
 use Rattle.las_header.specs.Counts.{points_in}
@@ -17,9 +18,8 @@ pub record Step : Type 0 where
   pub points : List Point
   pub progress : Progress
 
-abbrev pub ends : Bool → Option ℕ → Step
-ends cut None = record { made = End cut None; points = []; progress = Ended cut }
-ends cut (Some k) = record { made = End cut (Some (stage.Point (Cut k))); points = []; progress = Ended cut }
+abbrev pub ends : Bool → Option PointFault → Step
+ends cut fault = record { made = End cut (option_map stage.Point fault); points = []; progress = Ended cut }
 
 abbrev pub view_ends : Step
 view_ends = record { made = EndView; points = []; progress = ViewEnded }
@@ -30,7 +30,7 @@ gives given points = record { made = Points; points = points; progress = Records
 -- the next step, of at most so many points, in a file whose header counts `count` records and of which these points are whole
 abbrev pub step_of : ℕ → List Point → Progress → ℕ → Step
 step_of count points (Records given) chunk = if nat_lt given (length points) then gives given (take chunk (drop given points))
-    else (if nat_lt given count then ends true (Some given) else view_ends)
+    else (if nat_lt given count then ends true (Some (Cut given)) else view_ends)
 step_of count points ViewEnded chunk = ends false None
 step_of count points (Ended cut) chunk = ends cut None
 

@@ -5,7 +5,7 @@ use Rattle.las_header.specs.declared.block.Header.{Header}
 use Rattle.point_formats.specs.Grids.{grid_of}
 use Rattle.point_formats.specs.Records.{decoded}
 
--- the point of a record in a file with this header
+-- the point of a record in a file with this header; bytes behind its fields aren't looked at
 unfoldable pub point_of : Header → List ℕ → Point
 point_of header record_bytes = decoded header.format (grid_of header) record_bytes
 
@@ -13,7 +13,7 @@ point_of header record_bytes = decoded header.format (grid_of header) record_byt
 abbrev pub record_at : ℕ → ℕ → List ℕ → List ℕ
 record_at size k bytes = take size (drop (size * k) bytes)
 
--- the points of so many records from record k on; bytes behind the fields of a record aren't looked at
-unfoldable pub points_from : Header → ℕ → ℕ → List ℕ → List Point
-points_from header k zero bytes = []
-points_from header k (suc left) bytes = point_of header (record_at header.record_length k bytes) ∷ points_from header (k + 1) left bytes
+-- the points of so many records from record k on, where each has so many bytes and is read in this way
+unfoldable pub points_from : (List ℕ → Point) → ℕ → ℕ → ℕ → List ℕ → List Point
+points_from read size k zero bytes = []
+points_from read size k (suc left) bytes = read (record_at size k bytes) ∷ points_from read size (k + 1) left bytes

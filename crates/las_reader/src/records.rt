@@ -92,7 +92,7 @@ fn decode_all(
     requires format { format ≡ header.now.format }
     requires room { at + count ≤ length points.old }
     requires whole { header.now.record_length * count ≤ length records.now }
-    ensures { take (at + count) points.new ≡ take at points.old ++ points_from header.now 0 count records.now }
+    ensures { take (at + count) points.new ≡ take at points.old ++ points_from (point_of header.now) header.now.record_length 0 count records.now }
 {
     let grid = Grid::of(header);
     let size = header.record_length as usize;
@@ -107,7 +107,7 @@ fn decode_over(header: &Header, records: &[u8], count: usize, at: usize, points:
     requires sound { IsSound header.now }
     requires room { at + count ≤ length points.old }
     requires whole { header.now.record_length * count ≤ length records.now }
-    ensures { take (at + count) points.new ≡ take at points.old ++ points_from header.now 0 count records.now }
+    ensures { take (at + count) points.new ≡ take at points.old ++ points_from (point_of header.now) header.now.record_length 0 count records.now }
 {
     match header.format {
         Format::F0 => decode_all(Format::F0, header, records, count, at, points),
@@ -137,7 +137,7 @@ fn decode_from(header: &Header, records: &[u8], count: usize, at: usize, into: &
     requires place { at ≤ array_vec_len into.old }
     requires room { at + count ≤ 64 }
     requires whole { header.now.record_length * count ≤ length records.now }
-    ensures items { take (at + count) into.new.items ≡ take at into.old.items ++ points_from header.now 0 count records.now }
+    ensures items { take (at + count) into.new.items ≡ take at into.old.items ++ points_from (point_of header.now) header.now.record_length 0 count records.now }
     ensures len { at + count ≤ array_vec_len into.new }
 {
     grow(into, at + count);

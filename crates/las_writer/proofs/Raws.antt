@@ -5,6 +5,7 @@ use Rattle.std.specs.Int.{w32, to_le_bytes, cast_signed, cast_unsigned}
 use Rattle.std.proofs.lemmas.Int.{ints, to_z-of_z}
 use Rattle.std.proofs.lemmas.Bool.Decides.{nat_tests}
 use Rattle.byte_numbers.specs.Bytes.{number_at}
+use Rattle.las_header.specs.Steps.{◌>>=◌}
 use Rattle.las_header.specs.declared.form.Format.{Format}
 use Rattle.las_header.specs.declared.form.Format.TheVariants.{F0, F1, F2, F3, F6, F7, F8}
 use Rattle.cloud_points.specs.declared.dims.Dim.{Dim}
@@ -23,9 +24,9 @@ use Rattle.byte_numbers.proofs.Written.{number_read}
 use Rattle.las_writer.specs.Records.{grid_for, raw_number}
 use Rattle.las_writer.specs.Laws.{HasRaws, RawNumbersAreSteps}
 
-chosen : {A : Type 0} (t : Bool) (x y : A) (e : EncodeFault) → (if t then Ok x else Err e) ≡ Ok y → (t ≡ true) × (x ≡ y)
-chosen true x y e h = (refl, cc)
-chosen false x y e h = absurd (cc)
+chosen : (t : Bool) (z : ℤ) (f : ℤ → List ℕ) (bytes : List ℕ) (e : EncodeFault) → ((if t then Ok z else Err e) >>= (λ n. Ok (f n))) ≡ Ok bytes → (t ≡ true) × (f z ≡ bytes)
+chosen true z f bytes e h = (refl, cc)
+chosen false z f bytes e h = absurd (cc)
 
 fits : (z : ℤ) → is_between (neg_ℤ (pos (2 ^ 31))) (pos (2 ^ 31 - 1)) z ≡ true → FitsSigned w32 z
 fits z h = grind (arith, ints, nat_tests)
@@ -44,7 +45,7 @@ coordinate_read : (grid : Grid) (dim : Dim) (axis : ℕ) (nano : ℤ) (at : ℕ)
 unfolding coordinate_bytes
 coordinate_read grid dim axis nano at before bytes rest h is =
     let z = nearest_step nano (scale_on grid axis) (offset_on grid axis) in
-    let t = chosen (is_between (neg_ℤ (pos (2 ^ 31))) (pos (2 ^ 31 - 1)) z) (to_le_bytes w32 (cast_unsigned w32 z)) bytes (NotHeld dim) h in
+    let t = chosen (is_between (neg_ℤ (pos (2 ^ 31))) (pos (2 ^ 31 - 1)) z) z (λ n. to_le_bytes w32 (cast_unsigned w32 n)) bytes (NotHeld dim) h in
     let small = fits z t.0 in
     let there = number_read w32 (cast_unsigned w32 z) at before rest (unsigned_small z small) is in
     record {

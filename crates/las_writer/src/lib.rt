@@ -15,4 +15,4 @@ pub use faults::{BeginErr, ChunkErr, PutFault};
 pub use laws::{forms_are_taken, raw_numbers_are_steps, refusals_are_cut, unfinished_grows};
 pub use records::Refused;
 pub use totals::Totals;
-pub use writer::LasWriter;
+pub use writer::{LasWriter, WriterParts};

@@ -22,10 +22,16 @@ use forward_rules::LasForm;
 use las_header::{BLOCK_SIZE, write_header};
 use point_formats::EncodeFault;
 use std::alloc::Global;
+use std::marker::Model;
 
 /// A writer of points as a LAS file: the header and the VLRs, a record for each point, and the EVLRs. It is ended by
 /// `finish`, and `release` gives the sink back.
 pub struct LasWriter<K: FileSink> {
+    parts: WriterParts<K>,
+}
+
+/// What a writer holds. A clause sees a writer as these parts.
+pub struct WriterParts<K> {
     sink: K,
     form: LasForm,
     start: u32,
@@ -34,7 +40,18 @@ pub struct LasWriter<K: FileSink> {
     ghost decided: { IsForm form },
     ghost behind: { start ≡ points_at form },
     ghost room: { 2432 ≤ vec_len buffer },
-    ghost begun: { 375 ≤ K.appended sink },
+}
+
+impl<K: FileSink> Model for LasWriter<K> {
+    ghost use Rattle.std.specs.Prelude.{◌≤◌};
+    ghost use Rattle.las_writer.specs.declared.writer.WriterParts.{WriterParts as Parts};
+
+    ghost Value = { Parts K };
+
+    ghost view = { λ w. w.parts };
+
+    // The header stands in front.
+    ghost invariant = { λ w. 375 ≤ K.appended w.parts.sink };
 }
 
 /// What is wrong with a chunk of one point.
@@ -139,11 +156,13 @@ impl<K: FileSink> LasWriter<K> {
         let mut sink = sink;
         match put_front(&form, start, &totals, &mut sink) {
             Ok(()) => Ok(LasWriter {
-                sink,
-                form,
-                start,
-                totals,
-                buffer,
+                parts: WriterParts {
+                    sink,
+                    form,
+                    start,
+                    totals,
+                    buffer,
+                },
             }),
             Err(_) => Err((sink, BeginErr::Failed)),
         }
@@ -179,18 +198,12 @@ impl<K: FileSink> LasWriter<K> {
         if points.is_empty() {
             return Ok(());
         }
-        let mut totals = self.totals;
-        let size = match put_records(points, &self.form, &mut self.buffer, &mut totals) {
-            Ok(size) => size,
-            Err(refused) => return Err(ChunkErr::Refused(refused)),
-        };
-        match self.sink.append(&self.buffer[..size]) {
-            Ok(()) => {
-                self.totals = totals;
-                Ok(())
-            }
-            Err(_) => Err(ChunkErr::Failed),
-        }
+        let parts = &mut self.parts;
+        let mut totals = parts.totals;
+        let size = put_records(points, &parts.form, &mut parts.buffer, &mut totals)?;
+        parts.sink.append(&parts.buffer[..size])?;
+        parts.totals = totals;
+        Ok(())
     }
 
     /// Appends the record of a point.
@@ -237,24 +250,26 @@ impl<K: FileSink> LasWriter<K> {
         ensures form { self.new.form ≡ self.old.form }
         ensures cause { HasCause (K.faults self.old.sink) (K.faults self.new.sink) result }
     {
-        known_fields(&self.form);
-        known_u32(self.start);
-        put_evlrs(self.form.evlrs.as_slice(), &mut self.sink)?;
-        patch_header(&self.form, self.start, &self.totals, &mut self.sink)?;
-        self.sink.append(&[])
+        let parts = &mut self.parts;
+        known_fields(&parts.form);
+        known_u32(parts.start);
+        put_evlrs(parts.form.evlrs.as_slice(), &mut parts.sink)?;
+        patch_header(&parts.form, parts.start, &parts.totals, &mut parts.sink)?;
+        parts.sink.append(&[])
     }
 
     /// The sink, with the writer ended.
     pub fn release(self) -> K
         ensures { result ≡ self.sink }
     {
-        let LasWriter {
+        let LasWriter { parts } = self;
+        let WriterParts {
             sink,
             form: _,
             start: _,
             totals: _,
             buffer: _,
-        } = self;
+        } = parts;
         sink
     }
 }

@@ -7,7 +7,7 @@ use Rattle.cloud_points.specs.declared.faults.StageFault.TheVariants as fault
 use Rattle.cloud_points.specs.declared.work.Work.{Ghosts}
 use Rattle.cloud_points.specs.Marks.{Item}
 use Rattle.cloud_points.specs.Events.{is_device, ran_short}
-use Rattle.chunk_queue.specs.declared.tag.Kind.{Kind}
+use Rattle.chunk_queue.specs.declared.tag.ItemKind.{ItemKind}
 use Rattle.network_theory.specs.Net as net
 use Rattle.network_core.specs.declared.node.Node.{Node}
 use Rattle.network_core.specs.Hands.{seen_hand, kind_item}
@@ -37,11 +37,11 @@ chosen-quiet : {S : Type 0} (b : Bool) (c : net.Choice S Point StageFault) → (
 chosen-quiet true c h = refl
 chosen-quiet false c h = h refl
 
-held : {A : Type 0} (hand : Option Kind) (kind : Kind) (ps : List Point) → hand ≡ Some kind → seen_hand hand ps ≡ None → A
+held : {A : Type 0} (hand : Option ItemKind) (kind : ItemKind) (ps : List Point) → hand ≡ Some kind → seen_hand hand ps ≡ None → A
 held None kind ps h e = cc
 held (Some k) kind ps h e = cc
 
-empty_hand : (hand : Option Kind) (ps : List Point) → seen_hand hand ps ≡ None → hand ≡ None
+empty_hand : (hand : Option ItemKind) (ps : List Point) → seen_hand hand ps ≡ None → hand ≡ None
 empty_hand None ps e = refl
 empty_hand (Some k) ps e = cc
 
@@ -57,7 +57,7 @@ module _ {W S : Type 0} (g : Ghosts W S) (old new : Node W) (calm : Calm g old n
   leaf-choice l = ap (λ b. cond b (made_by g old new) (chosen g old new)) l
 
   -- what was in the hand was given, or stays there
-  pub obeys-given : (kind : Kind) → old.hand ≡ Some kind → (Told g old → Told g new) → Obeys g old new
+  pub obeys-given : (kind : ItemKind) → old.hand ≡ Some kind → (Told g old → Told g new) → Obeys g old new
   obeys-given kind h told = record {
     calm = calm;
     allowed = λ ins. record { inner = not_makes; leaf = λ l e d n. held old.hand kind old.spread.items h e };
@@ -87,7 +87,7 @@ module _ {W S : Type 0} (g : Ghosts W S) (old new : Node W) (calm : Calm g old n
 -- the row of a turn, by how it began
 module _ {W S : Type 0} (g : Ghosts W S) (ins : List ℕ) (root : Bool) (cap : ℕ) (ch : net.Choice S Point StageFault) (old : Node W) (input out : List (Item Point)) (o : net.Outcome S Point StageFault) where
   -- the hand held this
-  pub from_hand : (new : Node W) (kind : Kind) → old.hand ≡ Some kind → new ≡ old → o ≡ net.with_hand root cap ch (shown g ins new) input out (Some (kind_item kind new.spread.items)) → o ≡ net.turn root cap ch (shown g ins old) input out
+  pub from_hand : (new : Node W) (kind : ItemKind) → old.hand ≡ Some kind → new ≡ old → o ≡ net.with_hand root cap ch (shown g ins new) input out (Some (kind_item kind new.spread.items)) → o ≡ net.turn root cap ch (shown g ins old) input out
   from_hand new kind h e p =
       p ∙ ap (λ (n : Node W). net.with_hand root cap ch (shown g ins n) input out (Some (kind_item kind n.spread.items))) e
       ∙ ap (λ x. net.with_hand root cap ch (shown g ins old) input out (seen_hand x old.spread.items)) (sym h)

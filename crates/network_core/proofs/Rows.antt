@@ -9,7 +9,7 @@ use Rattle.cloud_points.specs.declared.faults.StageFault.{StageFault}
 use Rattle.cloud_points.specs.Marks.{Item}
 use Rattle.cloud_points.specs.Bodies.{seen, bodies}
 use Rattle.network_theory.specs.Net as net
-use Rattle.chunk_queue.specs.declared.tag.Kind.{Kind}
+use Rattle.chunk_queue.specs.declared.tag.ItemKind.{ItemKind}
 use Rattle.network_core.specs.Hands.{seen_hand}
 
 module _ {S P F : Type 0} (root : Bool) (cap : ℕ) (ch : net.Choice S P F) (n : net.Node S P F) (input out : List (Item P)) where
@@ -31,6 +31,6 @@ took_row ch n [] i out h = cc
 took_row ch n (x ∷ items) i out h = let e : x ≡ i = cc in ap (λ (z : code.Item). record { node = net.taken ch n (seen z.body); input = bodies items; out = out; turned = net.Took }) (sym e)
 
 -- with an empty hand what lies in the spread is not seen
-pub same_hand : (hand : Option Kind) (a b : List Point) → hand ≡ None → seen_hand hand a ≡ seen_hand hand b
+pub same_hand : (hand : Option ItemKind) (a b : List Point) → hand ≡ None → seen_hand hand a ≡ seen_hand hand b
 same_hand None a b h = refl
 same_hand (Some kind) a b h = cc

@@ -6,13 +6,13 @@ ghost use Rattle.network_core.specs.Hands.{holds_points};
 
 use crate::parts::{either, first, hand_of};
 use crate::turned::{Turned, Why};
-use chunk_queue::{Kind, PlainQueue, Tag};
+use chunk_queue::{ItemKind, PlainQueue, Tag};
 use cloud_points::{Make, Spread, StageFault, Work};
 
 /// How a turn begins.
 #[derive(Clone, Copy, Debug)]
 enum Begun {
-    Give(Kind),
+    Give(ItemKind),
     Take,
     Ended(Turned),
 }
@@ -25,7 +25,7 @@ pub struct Node<W> {
     ended: u32,
     chunk: usize,
     // What is to be given next. Points that are in the hand lie in `spread`.
-    hand: Option<Kind>,
+    hand: Option<ItemKind>,
     spread: Spread,
     given: u64,
     cut: bool,
@@ -164,7 +164,7 @@ impl<W: Work> Node<W> {
         ensures holds { KeepsHolding W.Work self.old self.new }
         ensures made { (ins : List ℕ) → shown W.Work ins self.new ≡ net.end_made (shown W.Work ins self.old) }
     {
-        self.hand = Some(Kind::End(either(self.cut, self.fault.is_some())));
+        self.hand = Some(ItemKind::End(either(self.cut, self.fault.is_some())));
         self.ending = false;
     }
 
@@ -180,13 +180,13 @@ impl<W: Work> Node<W> {
     {
         match self.work.make(self.chunk, &mut self.spread) {
             Make::Points => {
-                self.hand = Some(Kind::Points);
+                self.hand = Some(ItemKind::Points);
             }
             Make::EndView => {
-                self.hand = Some(Kind::EndView);
+                self.hand = Some(ItemKind::EndView);
             }
             Make::End(cut, fault) => {
-                self.hand = Some(Kind::End(cut));
+                self.hand = Some(ItemKind::End(cut));
                 self.fault = first(self.fault, fault);
             }
         }
@@ -290,7 +290,7 @@ impl<W: Work> Node<W> {
     }
 
     /// The root lays down what is in the hand.
-    fn lay_down(&mut self, kind: Kind) -> Turned
+    fn lay_down(&mut self, kind: ItemKind) -> Turned
         requires { self.old.hand ≡ Some kind }
         ensures row { (ins : List ℕ) (cap : ℕ) (input out : List (Item Point)) (ch : net.Choice W.State Point StageFault) → left (shown W.Work ins self.new) input out result
             ≡ net.with_hand true cap ch (shown W.Work ins self.old) input out (Some (kind_item kind self.old.spread.items)) }
@@ -305,7 +305,7 @@ impl<W: Work> Node<W> {
     }
 
     /// What is in the hand goes to the queue, where there is room.
-    fn give_to(&mut self, kind: Kind, out: &mut PlainQueue) -> Turned
+    fn give_to(&mut self, kind: ItemKind, out: &mut PlainQueue) -> Turned
         requires { self.old.hand ≡ Some kind }
         ensures row { (ins : List ℕ) (input : List (Item Point)) (ch : net.Choice W.State Point StageFault) → left (shown W.Work ins self.new) input (bodies out.new.items) result
             ≡ net.with_hand false out.old.capacity ch (shown W.Work ins self.old) input (bodies out.old.items) (Some (kind_item kind self.old.spread.items)) }
@@ -328,7 +328,7 @@ impl<W: Work> Node<W> {
     }
 
     /// Counts what is given, which leaves the hand.
-    fn count_up(&mut self, kind: Kind)
+    fn count_up(&mut self, kind: ItemKind)
         requires { self.old.hand ≡ Some kind }
         ensures given { (ins : List ℕ) → shown W.Work ins self.new ≡ net.given (shown W.Work ins self.old) (kind_item kind self.old.spread.items) }
         ensures calm { Calm W.Work self.old self.new }
@@ -336,9 +336,9 @@ impl<W: Work> Node<W> {
         ensures holds { KeepsHolding W.Work self.old self.new }
     {
         let (views, points, end) = match kind {
-            Kind::Points => (0, self.spread.len() as u64, false),
-            Kind::EndView => (1, 0, false),
-            Kind::End(_) => (0, 0, true),
+            ItemKind::Points => (0, self.spread.len() as u64, false),
+            ItemKind::EndView => (1, 0, false),
+            ItemKind::End(_) => (0, 0, true),
         };
         self.hand = None;
         self.given = self.given.saturating_add(1);
@@ -371,7 +371,7 @@ impl<W: Work> Node<W> {
     }
 
     /// Takes an item, whose points lie in the spread.
-    fn take(&mut self, kind: Kind)
+    fn take(&mut self, kind: ItemKind)
         requires inner { W.leaf self.old.work ≡ false }
         requires hand { self.old.hand ≡ None }
         requires no_end { self.old.ending ≡ false }
@@ -382,9 +382,9 @@ impl<W: Work> Node<W> {
         ensures holds { HoldsMore W.Work self.old self.new (item_points (kind_item kind self.old.spread.items)) }
     {
         match kind {
-            Kind::Points => self.take_points(),
-            Kind::EndView => self.take_view(),
-            Kind::End(cut) => self.take_end(cut),
+            ItemKind::Points => self.take_points(),
+            ItemKind::EndView => self.take_view(),
+            ItemKind::End(cut) => self.take_end(cut),
         }
     }
 
@@ -418,7 +418,7 @@ impl<W: Work> Node<W> {
             return;
         }
         if self.work.on_end_view() {
-            self.hand = Some(Kind::EndView);
+            self.hand = Some(ItemKind::EndView);
         }
     }
 
@@ -437,10 +437,10 @@ impl<W: Work> Node<W> {
         if self.ended == self.inputs {
             let is_cut = either(self.cut, self.fault.is_some());
             if self.work.on_end(is_cut) {
-                self.hand = Some(Kind::EndView);
+                self.hand = Some(ItemKind::EndView);
                 self.ending = true;
             } else {
-                self.hand = Some(Kind::End(is_cut));
+                self.hand = Some(ItemKind::End(is_cut));
             }
         }
     }

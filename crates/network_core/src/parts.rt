@@ -5,7 +5,7 @@ ghost use Rattle.cloud_points.specs.Events.{first_fault};
 ghost use Rattle.network_theory.specs.Net.{item_of};
 ghost use Rattle.network_core.specs.Hands.{seen_hand, holds_points};
 
-use chunk_queue::Kind;
+use chunk_queue::ItemKind;
 use cloud_points::{Spread, StageFault};
 
 /// The first of two faults.
@@ -26,13 +26,13 @@ pub(crate) fn either(a: bool, b: bool) -> bool
 }
 
 /// The kind of what is to be given, where there are points.
-pub(crate) fn hand_of(points: &Spread) -> Option<Kind>
+pub(crate) fn hand_of(points: &Spread) -> Option<ItemKind>
     ensures hand { seen_hand result points.now.items ≡ item_of points.now.items }
     ensures held { holds_points result ≡ true → 0 < length points.now.items }
 {
     if points.is_empty() {
         None
     } else {
-        Some(Kind::Points)
+        Some(ItemKind::Points)
     }
 }

@@ -31,25 +31,13 @@ pub items_go_on : (grid : Grid) (p : Point) (a b : List Item) (first others : Li
     → items_bytes grid p a ≡ Ok first → items_bytes grid p b ≡ Ok others → items_bytes grid p (a ++ b) ≡ Ok (first ++ others)
 items_go_on grid p a b first others ea eb = items-append grid p a b ∙ ap (λ r. joined r (items_bytes grid p b)) ea ∙ ap (joined (Ok first)) eb
 
+-- a record whose first items are refused
+pub items_refused : (grid : Grid) (p : Point) (a b : List Item) (e : EncodeFault) → items_bytes grid p a ≡ Err e → items_bytes grid p (a ++ b) ≡ Err e
+items_refused grid p a b e ea = items-append grid p a b ∙ ap (λ r. joined r (items_bytes grid p b)) ea
+
 -- the bytes of the first item go before those of the others
 pub joined_ok : {a b : Result (List ℕ) EncodeFault} {first others : List ℕ} → a ≡ Ok first → b ≡ Ok others → joined a b ≡ Ok (first ++ others)
 joined_ok {b = b} {first = first} ea eb = ap (λ r. joined r b) ea ∙ ap (joined (Ok first)) eb
 
-pub put_ok : (first : List ℕ) {b : Result (List ℕ) EncodeFault} {others : List ℕ} → b ≡ Ok others → joined (Ok first) b ≡ Ok (first ++ others)
-put_ok first eb = ap (joined (Ok first)) eb
-
 pub bits_ok : {r : Result ℕ EncodeFault} {byte : ℕ} → r ≡ Ok byte → (r >>= (λ b. Ok (b ∷ []))) ≡ Ok (byte ∷ [])
 bits_ok e = ap (λ r. r >>= (λ b. Ok (b ∷ []))) e
-
-abbrev items_end : Result (List ℕ) EncodeFault
-items_end = Ok []
-
-pub end_ok : items_end ≡ Ok []
-end_ok = refl
-
--- how a record begins, to the bit fields, and how it goes on
-pub regrouped : (x y z intensity bits rest : List ℕ) → (x ++ (y ++ (z ++ (intensity ++ bits)))) ++ rest ≡ x ++ (y ++ (z ++ (intensity ++ (bits ++ rest))))
-regrouped x y z intensity bits rest = append_assoc x (y ++ (z ++ (intensity ++ bits))) rest
-    ∙ ap (λ l. x ++ l) (append_assoc y (z ++ (intensity ++ bits)) rest
-    ∙ ap (λ l. y ++ l) (append_assoc z (intensity ++ bits) rest
-    ∙ ap (λ l. z ++ l) (append_assoc intensity bits rest)))

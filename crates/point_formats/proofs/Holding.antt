@@ -91,7 +91,7 @@ signed_back : (w : Width) (fault : EncodeFault) (at : ℕ) (bytes : List ℕ) �
 signed_back w fault at bytes small room =
     let n = number_at at (byte_len w) bytes in
     let fits = in_bits w n (number_fits (byte_len w) at bytes small) in
-    ap (λ t. if t then Ok (to_le_bytes w (cast_unsigned w (cast_signed w n))) else Err fault) (signed_in_range w n fits)
+    ap (λ t. (if t then Ok (cast_signed w n) else Err fault) >>= (λ m. Ok (to_le_bytes w (cast_unsigned w m)))) (signed_in_range w n fits)
     ∙ ap (λ m. Ok (to_le_bytes w m)) (of_z-to_z w n fits)
     ∙ ap Ok (number_back w at bytes small room)
 

@@ -1,4 +1,5 @@
 pub mod Appending
+pub mod Steps
 pub mod Counting
 pub mod Sizes
 pub mod Holding

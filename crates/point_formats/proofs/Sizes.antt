@@ -1,7 +1,7 @@
 -- The sizes of items.
-use Rattle.std.proofs.Common.{◌≡◌, ℕ, ◌+◌, List, [], ◌∷◌, ◌++◌, length, Bool, true, false, Ok, Err, IfOk, refl, arith, length-append, if◌then◌else◌}
+use Rattle.std.proofs.Common.{◌≡◌, ℕ, ℤ, ◌+◌, List, [], ◌∷◌, ◌++◌, length, Bool, true, false, Ok, Err, IfOk, refl, arith, length-append, if◌then◌else◌}
 use Rattle.std.specs.Prelude.{Result}
-use Rattle.std.specs.Int.{Width, w8, w16, w32, w64, w128, byte_len, to_le_bytes}
+use Rattle.std.specs.Int.{Width, w8, w16, w32, w64, w128, byte_len, to_le_bytes, cast_unsigned}
 use Rattle.cloud_points.specs.declared.point.Point.{Point}
 use Rattle.las_header.specs.Steps.{◌>>=◌}
 use Rattle.las_header.specs.declared.form.Format.TheVariants.{F0, F1, F2, F3, F6, F7, F8}
@@ -22,8 +22,8 @@ number_size w32 n = refl
 number_size w64 n = refl
 number_size w128 n = refl
 
-chosen_size : (t : Bool) (w : Width) (n : ℕ) (e : EncodeFault) → Has (if t then Ok (to_le_bytes w n) else Err e) (byte_len w)
-chosen_size true w n e = number_size w n
+chosen_size : (t : Bool) (w : Width) (n : ℤ) (e : EncodeFault) → Has ((if t then Ok n else Err e) >>= (λ m. Ok (to_le_bytes w (cast_unsigned w m)))) (byte_len w)
+chosen_size true w n e = number_size w (cast_unsigned w n)
 chosen_size false w n e = tt
 
 bits_size : (r : Result ℕ EncodeFault) → Has (r >>= (λ byte. Ok (byte ∷ []))) 1

@@ -104,11 +104,16 @@ unsigned_fits w32 z h = omega (arith, ints)
 unsigned_fits w64 z h = omega (arith, ints)
 unsigned_fits w128 z h = omega (arith, ints)
 
+written_signed : (t : Bool) (w : Width) (z : ℤ) (bytes : List ℕ) (e : EncodeFault) → ((if t then Ok z else Err e) >>= (λ n. Ok (to_le_bytes w (cast_unsigned w n)))) ≡ Ok bytes
+    → (t ≡ true) × (to_le_bytes w (cast_unsigned w z) ≡ bytes)
+written_signed true w z bytes e h = (refl, cc)
+written_signed false w z bytes e h = absurd (cc)
+
 -- a signed number that was written is read
 signed_read : (w : Width) (fault : EncodeFault) (z : ℤ) (at : ℕ) (before bytes rest : List ℕ) → signed_bytes w fault z ≡ Ok bytes → length before ≡ at
     → z ≡ cast_signed w (number_at at (byte_len w) (before ++ (bytes ++ rest)))
 signed_read w fault z at before bytes rest h is =
-    let t = chosen (in_range w z) (to_le_bytes w (cast_unsigned w z)) bytes fault h in
+    let t = written_signed (in_range w z) w z bytes fault h in
     let fits = fits_signed w z t.0 in
     let there = number_read w (cast_unsigned w z) at before rest (unsigned_fits w z fits) is in
     sym (ap (λ l. cast_signed w (number_at at (byte_len w) (before ++ (l ++ rest)))) (sym t.1) ∙ ap (cast_signed w) there ∙ to_z-of_z w z fits)

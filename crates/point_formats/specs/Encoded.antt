@@ -4,7 +4,7 @@ use Rattle.std.specs.Int.{Width, w32, w64, byte_len, to_le_bytes, cast_unsigned}
 use Rattle.exact_numbers.specs.Rounding.{half_away}
 use Rattle.decimal_coords.specs.Grid.{nearest_step}
 use Rattle.cloud_points.specs.declared.dims.Dim.{Dim}
-use Rattle.cloud_points.specs.declared.dims.Dim.TheVariants.{Intensity, ReturnNumber, NumberOfReturns, ScanDirectionFlag, EdgeOfFlightLine, Classification, Synthetic, KeyPoint, Withheld, Overlap, ScanChannel, ScanAngleRank, UserData, PointSourceId, Red, Green, Blue, Infrared}
+use Rattle.cloud_points.specs.declared.dims.Dim.TheVariants.{X, Y, Z, Intensity, ReturnNumber, NumberOfReturns, ScanDirectionFlag, EdgeOfFlightLine, Classification, Synthetic, KeyPoint, Withheld, Overlap, ScanChannel, ScanAngleRank, UserData, PointSourceId, Red, Green, Blue, Infrared}
 use Rattle.cloud_points.specs.declared.point.Point.{Point}
 use Rattle.cloud_points.specs.Points.{get, is_between}
 use Rattle.las_header.specs.declared.form.Format.{Format}
@@ -36,16 +36,38 @@ number_of p Blue = p.blue
 number_of p Infrared = p.infrared
 number_of p _ = 0
 
--- a signed number in so many bits, or the fault where it leaves them
-abbrev pub signed_bytes : Width → EncodeFault → ℤ → Result (List ℕ) EncodeFault
-signed_bytes width fault n = if is_between (neg_ℤ (pos (2 ^ (8 * byte_len width - 1)))) (pos (2 ^ (8 * byte_len width - 1) - 1)) n
-    then Ok (to_le_bytes width (cast_unsigned width n)) else Err fault
+-- a signed number, or the fault where it leaves so many bits
+abbrev pub signed_number : Width → EncodeFault → ℤ → Result ℤ EncodeFault
+signed_number width fault n = if is_between (neg_ℤ (pos (2 ^ (8 * byte_len width - 1)))) (pos (2 ^ (8 * byte_len width - 1) - 1)) n
+    then Ok n else Err fault
 
--- the step of the grid nearest to a coordinate
+-- its bytes
+abbrev pub signed_bytes : Width → EncodeFault → ℤ → Result (List ℕ) EncodeFault
+signed_bytes width fault n = do
+  number ← signed_number width fault n
+  Ok (to_le_bytes width (cast_unsigned width number))
+
+-- the raw number on an axis: the step of the grid nearest to a coordinate
+unfoldable pub raw_number : Grid → Dim → ℕ → ℤ → Result ℤ EncodeFault
+raw_number grid dim axis nano = signed_number w32 (NotHeld dim) (nearest_step nano (scale_on grid axis) (offset_on grid axis))
+
+-- the raw numbers of a point on X, Y and Z, or the first refusal
+abbrev pub raw_numbers : Grid → Point → Result (List ℤ) EncodeFault
+raw_numbers grid p = do
+  x ← raw_number grid X 0 p.x
+  y ← raw_number grid Y 1 p.y
+  z ← raw_number grid Z 2 p.z
+  Ok (x ∷ y ∷ z ∷ [])
+
+-- the bytes of a raw number
 unfoldable pub coordinate_bytes : Grid → Dim → ℕ → ℤ → Result (List ℕ) EncodeFault
 coordinate_bytes grid dim axis nano = signed_bytes w32 (NotHeld dim) (nearest_step nano (scale_on grid axis) (offset_on grid axis))
 
 -- the number of steps nearest to an angle, a half away from zero
+unfoldable pub angle_number : Width → ℕ → ℤ → Result ℤ EncodeFault
+angle_number width step nano = signed_number width (ValueOutOfRange ScanAngleRank) (half_away nano step)
+
+-- its bytes
 unfoldable pub angle_bytes : Width → ℕ → ℤ → Result (List ℕ) EncodeFault
 angle_bytes width step nano = signed_bytes width (ValueOutOfRange ScanAngleRank) (half_away nano step)
 

@@ -1,23 +1,20 @@
 //! Writes points as records.
 
-ghost use Rattle.std.specs.Prelude.{◌≡◌, ◌+◌, ◌*◌, ◌^◌, ◌<◌, ◌≤◌, ◌++◌, [], ◌∷◌, length, take, drop, Ok, Err, IfOk, IfErr, OnErr, OnOk};
-ghost use Rattle.std.specs.Int.{w8, w16, w64, to_le_bytes};
-ghost use Rattle.arrayvec.specs.ArrayVec.{array_vec_len};
+ghost use Rattle.std.specs.Prelude.{◌≡◌, ◌+◌, ◌*◌, ◌^◌, ◌<◌, ◌≤◌, ◌++◌, length, take, drop, Ok, Err, IfOk, IfErr, OnErr};
+ghost use Rattle.std.specs.Int.{w16, w64, to_le_bytes};
 ghost use Rattle.las_header.specs.Formats.{format_size};
 ghost use Rattle.las_header.specs.declared.form.Format.TheVariants.{F0, F6};
 ghost use Rattle.point_formats.specs.Grids.{IsNear};
 ghost use Rattle.point_formats.specs.Formats.{old_returns, old_class, new_returns, new_flags};
 ghost use Rattle.point_formats.specs.Records.{decoded};
 ghost use Rattle.point_formats.specs.Returning.{FitsTypes, IsOfFormat};
-ghost use Rattle.point_formats.specs.Encoded.{encoded, coordinate_bytes, angle_bytes, field_number, bits_number};
+ghost use Rattle.point_formats.specs.Encoded.{encoded, field_number, bits_number, raw_number, raw_numbers};
 
 use crate::Grid;
+use crate::angles::{angle_steps, degrees};
 use crate::grid::{known_steps, raw_on};
 use crate::numbers::{known_u8, known_u16, known_u64};
-use arrayvec::ArrayVec;
-use byte_numbers::put;
 use cloud_points::{Dim, Point};
-use exact_numbers::half_away;
 use las_header::Format;
 use thiserror::Error;
 
@@ -32,39 +29,31 @@ pub enum EncodeFault {
     ValueOutOfRange(Dim),
 }
 
-/// The bytes of a coordinate's raw number on an axis.
-#[tactic(auto, unfolding(crate::specs::Encoded::coordinate_bytes))]
-fn coordinate_bytes(grid: &Grid, dim: Dim, axis: usize, nano: i64) -> Result<[u8; 4], EncodeFault>
+/// The raw number on an axis that is nearest to a coordinate.
+#[tactic(auto, unfolding(crate::specs::Encoded::raw_number))]
+fn raw_number(grid: &Grid, dim: Dim, axis: usize, nano: i64) -> Result<i32, EncodeFault>
     requires axis { axis < 3 }
     requires near { IsNear grid.now }
-    ensures { result ≡ coordinate_bytes grid.now dim axis nano }
+    ensures { result ≡ raw_number grid.now dim axis nano }
 {
     match raw_on(grid, axis, nano) {
-        Ok(number) => Ok(number.to_le_bytes()),
+        Ok(number) => Ok(number),
         Err(_) => Err(EncodeFault::NotHeld(dim)),
     }
 }
 
-/// The byte of an angle in degrees.
-#[tactic(auto, unfolding(crate::specs::Encoded::angle_bytes))]
-fn degree_bytes(nano: i64) -> Result<[u8; 1], EncodeFault>
-    ensures { result ≡ angle_bytes w8 1_000_000_000 nano }
+/// The raw numbers of a point on X, Y and Z, which are those that its record in a file with this grid has.
+///
+/// Each offset of the grid is at most 10^18 nanounits in size. The raw number on an axis is the one nearest to the
+/// coordinate, a half away from zero. The first that leaves 32 bits is refused, as `NotHeld` with its dimension.
+pub fn raw_numbers(grid: &Grid, p: &Point) -> Result<[i32; 3], EncodeFault>
+    requires near { IsNear grid.now }
+    ensures value { result ≡ raw_numbers grid.now p.now }
 {
-    match i8::try_from(half_away(nano as i128, 1_000_000_000)) {
-        Ok(degrees) => Ok(degrees.to_le_bytes()),
-        Err(_) => Err(EncodeFault::ValueOutOfRange(Dim::ScanAngleRank)),
-    }
-}
-
-/// The bytes of an angle in steps of 0.006 degree.
-#[tactic(auto, unfolding(crate::specs::Encoded::angle_bytes))]
-fn angle_bytes(nano: i64) -> Result<[u8; 2], EncodeFault>
-    ensures { result ≡ angle_bytes w16 6_000_000 nano }
-{
-    match i16::try_from(half_away(nano as i128, 6_000_000)) {
-        Ok(steps) => Ok(steps.to_le_bytes()),
-        Err(_) => Err(EncodeFault::ValueOutOfRange(Dim::ScanAngleRank)),
-    }
+    let x = raw_number(grid, Dim::X, 0, p.x)?;
+    let y = raw_number(grid, Dim::Y, 1, p.y)?;
+    let z = raw_number(grid, Dim::Z, 2, p.z)?;
+    Ok([x, y, z])
 }
 
 /// The value of a bit field, which is to be below a bound.
@@ -129,133 +118,104 @@ fn new_flags(p: &Point) -> Result<u8, EncodeFault>
     Ok(kinds + 16 * channel + 64 * direction + 128 * edge)
 }
 
-/// The first bytes of a record, to the bit fields.
-fn first_block(p: &Point, x: [u8; 4], y: [u8; 4], z: [u8; 4], bits: [u8; 2]) -> ArrayVec<u8, 38>
-    ensures items { result.items ≡ x ++ (y ++ (z ++ (to_le_bytes w16 p.now.intensity ++ bits))) }
-    ensures len { array_vec_len result ≡ 16 }
-{
-    let mut block = ArrayVec::new();
-    put(&mut block, &x);
-    put(&mut block, &y);
-    put(&mut block, &z);
-    put(&mut block, &p.intensity.to_le_bytes());
-    put(&mut block, &bits);
-    block
-}
-
-/// Puts the bytes of format 0 behind the bit fields.
-fn put_old(block: &mut ArrayVec<u8, 38>, p: &Point, angle: [u8; 1])
-    requires { array_vec_len block.old ≤ 34 }
-    ensures items { block.new.items ≡ block.old.items ++ (angle ++ (to_le_bytes w8 p.now.user_data
-        ++ to_le_bytes w16 p.now.point_source_id)) }
-    ensures len { array_vec_len block.new ≡ array_vec_len block.old + 4 }
-{
-    put(block, &angle);
-    put(block, &p.user_data.to_le_bytes());
-    put(block, &p.point_source_id.to_le_bytes());
-}
-
 /// The record of format 0, with which those of formats 1 to 3 begin.
-fn old_record(p: &Point, grid: &Grid) -> Result<ArrayVec<u8, 38>, EncodeFault>
+fn old_record(p: &Point, grid: &Grid) -> Result<[u8; 20], EncodeFault>
     requires near { IsNear grid.now }
-    ensures ok { IfOk result (λ block. encoded F0 grid.now p.now ≡ Ok block.items) }
-    ensures len { IfOk result (λ block. array_vec_len block ≡ 20) }
-    ensures refused { IfErr result (λ e. encoded F0 grid.now p.now ≡ Err e) }
+    ensures { result ≡ encoded F0 grid.now p.now }
 {
-    let x = coordinate_bytes(grid, Dim::X, 0, p.x)?;
-    let y = coordinate_bytes(grid, Dim::Y, 1, p.y)?;
-    let z = coordinate_bytes(grid, Dim::Z, 2, p.z)?;
+    let [x, y, z] = raw_numbers(grid, p)?;
     let returns = old_returns(p)?;
     let class = old_class(p)?;
-    let angle = degree_bytes(p.scan_angle_rank)?;
-    let mut block = first_block(p, x, y, z, [returns, class]);
-    put_old(&mut block, p, angle);
-    Ok(block)
-}
-
-/// Puts the bytes of format 6 behind the bit fields.
-fn put_new(block: &mut ArrayVec<u8, 38>, p: &Point, angle: [u8; 2])
-    requires { array_vec_len block.old ≤ 24 }
-    ensures items { block.new.items ≡ block.old.items ++ (to_le_bytes w8 p.now.classification
-        ++ (to_le_bytes w8 p.now.user_data ++ (angle ++ (to_le_bytes w16 p.now.point_source_id
-        ++ to_le_bytes w64 p.now.gps_time)))) }
-    ensures len { array_vec_len block.new ≡ array_vec_len block.old + 14 }
-{
-    put(block, &p.classification.to_le_bytes());
-    put(block, &p.user_data.to_le_bytes());
-    put(block, &angle);
-    put(block, &p.point_source_id.to_le_bytes());
-    put(block, &p.gps_time.to_le_bytes());
+    let angle = degrees(p.scan_angle_rank)?;
+    let x = x.to_le_bytes();
+    let y = y.to_le_bytes();
+    let z = z.to_le_bytes();
+    let light = p.intensity.to_le_bytes();
+    let user = p.user_data.to_le_bytes();
+    let angle = angle.to_le_bytes();
+    let source = p.point_source_id.to_le_bytes();
+    Ok([
+        x[0], x[1], x[2], x[3], y[0], y[1], y[2], y[3], z[0], z[1], z[2], z[3], light[0], light[1],
+        returns, class, angle[0], user[0], source[0], source[1],
+    ])
 }
 
 /// The record of format 6, with which those of formats 7 and 8 begin.
-fn new_record(p: &Point, grid: &Grid) -> Result<ArrayVec<u8, 38>, EncodeFault>
+fn new_record(p: &Point, grid: &Grid) -> Result<[u8; 30], EncodeFault>
     requires near { IsNear grid.now }
-    ensures ok { IfOk result (λ block. encoded F6 grid.now p.now ≡ Ok block.items) }
-    ensures len { IfOk result (λ block. array_vec_len block ≡ 30) }
-    ensures refused { IfErr result (λ e. encoded F6 grid.now p.now ≡ Err e) }
+    ensures { result ≡ encoded F6 grid.now p.now }
 {
-    let x = coordinate_bytes(grid, Dim::X, 0, p.x)?;
-    let y = coordinate_bytes(grid, Dim::Y, 1, p.y)?;
-    let z = coordinate_bytes(grid, Dim::Z, 2, p.z)?;
+    let [x, y, z] = raw_numbers(grid, p)?;
     let returns = new_returns(p)?;
     let flags = new_flags(p)?;
-    let angle = angle_bytes(p.scan_angle_rank)?;
-    let mut block = first_block(p, x, y, z, [returns, flags]);
-    put_new(&mut block, p, angle);
-    Ok(block)
+    let angle = angle_steps(p.scan_angle_rank)?;
+    let x = x.to_le_bytes();
+    let y = y.to_le_bytes();
+    let z = z.to_le_bytes();
+    let light = p.intensity.to_le_bytes();
+    let class = p.classification.to_le_bytes();
+    let user = p.user_data.to_le_bytes();
+    let angle = angle.to_le_bytes();
+    let source = p.point_source_id.to_le_bytes();
+    let time = p.gps_time.to_le_bytes();
+    Ok([
+        x[0], x[1], x[2], x[3], y[0], y[1], y[2], y[3], z[0], z[1], z[2], z[3], light[0], light[1],
+        returns, flags, class[0], user[0], angle[0], angle[1], source[0], source[1], time[0],
+        time[1], time[2], time[3], time[4], time[5], time[6], time[7],
+    ])
 }
 
-/// Puts the colours behind a record.
-fn put_colours(block: &mut ArrayVec<u8, 38>, p: &Point)
-    requires { array_vec_len block.old ≤ 32 }
-    ensures items { block.new.items ≡ block.old.items ++ (to_le_bytes w16 p.now.red ++ (to_le_bytes w16 p.now.green
+/// The bytes of the colours.
+fn colours(p: &Point) -> [u8; 6]
+    ensures { result ≡ to_le_bytes w16 p.now.red ++ (to_le_bytes w16 p.now.green ++ to_le_bytes w16 p.now.blue) }
+{
+    let red = p.red.to_le_bytes();
+    let green = p.green.to_le_bytes();
+    let blue = p.blue.to_le_bytes();
+    [red[0], red[1], green[0], green[1], blue[0], blue[1]]
+}
+
+/// The bytes of the time and the colours.
+fn timed_colours(p: &Point) -> [u8; 14]
+    ensures { result ≡ to_le_bytes w64 p.now.gps_time ++ (to_le_bytes w16 p.now.red ++ (to_le_bytes w16 p.now.green
         ++ to_le_bytes w16 p.now.blue)) }
-    ensures len { array_vec_len block.new ≡ array_vec_len block.old + 6 }
 {
-    put(block, &p.red.to_le_bytes());
-    put(block, &p.green.to_le_bytes());
-    put(block, &p.blue.to_le_bytes());
+    let time = p.gps_time.to_le_bytes();
+    let red = p.red.to_le_bytes();
+    let green = p.green.to_le_bytes();
+    let blue = p.blue.to_le_bytes();
+    [
+        time[0], time[1], time[2], time[3], time[4], time[5], time[6], time[7], red[0], red[1],
+        green[0], green[1], blue[0], blue[1],
+    ]
 }
 
-/// The record of a point, or the first refusal in the order of the record.
-fn record_of(format: Format, p: &Point, grid: &Grid) -> Result<ArrayVec<u8, 38>, EncodeFault>
-    requires near { IsNear grid.now }
-    ensures ok { IfOk result (λ block. encoded format grid.now p.now ≡ Ok block.items) }
-    ensures len { IfOk result (λ block. array_vec_len block ≡ format_size format) }
-    ensures refused { IfErr result (λ e. encoded format grid.now p.now ≡ Err e) }
+/// The bytes of the colours and the infrared.
+fn infrared_colours(p: &Point) -> [u8; 8]
+    ensures { result ≡ to_le_bytes w16 p.now.red ++ (to_le_bytes w16 p.now.green ++ (to_le_bytes w16 p.now.blue
+        ++ to_le_bytes w16 p.now.infrared)) }
 {
-    match format {
-        Format::F0 => old_record(p, grid),
-        Format::F1 => {
-            let mut timed = old_record(p, grid)?;
-            put(&mut timed, &p.gps_time.to_le_bytes());
-            Ok(timed)
-        }
-        Format::F2 => {
-            let mut coloured = old_record(p, grid)?;
-            put_colours(&mut coloured, p);
-            Ok(coloured)
-        }
-        Format::F3 => {
-            let mut both = old_record(p, grid)?;
-            put(&mut both, &p.gps_time.to_le_bytes());
-            put_colours(&mut both, p);
-            Ok(both)
-        }
-        Format::F6 => new_record(p, grid),
-        Format::F7 => {
-            let mut new_coloured = new_record(p, grid)?;
-            put_colours(&mut new_coloured, p);
-            Ok(new_coloured)
-        }
-        Format::F8 => {
-            let mut infrared = new_record(p, grid)?;
-            put_colours(&mut infrared, p);
-            put(&mut infrared, &p.infrared.to_le_bytes());
-            Ok(infrared)
-        }
-    }
+    let red = p.red.to_le_bytes();
+    let green = p.green.to_le_bytes();
+    let blue = p.blue.to_le_bytes();
+    let near = p.infrared.to_le_bytes();
+    [
+        red[0], red[1], green[0], green[1], blue[0], blue[1], near[0], near[1],
+    ]
+}
+
+/// Puts the two parts of a record at the front, one behind the other, and answers how many bytes they are.
+#[inline(always)]
+fn put_parts(out: &mut [u8], first: &[u8], rest: &[u8]) -> usize
+    requires { length first.now + length rest.now ≤ length out.old }
+    ensures size { result ≡ length first.now + length rest.now }
+    ensures front { take result out.new ≡ first.now ++ rest.now }
+    ensures after { drop result out.new ≡ drop result out.old }
+{
+    let size = first.len() + rest.len();
+    out[..first.len()].copy_from_slice(first);
+    out[first.len()..size].copy_from_slice(rest);
+    size
 }
 
 /// The numbers of a point fit their types. It does nothing: its contract is what callers want.
@@ -283,10 +243,15 @@ fn put_record(format: Format, p: &Point, grid: &Grid, out: &mut [u8]) -> Result<
     ensures refused { IfErr result (λ e. encoded format grid.now p.now ≡ Err e) }
     ensures unchanged { OnErr result (out.new ≡ out.old) }
 {
-    let block = record_of(format, p, grid)?;
-    let size = block.len();
-    out[..size].copy_from_slice(&block);
-    Ok(size)
+    Ok(match format {
+        Format::F0 => put_parts(out, &old_record(p, grid)?, &[]),
+        Format::F1 => put_parts(out, &old_record(p, grid)?, &p.gps_time.to_le_bytes()),
+        Format::F2 => put_parts(out, &old_record(p, grid)?, &colours(p)),
+        Format::F3 => put_parts(out, &old_record(p, grid)?, &timed_colours(p)),
+        Format::F6 => put_parts(out, &new_record(p, grid)?, &[]),
+        Format::F7 => put_parts(out, &new_record(p, grid)?, &colours(p)),
+        Format::F8 => put_parts(out, &new_record(p, grid)?, &infrared_colours(p)),
+    })
 }
 
 /// Puts the record of a point at the front of `out`, in which the bytes of the format have room, and answers their

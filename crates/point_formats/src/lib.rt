@@ -2,6 +2,7 @@
 //! stand for.
 #![tactic(auto)]
 
+mod angles;
 mod decoding;
 mod encoding;
 mod grid;
@@ -10,7 +11,7 @@ mod layouts;
 mod numbers;
 
 pub use decoding::decode;
-pub use encoding::{EncodeFault, encode};
+pub use encoding::{EncodeFault, encode, raw_numbers};
 pub use grid::Grid;
 pub use laws::{numbers_return, records_are_whole};
 pub use layouts::dims;

@@ -4,6 +4,8 @@ use Rattle.std.proofs.lemmas.Bool.{ltb-true, ltb-false, leb-true, le-leb}
 use Rattle.std.proofs.lemmas.List.{map-append, take-append-drop, take_min, drop_all}
 use Rattle.cloud_points.specs.declared.point.Point.{Point}
 use Rattle.cloud_points.specs.declared.faults.Make.{Make}
+use Rattle.cloud_points.specs.declared.faults.PointFault.{PointFault}
+use Rattle.cloud_points.specs.declared.faults.PointFault.TheVariants.{Cut}
 use Rattle.cloud_points.specs.Events.{is_device, first_fault}
 use Rattle.cloud_points.specs.Makes.{made, made_fault, gives_end}
 use Rattle.cloud_points.specs.Marks.{Mark, At, View_end, End, marks, flow_marks}
@@ -14,6 +16,7 @@ use Rattle.las_reader.specs.Reading.{IsStep, step_of, gives, ends, view_ends, re
 use Rattle.las_reader.specs.declared.reader.Progress.{Progress}
 use Rattle.las_reader.specs.declared.reader.Progress.TheVariants.{Records, ViewEnded, Ended}
 use Rattle.las_reader.specs.declared.reader.LasReader.{LasReader}
+use Rattle.las_reader.specs.Records.{point_of}
 use Rattle.las_reader.proofs.Pieces.{length-points_from}
 use Rattle.stage_kinds.specs.declared.kind.Kind.{Kind}
 use Rattle.stage_kinds.specs.declared.kind.Kind.TheVariants.{Reader}
@@ -43,25 +46,25 @@ split_points points next given chunk rest is =
     ∙ append_assoc (map At next) (map At (drop (given + length next) points)) rest
 
 -- where all records are whole, and where one isn't
-cut_none : (header : Header) (given : ℕ) (file : List ℕ) → length (las_with header file).points ≡ given → points_in header ≤ given → (las_with header file).cut ≡ None
+cut_none : (header : Header) (given : ℕ) (file : List ℕ) → length (las_with header file).points ≡ given → points_in header ≤ given → (las_with header file).fault ≡ None
 cut_none header given file size all =
-    let whole : whole_records header file ≡ points_in header = omega (arith, length-points_from header 0 (whole_records header file) (drop header.points_at file), size) in
+    let whole : whole_records header file ≡ points_in header = omega (arith, length-points_from (point_of header) header.record_length 0 (whole_records header file) (drop header.points_at file), size) in
     rw (eq-eqb (whole_records header file) (points_in header) whole) refl
 
-cut_some : (header : Header) (given : ℕ) (file : List ℕ) → length (las_with header file).points ≡ given → given < points_in header → (las_with header file).cut ≡ Some given
+cut_some : (header : Header) (given : ℕ) (file : List ℕ) → length (las_with header file).points ≡ given → given < points_in header → (las_with header file).fault ≡ Some (Cut given)
 cut_some header given file size less =
-    let whole : whole_records header file ≡ given = sym (length-points_from header 0 (whole_records header file) (drop header.points_at file)) ∙ size in
-    rw (ne_eqb (whole_records header file) (points_in header) (λ e. absurd (omega (arith, whole, e)))) (ap (λ k. Some k) whole)
+    let whole : whole_records header file ≡ given = sym (length-points_from (point_of header) header.record_length 0 (whole_records header file) (drop header.points_at file)) ∙ size in
+    rw (ne_eqb (whole_records header file) (points_in header) (λ e. absurd (omega (arith, whole, e)))) (ap (λ k. Some (Cut k)) whole)
 
 -- the steps from a place among the records, by its tests
 step_gives : (header : Header) (given chunk : ℕ) (file : List ℕ) (m : Make) (points : List Point) (after : Progress) (left counted : Bool)
     → nat_lt given (length (las_with header file).points) ≡ left → nat_lt given (points_in header) ≡ counted → given ≤ length (las_with header file).points
-    → IsStep (if left then gives given (take chunk (drop given (las_with header file).points)) else (if counted then ends true (Some given) else view_ends)) m points after
+    → IsStep (if left then gives given (take chunk (drop given (las_with header file).points)) else (if counted then ends true (Some (Cut given)) else view_ends)) m points after
     → GivesRest (las_with header file) (Records given) after m points
 step_gives header given chunk file m points after true counted l r within h =
     let las = las_with header file in
     record {
-      part = rw (h.made_is, h.points_are, h.progress_is) (split_points las.points (take chunk (drop given las.points)) given chunk (end_marks las.cut) refl);
+      part = rw (h.made_is, h.points_are, h.progress_is) (split_points las.points (take chunk (drop given las.points)) given chunk (end_marks las.fault) refl);
       fault = rw (h.made_is, h.progress_is) refl;
     }
 step_gives header given chunk file m points after false true l r within h =
@@ -70,7 +73,7 @@ step_gives header given chunk file m points after false true l r within h =
     let all : length las.points ≡ given = omega (arith, past, within) in
     let cut = cut_some header given file all (ltb-true given (points_in header) r) in
     record {
-      part = rw (h.made_is, h.progress_is) (ap (λ xs. map At xs ++ end_marks las.cut) (drop_all given las.points past) ∙ ap end_marks cut);
+      part = rw (h.made_is, h.progress_is) (ap (λ xs. map At xs ++ end_marks las.fault) (drop_all given las.points past) ∙ ap end_marks cut);
       fault = rw h.made_is (ap fault_with cut);
     }
 step_gives header given chunk file m points after false false l r within h =
@@ -79,7 +82,7 @@ step_gives header given chunk file m points after false false l r within h =
     let all : length las.points ≡ given = omega (arith, past, within) in
     let cut = cut_none header given file all (ltb-false given (points_in header) r) in
     record {
-      part = rw (h.made_is, h.progress_is) (ap (λ xs. map At xs ++ end_marks las.cut) (drop_all given las.points past) ∙ ap end_marks cut);
+      part = rw (h.made_is, h.progress_is) (ap (λ xs. map At xs ++ end_marks las.fault) (drop_all given las.points past) ∙ ap end_marks cut);
       fault = rw (h.made_is, h.progress_is) (ap fault_with cut);
     }
 
@@ -103,7 +106,7 @@ gives_told (Some file) bytes1 header0 header1 chunk before after m points same s
 -- a step that isn't an end leaves the reader within its file
 step_stays : (header : Header) (given chunk : ℕ) (file : List ℕ) (m : Make) (points : List Point) (after : Progress) (left counted : Bool)
     → nat_lt given (length (las_with header file).points) ≡ left
-    → IsStep (if left then gives given (take chunk (drop given (las_with header file).points)) else (if counted then ends true (Some given) else view_ends)) m points after
+    → IsStep (if left then gives given (take chunk (drop given (las_with header file).points)) else (if counted then ends true (Some (Cut given)) else view_ends)) m points after
     → gives_end m ≡ false → is_within (las_with header file) after ≡ true
 step_stays header given chunk file m points after true counted l h goes_on =
     let all = (las_with header file).points in
@@ -134,7 +137,7 @@ pub record TellsFile {S K : Type 0} (bytes : S → Option (List ℕ)) (k : Kind 
   pub told : told_of bytes k ≡ flow_marks (las_flow las)
   pub fault : told_fault_of bytes k ≡ cut_fault las
 
-start_marks : (points : List Point) (cut : Option ℕ) → map At points ++ end_marks cut ≡ flow_marks (flow_with points cut)
+start_marks : (points : List Point) (fault : Option PointFault) → map At points ++ end_marks fault ≡ flow_marks (flow_with points fault)
 start_marks points None = sym (ap (λ ms. ms ++ End false ∷ []) (append-nil (map At points ++ View_end ∷ [])) ∙ append_assoc (map At points) (View_end ∷ []) (End false ∷ []))
 start_marks points (Some k) = refl
 
@@ -143,6 +146,6 @@ reader_starts bytes r file start told =
     let las = las_with r.header file in
     record {
       tells = ap (λ b. tells_at b r.header r.progress) told ∙ ap (is_within las) start ∙ le-leb 0 (length las.points) (omega arith);
-      told = ap (λ b. told_at b r.header r.progress) told ∙ ap (rest_marks las) start ∙ start_marks las.points las.cut;
+      told = ap (λ b. told_at b r.header r.progress) told ∙ ap (rest_marks las) start ∙ start_marks las.points las.fault;
       fault = ap (λ b. told_fault_at b r.header r.progress) told ∙ ap (rest_fault las) start;
     }

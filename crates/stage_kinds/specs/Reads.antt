@@ -3,7 +3,7 @@ use Rattle.std.specs.Prelude.{ℕ, ◌-◌, nat_le, Bool, true, false, List, [],
 use Rattle.cloud_points.specs.declared.point.Point.{Point}
 use Rattle.cloud_points.specs.declared.faults.StageFault.{StageFault}
 use Rattle.cloud_points.specs.declared.faults.StageFault.TheVariants as stage
-use Rattle.cloud_points.specs.declared.faults.PointFault.TheVariants.{Cut}
+use Rattle.cloud_points.specs.declared.faults.PointFault.{PointFault}
 use Rattle.cloud_points.specs.Marks.{Mark, At, View_end, End}
 use Rattle.las_header.specs.declared.block.Header.{Header}
 use Rattle.las_header.specs.Counts.{points_in}
@@ -13,20 +13,20 @@ use Rattle.las_reader.specs.declared.reader.Progress.TheVariants.{Records, ViewE
 use Rattle.stage_kinds.specs.declared.kind.Kind.{Kind}
 use Rattle.stage_kinds.specs.declared.kind.Kind.TheVariants.{Reader}
 
--- the fault of a file as that of a stage, by the number of its first record that isn't whole
-abbrev pub fault_with : Option ℕ → Option StageFault
-fault_with cut = option_map stage.Point (option_map Cut cut)
+-- the fault of a file as that of a stage
+abbrev pub fault_with : Option PointFault → Option StageFault
+fault_with fault = option_map stage.Point fault
 
 abbrev pub cut_fault : Las → Option StageFault
-cut_fault las = fault_with las.cut
+cut_fault las = fault_with las.fault
 
-abbrev pub end_marks : Option ℕ → List (Mark Point)
+abbrev pub end_marks : Option PointFault → List (Mark Point)
 end_marks None = View_end ∷ End false ∷ []
-end_marks (Some k) = End true ∷ []
+end_marks (Some fault) = End true ∷ []
 
 -- what comes from a place in a file on
 abbrev pub rest_marks : Las → Progress → List (Mark Point)
-rest_marks las (Records given) = map At (drop given las.points) ++ end_marks las.cut
+rest_marks las (Records given) = map At (drop given las.points) ++ end_marks las.fault
 rest_marks las ViewEnded = End false ∷ []
 rest_marks las (Ended cut) = []
 

@@ -7,7 +7,7 @@ use Rattle.std.specs.List.{range_with_len}
 use Rattle.pipeline_json.proofs.Numbers.{range_from, range_end}
 use Rattle.std.specs.Prelude.{◌↔◌}
 use Rattle.stage_options.specs.declared.stage.StageSpec.{StageSpec}
-use Rattle.stage_options.proofs.Places.{drop_next}
+use Rattle.stage_options.proofs.Elements.{drop_next}
 use Rattle.stage_options.specs.Outputs.{output_of, output_at, NamesAgain, is_name, is_among}
 
 nothing : {X : Type 0} {x : X} → None ≡ Some x → ⊥

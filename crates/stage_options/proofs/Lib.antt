@@ -1,7 +1,9 @@
 pub mod Again
 pub mod Keys
+pub mod Named
 pub mod Own
-pub mod Places
+pub mod Elements
+pub mod Scales
 pub mod Shaped
 pub mod Steps
 pub mod Texts

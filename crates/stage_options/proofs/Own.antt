@@ -16,6 +16,7 @@ own_kind : (k : KindName) (filename : Option (List ℕ)) (ms : Members) → IsTr
 own_kind kind.ReadersLas filename ms h = refl
 own_kind kind.FiltersHead filename ms h = refl
 own_kind kind.FiltersMerge filename ms h = refl
+own_kind kind.WritersLas filename ms h = refl
 own_kind kind.WritersText filename ms h = refl
 own_kind k filename ms h = absurd (true≢false (sym h))
 

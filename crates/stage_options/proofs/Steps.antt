@@ -4,7 +4,7 @@ use Rattle.std.specs.Bool.{IsTrue}
 use Rattle.std.proofs.lemmas.List.{append_assoc}
 use Rattle.pipeline_json.specs.Shown.{stage_view, stages_view}
 use Rattle.pipeline_json.specs.declared.stage.RawStage.{RawStage}
-use Rattle.stage_options.proofs.Places.{drop_next}
+use Rattle.stage_options.proofs.Elements.{drop_next}
 use Rattle.stage_options.specs.Faults.{or_else}
 use Rattle.stage_options.specs.declared.stage.StageSpec.{StageSpec}
 use Rattle.stage_options.specs.TypedTree.{is_stage_built, are_built, stage_fault, spec_of, specs_of, options_fault}

@@ -10,7 +10,7 @@ use Rattle.stage_names.specs.declared.faults.PipeFault.{PipeFault}
 use Rattle.stage_names.specs.declared.faults.PipeFault.TheVariants.{OptionUnknown, OptionMissing, OptionValue}
 use Rattle.stage_names.specs.declared.faults.PipeErr.{PipeErr}
 use Rattle.stage_names.specs.declared.faults.PipeErr.TheVariants.{Fault, Memory}
-use Rattle.stage_options.specs.Rules.{Form, Rule, rules_of, fits}
+use Rattle.stage_options.specs.Rules.{Allowed, Rule, rules_of, fits}
 
 -- the value of an option. The file name stands beside the other members
 abbrev pub value_of : List ℕ → Option (List ℕ) → Members → Option Data
@@ -48,13 +48,13 @@ abbrev pub first_missing : List Rule → Option (List ℕ) → Members → Optio
 first_missing [] filename ms = None
 first_missing (r ∷ rs) filename ms = if r.is_required && is_none (value_of r.name filename ms) then Some r.name else first_missing rs filename ms
 
-abbrev pub is_wrong : Form → Option Data → Bool
-is_wrong form None = false
-is_wrong form (Some d) = not (fits form d)
+abbrev pub is_wrong : Allowed → Option Data → Bool
+is_wrong allowed None = false
+is_wrong allowed (Some d) = not (fits allowed d)
 
 abbrev pub first_wrong : List Rule → Option (List ℕ) → Members → Option (List ℕ)
 first_wrong [] filename ms = None
-first_wrong (r ∷ rs) filename ms = if is_wrong r.form (value_of r.name filename ms) then Some r.name else first_wrong rs filename ms
+first_wrong (r ∷ rs) filename ms = if is_wrong r.allowed (value_of r.name filename ms) then Some r.name else first_wrong rs filename ms
 
 -- ---- the whole
 

@@ -1,3 +1,4 @@
+pub mod Binding
 pub mod Faults
 pub mod Kinds
 pub mod Outputs

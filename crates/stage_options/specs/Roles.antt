@@ -1,7 +1,7 @@
 -- What stages do with files.
 use Rattle.std.specs.Prelude.{ℕ, Bool, true, false, List, Option, Some, None}
 use Rattle.stage_options.specs.declared.options.Options.{Options}
-use Rattle.stage_options.specs.declared.options.Options.TheVariants.{ReadersLas, FiltersHead, FiltersMerge, WritersText}
+use Rattle.stage_options.specs.declared.options.Options.TheVariants.{ReadersLas, FiltersHead, FiltersMerge, WritersLas, WritersText}
 
 pub data Role : Type 0 where
   Reads : List ℕ → Role  -- the file of this name
@@ -13,6 +13,7 @@ abbrev pub role_of : Options → Role
 role_of (ReadersLas o) = Reads o.filename
 role_of (FiltersHead o) = Filters
 role_of (FiltersMerge o) = Filters
+role_of (WritersLas o) = Writes o.filename
 role_of (WritersText o) = Writes o.filename
 
 -- the file that is read

@@ -1,61 +1,110 @@
 -- The options of each type: their names, and what they may hold.
-use Rattle.std.specs.Prelude.{ℕ, ◌&&◌, nat_le, Bool, true, false, List, [], ◌∷◌, length, codes, Option, Some, None, is_some}
+use Rattle.std.specs.Prelude.{ℕ, ℤ, pos, neg_ℤ, int_le, ◌&&◌, nat_le, Bool, true, false, List, [], ◌∷◌, length, codes, Option, Some, None, is_some}
 use Rattle.serde_json.specs.Data.{Data}
 use Rattle.serde_json.specs.Find.{as_str}
+use Rattle.option_texts.specs.Columns.{columns_of}
+use Rattle.option_texts.specs.Forward.{forward_of}
 use Rattle.stage_names.specs.declared.kinds.KindName.{KindName}
-use Rattle.stage_names.specs.declared.kinds.KindName.TheVariants.{ReadersLas, FiltersHead, WritersText}
-use Rattle.stage_options.specs.Values.{whole_of, truth_of, is_source, is_target}
+use Rattle.stage_names.specs.declared.kinds.KindName.TheVariants.{ReadersLas, FiltersHead, WritersLas, WritersText}
+use Rattle.stage_options.specs.Values.{whole_of, truth_of, format_with, decimal_of, is_source, is_target}
 
 -- what an option may hold
-pub data Form : Type 0 where
-  whole : ℕ → ℕ → Form  -- a whole number from the first to the second
-  truth : Form
-  text : Form
-  sized : ℕ → ℕ → Form  -- a text of so many bytes
-  source : Form  -- the name of a file that is read
-  target : Form  -- the name of a file that is written
+pub data Allowed : Type 0 where
+  whole : ℕ → ℕ → Allowed  -- a whole number from the first to the second
+  decimal : ℤ → ℤ → Allowed  -- a decimal from the first to the second, in nanounits
+  format : Allowed  -- a point data record format
+  truth : Allowed
+  text : Allowed
+  sized : ℕ → ℕ → Allowed  -- a text of so many bytes
+  columns : Allowed  -- the columns of a text file
+  forward : Allowed  -- the names of what is forwarded
+  source : Allowed  -- the name of a file that is read
+  target : Allowed  -- the name of a file that is written
 
 pub record Rule : Type 0 where
   pub name : List ℕ
   pub is_required : Bool
-  pub form : Form
+  pub allowed : Allowed
+
+-- an option that has to be there, and one that may
+abbrev pub required : List ℕ → Allowed → Rule
+required name allowed = record { name = name; is_required = true; allowed = allowed }
+
+abbrev pub optional : List ℕ → Allowed → Rule
+optional name allowed = record { name = name; is_required = false; allowed = allowed }
+
+-- a scale factor, from 10 ^ -9 to 1; an offset, below 10 ^ 9 in size; a field of 16 bits
+abbrev pub scale : Allowed
+scale = decimal (pos 1) (pos 1000000000)
+
+abbrev pub offset : Allowed
+offset = decimal (neg_ℤ (pos 999999999999999999)) (pos 999999999999999999)
+
+abbrev pub short : Allowed
+short = whole 0 65535
 
 -- the options of a type, in the order in which they are looked at; a merge has none, and a type that isn't built has none yet
 abbrev pub rules_of : KindName → List Rule
 rules_of ReadersLas =
-    (record { name = codes "filename"; is_required = true; form = source }
+    (required (codes "filename") source
     ∷ [])
 rules_of FiltersHead =
-    (record { name = codes "count"; is_required = false; form = whole 0 4294967295 }
-    ∷ record { name = codes "where"; is_required = false; form = text }
+    (optional (codes "count") (whole 0 4294967295)
+    ∷ optional (codes "where") text
+    ∷ [])
+rules_of WritersLas =
+    (required (codes "filename") target
+    ∷ optional (codes "dataformat_id") format
+    ∷ optional (codes "minor_version") (whole 4 4)
+    ∷ optional (codes "scale_x") scale
+    ∷ optional (codes "scale_y") scale
+    ∷ optional (codes "scale_z") scale
+    ∷ optional (codes "offset_x") offset
+    ∷ optional (codes "offset_y") offset
+    ∷ optional (codes "offset_z") offset
+    ∷ optional (codes "forward") forward
+    ∷ optional (codes "filesource_id") short
+    ∷ optional (codes "global_encoding") short
+    ∷ optional (codes "creation_doy") short
+    ∷ optional (codes "creation_year") short
+    ∷ optional (codes "system_id") (sized 0 32)
+    ∷ optional (codes "software_id") (sized 0 32)
+    ∷ optional (codes "where") text
     ∷ [])
 rules_of WritersText =
-    (record { name = codes "filename"; is_required = true; form = target }
-    ∷ record { name = codes "order"; is_required = false; form = text }
-    ∷ record { name = codes "precision"; is_required = false; form = whole 0 9 }
-    ∷ record { name = codes "delimiter"; is_required = false; form = sized 1 8 }
-    ∷ record { name = codes "quote_header"; is_required = false; form = truth }
-    ∷ record { name = codes "write_header"; is_required = false; form = truth }
-    ∷ record { name = codes "where"; is_required = false; form = text }
+    (required (codes "filename") target
+    ∷ optional (codes "order") columns
+    ∷ optional (codes "precision") (whole 0 9)
+    ∷ optional (codes "delimiter") (sized 1 8)
+    ∷ optional (codes "quote_header") truth
+    ∷ optional (codes "write_header") truth
+    ∷ optional (codes "where") text
     ∷ [])
 rules_of _ = []
 
-abbrev pub is_within : ℕ → ℕ → Option ℕ → Bool
-is_within low high None = false
-is_within low high (Some n) = nat_le low n && nat_le n high
+-- whether there is such a value and it passes a test
+abbrev pub passes : {A : Type 0} → (A → Bool) → Option A → Bool
+passes test None = false
+passes test (Some a) = test a
+
+abbrev pub is_within : ℕ → ℕ → ℕ → Bool
+is_within low high n = nat_le low n && nat_le n high
+
+abbrev pub is_between : ℤ → ℤ → ℤ → Bool
+is_between low high z = int_le low z && int_le z high
 
 abbrev pub has_size : ℕ → ℕ → List ℕ → Bool
-has_size low high bytes = nat_le low (length bytes) && nat_le (length bytes) high
+has_size low high bytes = is_within low high (length bytes)
 
-abbrev pub passes : (List ℕ → Bool) → Option (List ℕ) → Bool
-passes test None = false
-passes test (Some bytes) = test bytes
-
--- whether a value is one that an option of this form may hold
-abbrev pub fits : Form → Data → Bool
-fits (whole low high) d = is_within low high (whole_of d)
+-- whether a value is one that an option of these may hold
+abbrev pub fits : Allowed → Data → Bool
+fits (whole low high) d = passes (is_within low high) (whole_of d)
+fits (decimal low high) d = passes (is_between low high) (decimal_of d)
+fits format d = is_some (format_with d)
 fits truth d = is_some (truth_of d)
 fits text d = is_some (as_str d)
 fits (sized low high) d = passes (has_size low high) (as_str d)
+fits columns d = passes (λ t. is_some (columns_of t)) (as_str d)
+fits forward d = passes (λ t. is_some (forward_of t)) (as_str d)
 fits source d = passes is_source (as_str d)
 fits target d = passes is_target (as_str d)

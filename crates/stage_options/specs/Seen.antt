@@ -2,9 +2,10 @@
 use Rattle.std.specs.Prelude.{List, map}
 use Rattle.serde_json.specs.Data.{Data, string}
 use Rattle.serde_json.specs.View.{view}
-use Rattle.stage_options.specs.declared.rules.Form.{Form}
-use Rattle.stage_options.specs.declared.rules.Form.TheVariants as form
+use Rattle.stage_options.specs.declared.rules.Allowed.{Allowed}
+use Rattle.stage_options.specs.declared.rules.Allowed.TheVariants as allowed
 use Rattle.stage_options.specs.declared.rules.Rule.{Rule}
+use Rattle.stage_options.specs.declared.rules.Rule.TheVariants.{Required, Optional}
 use Rattle.stage_options.specs.declared.values.Given.{Given}
 use Rattle.stage_options.specs.declared.values.Given.TheVariants.{Name, Json}
 use Rattle.stage_options.specs.declared.role.Role.{Role}
@@ -12,16 +13,21 @@ use Rattle.stage_options.specs.declared.role.Role.TheVariants as role
 use Rattle.stage_options.specs.Roles as roles
 use Rattle.stage_options.specs.Rules as rules
 
-abbrev pub form_view : Form → rules.Form
-form_view (form.Whole low high) = rules.whole low high
-form_view form.Truth = rules.truth
-form_view form.Text = rules.text
-form_view (form.Sized low high) = rules.sized low high
-form_view form.Source = rules.source
-form_view form.Target = rules.target
+abbrev pub allowed_view : Allowed → rules.Allowed
+allowed_view (allowed.Whole low high) = rules.whole low high
+allowed_view (allowed.Decimal low high) = rules.decimal low high
+allowed_view allowed.Format = rules.format
+allowed_view allowed.Truth = rules.truth
+allowed_view allowed.Text = rules.text
+allowed_view (allowed.Sized low high) = rules.sized low high
+allowed_view allowed.Columns = rules.columns
+allowed_view allowed.Forward = rules.forward
+allowed_view allowed.Source = rules.source
+allowed_view allowed.Target = rules.target
 
 abbrev pub rule_view : Rule → rules.Rule
-rule_view r = record { name = r.name.now; is_required = r.is_required; form = form_view r.form }
+rule_view (Required name allowed) = rules.required name.now (allowed_view allowed)
+rule_view (Optional name allowed) = rules.optional name.now (allowed_view allowed)
 
 abbrev pub rules_view : List Rule → List rules.Rule
 rules_view rs = map rule_view rs

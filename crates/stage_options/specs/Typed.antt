@@ -1,38 +1,91 @@
 -- The typed options of a stage.
-use Rattle.std.specs.Prelude.{ℕ, Bool, true, false, ◌||◌, List, [], codes, bytes_eq, Option, Some, None, option_and_then, is_none}
+use Rattle.std.specs.Prelude.{ℕ, ℤ, pos, neg_ℤ, Bool, true, false, List, [], ◌∷◌, codes, Option, Some, None, option_and_then, is_none, if◌then◌else◌}
 use Rattle.std.specs.Option.{unwrap_or}
-use Rattle.std.specs.List.{list_all}
-use Rattle.serde_json.specs.Data.{Members}
-use Rattle.serde_json.specs.Find.{get_member}
+use Rattle.serde_json.specs.Data.{Data, Members}
+use Rattle.serde_json.specs.Find.{as_str, get_member}
+use Rattle.decimal_coords.specs.declared.grid.Scale.{Scale}
+use Rattle.las_header.specs.ScaleWords.{scale_of_nano}
+use Rattle.forward_rules.specs.declared.options.LasOpts.{LasOpts}
+use Rattle.option_texts.specs.declared.columns.NamedColumn.{NamedColumn}
+use Rattle.option_texts.specs.Columns.{columns_of}
+use Rattle.option_texts.specs.Forward.{forward_of}
 use Rattle.stage_names.specs.declared.kinds.KindName.{KindName}
 use Rattle.stage_names.specs.declared.kinds.KindName.TheVariants as kind
 use Rattle.stage_options.specs.declared.options.Options.{Options}
-use Rattle.stage_options.specs.declared.options.Options.TheVariants.{ReadersLas, FiltersHead, FiltersMerge, WritersText}
-use Rattle.stage_options.specs.Values.{whole_of}
-use Rattle.stage_options.specs.Rules.{Rule, rules_of}
+use Rattle.stage_options.specs.declared.options.Options.TheVariants.{ReadersLas, FiltersHead, FiltersMerge, WritersLas, WritersText}
+use Rattle.stage_options.specs.declared.options.TextOptions.{TextOptions}
+use Rattle.stage_options.specs.Values.{whole_of, format_with, decimal_of, truth_of}
+use Rattle.stage_options.specs.Rules.{is_within, is_between, has_size}
 
--- the whole number that an option is, where it is one
-abbrev pub whole_in : List ℕ → Members → Option ℕ
-whole_in name ms = option_and_then whole_of (get_member name ms)
+-- what an option is by a reading of its value, where the value has it
+abbrev pub option_in : {A : Type 0} → (Data → Option A) → List ℕ → Members → Option A
+option_in read name ms = option_and_then read (get_member name ms)
+
+-- the same where it passes a test
+abbrev pub where_it : {A : Type 0} → (A → Bool) → A → Option A
+where_it test a = if test a then Some a else None
+
+abbrev pub whole_in : ℕ → ℕ → List ℕ → Members → Option ℕ
+whole_in low high name ms = option_and_then (where_it (is_within low high)) (option_in whole_of name ms)
+
+abbrev pub text_in : ℕ → ℕ → List ℕ → Members → Option (List ℕ)
+text_in low high name ms = option_and_then (where_it (has_size low high)) (option_in as_str name ms)
+
+abbrev pub scale_in : List ℕ → Members → Option Scale
+scale_in name ms = option_and_then scale_of_nano (option_in decimal_of name ms)
+
+abbrev pub offset_in : List ℕ → Members → Option ℤ
+offset_in name ms = option_and_then (where_it (is_between (neg_ℤ (pos 999999999999999999)) (pos 999999999999999999))) (option_in decimal_of name ms)
+
+-- the columns of a text file
+abbrev pub columns_in : Members → List NamedColumn
+columns_in ms = unwrap_or (columns_of (unwrap_or (option_in as_str (codes "order") ms) (codes "X,Y,Z"))) []
+
+-- the names of what is forwarded
+abbrev pub forward_in : Members → List (List ℕ)
+forward_in ms = unwrap_or (option_and_then forward_of (option_in as_str (codes "forward") ms)) []
+
+-- what a LAS writer is told of its file
+abbrev pub las_fields_in : Members → LasOpts
+las_fields_in ms = record {
+  format = option_in format_with (codes "dataformat_id") ms;
+  minor = whole_in 4 4 (codes "minor_version") ms;
+  scale = scale_in (codes "scale_x") ms ∷ scale_in (codes "scale_y") ms ∷ scale_in (codes "scale_z") ms ∷ [];
+  offset = offset_in (codes "offset_x") ms ∷ offset_in (codes "offset_y") ms ∷ offset_in (codes "offset_z") ms ∷ [];
+  forward = forward_in ms;
+  source_id = whole_in 0 65535 (codes "filesource_id") ms;
+  encoding = whole_in 0 65535 (codes "global_encoding") ms;
+  day = whole_in 0 65535 (codes "creation_doy") ms;
+  year = whole_in 0 65535 (codes "creation_year") ms;
+  system = text_in 0 32 (codes "system_id") ms;
+  software = text_in 0 32 (codes "software_id") ms;
+}
+
+-- what a text writer is told of its file
+abbrev pub text_options_in : List ℕ → Members → TextOptions
+text_options_in filename ms = record {
+  filename = filename;
+  columns = columns_in ms;
+  precision = unwrap_or (whole_in 0 9 (codes "precision") ms) 3;
+  delimiter = unwrap_or (text_in 1 8 (codes "delimiter") ms) (codes ",");
+  quote_header = unwrap_or (option_in truth_of (codes "quote_header") ms) true;
+  write_header = unwrap_or (option_in truth_of (codes "write_header") ms) true;
+}
 
 -- the options that a run heeds, with their defaults
 abbrev pub typed_of : KindName → Option (List ℕ) → Members → Option Options
 typed_of kind.ReadersLas filename ms = Some (ReadersLas (record { filename = unwrap_or filename [] }))
-typed_of kind.FiltersHead filename ms = Some (FiltersHead (record { count = unwrap_or (whole_in (codes "count") ms) 10 }))
+typed_of kind.FiltersHead filename ms = Some (FiltersHead (record { count = unwrap_or (option_in whole_of (codes "count") ms) 10 }))
 typed_of kind.FiltersMerge filename ms = Some (FiltersMerge (record {}))
-typed_of kind.WritersText filename ms = Some (WritersText (record { filename = unwrap_or filename [] }))
+typed_of kind.WritersLas filename ms = Some (WritersLas (record { filename = unwrap_or filename []; fields = las_fields_in ms }))
+typed_of kind.WritersText filename ms = Some (WritersText (text_options_in (unwrap_or filename []) ms))
 typed_of _ filename ms = None
-
--- ---- what is built
-
--- none of these options is there, but for the file name
-abbrev pub has_none_of : List Rule → Members → Bool
-has_none_of rs ms = list_all (λ r. bytes_eq r.name (codes "filename") || is_none (get_member r.name ms)) rs
 
 -- whether a stage of this type, with these options beside its file name, is built
 abbrev pub is_built : KindName → Members → Bool
 is_built kind.ReadersLas ms = true
 is_built kind.FiltersHead ms = is_none (get_member (codes "where") ms)
 is_built kind.FiltersMerge ms = true
-is_built kind.WritersText ms = has_none_of (rules_of kind.WritersText) ms
+is_built kind.WritersLas ms = is_none (get_member (codes "where") ms)
+is_built kind.WritersText ms = is_none (get_member (codes "where") ms)
 is_built _ ms = false

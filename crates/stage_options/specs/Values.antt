@@ -1,10 +1,14 @@
 -- What a value of JSON is as an option.
-use Rattle.std.specs.Prelude.{ℕ, ◌&&◌, ◌==◌, nat_le, nat_lt, Bool, true, false, not, List, length, codes, bytes_eq, Option, Some, None, option_and_then, if◌then◌else◌}
+use Rattle.std.specs.Prelude.{ℕ, ℤ, pos, ◌*ℤ◌, unsigned_abs, ◌&&◌, ◌==◌, nat_le, nat_lt, Bool, true, false, not, List, length, codes, bytes_eq, Option, Some, None, option_and_then, if◌then◌else◌}
 use Rattle.std.specs.List.{list_any, ends_with}
+use Rattle.std.specs.Result.{result_ok}
 use Rattle.std.specs.Str.{all_ascii_digits}
 use Rattle.std.specs.Str.Parse.{digits_value}
 use Rattle.serde_json.specs.Data.{Data, boolean, number, string}
-use Rattle.serde_json.specs.Find.{as_u64}
+use Rattle.serde_json.specs.Find.{as_u64, as_i64}
+use Rattle.decimal_coords.specs.DecimalOfText.{decimal_of_text}
+use Rattle.las_header.specs.declared.form.Format.{Format}
+use Rattle.las_header.specs.Formats.{format_of}
 
 -- ---- whole numbers below 2 ^ 32
 
@@ -19,6 +23,21 @@ abbrev pub whole_of : Data → Option ℕ
 whole_of (number n) = option_and_then small (as_u64 n)
 whole_of (string text) = text_whole text
 whole_of _ = None
+
+-- a point data record format, by its number
+abbrev pub format_with : Data → Option Format
+format_with d = option_and_then format_of (whole_of d)
+
+-- ---- decimals, in nanounits
+
+-- a whole number of at most 4 * 10 ^ 9 in size
+abbrev pub whole_nano : ℤ → Option ℤ
+whole_nano z = if nat_le (unsigned_abs z) 4000000000 then Some (z *ℤ pos 1000000000) else None
+
+abbrev pub decimal_of : Data → Option ℤ
+decimal_of (number n) = option_and_then whole_nano (as_i64 n)
+decimal_of (string text) = result_ok (decimal_of_text text)
+decimal_of _ = None
 
 -- ---- truth values
 

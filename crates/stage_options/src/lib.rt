@@ -1,8 +1,11 @@
 //! The options of a stage: which names its type has, which values they may hold, and their defaults.
 #![tactic(auto)]
 
+mod binding;
+mod bounded;
 mod built;
 mod laws;
+mod members;
 mod names;
 mod options;
 mod outputs;
@@ -15,10 +18,14 @@ mod typing;
 mod values;
 mod walks;
 
+pub use binding::bind;
+pub use bounded::{Delimiter, LasFields, Places};
 pub use built::is_built;
 pub use laws::roles_follow_types;
 pub use names::{SourceName, TargetName};
-pub use options::{HeadOptions, LasReaderOptions, MergeOptions, Options, TextOptions};
+pub use options::{
+    HeadOptions, LasReaderOptions, LasWriterOptions, MergeOptions, Options, TextOptions,
+};
 pub use outputs::first_same_output;
 pub use role::Role;
 pub use stage::StageSpec;

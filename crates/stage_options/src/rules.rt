@@ -2,15 +2,21 @@
 
 ghost use Rattle.std.specs.Prelude.{◌≡◌};
 ghost use Rattle.stage_options.specs.Rules.{rules_of};
-ghost use Rattle.stage_options.specs.Seen.{rules_view};
+ghost use Rattle.stage_options.specs.Seen.{allowed_view, rule_view, rules_view};
 
 use stage_names::KindName;
 
 /// What an option may hold.
 #[derive(Clone, Copy, Drop)]
-pub(crate) enum Form {
+pub(crate) enum Allowed {
     /// A whole number from the first to the second.
     Whole(u32, u32),
+
+    /// A decimal from the first to the second, in nanounits.
+    Decimal(i64, i64),
+
+    /// The number of a point data record format.
+    Format,
 
     /// A truth value.
     Truth,
@@ -21,6 +27,12 @@ pub(crate) enum Form {
     /// A text of at least so many bytes and at most so many.
     Sized(usize, usize),
 
+    /// The columns of a text file.
+    Columns,
+
+    /// The names of what is forwarded.
+    Forward,
+
     /// The name of a file that is read.
     Source,
 
@@ -28,77 +40,91 @@ pub(crate) enum Form {
     Target,
 }
 
-/// One option of a type.
+/// One option of a type, by its name and what it may hold.
 #[derive(Clone, Copy, Drop)]
-pub(crate) struct Rule {
-    /// Its name.
-    pub(crate) name: &'static str,
+pub(crate) enum Rule {
+    /// It has to be there.
+    Required(&'static str, Allowed),
 
-    /// Whether it has to be there.
-    pub(crate) is_required: bool,
-
-    /// What it may hold.
-    pub(crate) form: Form,
+    /// It may be there.
+    Optional(&'static str, Allowed),
 }
 
+impl Rule {
+    /// Its name.
+    pub(crate) fn name(&self) -> &'static str
+        ensures { result.now ≡ (rule_view self.now).name }
+    {
+        match self {
+            Rule::Required(name, _) | Rule::Optional(name, _) => name,
+        }
+    }
+
+    /// Whether it has to be there.
+    pub(crate) fn is_required(&self) -> bool
+        ensures { result ≡ (rule_view self.now).is_required }
+    {
+        matches!(self, Rule::Required(_, _))
+    }
+
+    /// What it may hold.
+    pub(crate) fn allowed(&self) -> Allowed
+        ensures { allowed_view result ≡ (rule_view self.now).allowed }
+    {
+        match self {
+            Rule::Required(_, allowed) | Rule::Optional(_, allowed) => *allowed,
+        }
+    }
+}
+
+/// A scale factor, from 10^-9 to 1.
+const SCALE: Allowed = Allowed::Decimal(1, 1_000_000_000);
+
+/// An offset, below 10^9 in size.
+const OFFSET: Allowed = Allowed::Decimal(-999_999_999_999_999_999, 999_999_999_999_999_999);
+
+/// A field of 16 bits.
+const SHORT: Allowed = Allowed::Whole(0, 65_535);
+
 /// The options of `readers.las`.
-const READERS_LAS: &[Rule] = &[Rule {
-    name: "filename",
-    is_required: true,
-    form: Form::Source,
-}];
+const READERS_LAS: &[Rule] = &[Rule::Required("filename", Allowed::Source)];
 
 /// The options of `filters.head`.
 const FILTERS_HEAD: &[Rule] = &[
-    Rule {
-        name: "count",
-        is_required: false,
-        form: Form::Whole(0, 4294967295),
-    },
-    Rule {
-        name: "where",
-        is_required: false,
-        form: Form::Text,
-    },
+    Rule::Optional("count", Allowed::Whole(0, 4_294_967_295)),
+    Rule::Optional("where", Allowed::Text),
+];
+
+/// The options of `writers.las`.
+const WRITERS_LAS: &[Rule] = &[
+    Rule::Required("filename", Allowed::Target),
+    Rule::Optional("dataformat_id", Allowed::Format),
+    Rule::Optional("minor_version", Allowed::Whole(4, 4)),
+    Rule::Optional("scale_x", SCALE),
+    Rule::Optional("scale_y", SCALE),
+    Rule::Optional("scale_z", SCALE),
+    Rule::Optional("offset_x", OFFSET),
+    Rule::Optional("offset_y", OFFSET),
+    Rule::Optional("offset_z", OFFSET),
+    Rule::Optional("forward", Allowed::Forward),
+    Rule::Optional("filesource_id", SHORT),
+    Rule::Optional("global_encoding", SHORT),
+    Rule::Optional("creation_doy", SHORT),
+    Rule::Optional("creation_year", SHORT),
+    Rule::Optional("system_id", Allowed::Sized(0, 32)),
+    Rule::Optional("software_id", Allowed::Sized(0, 32)),
+    Rule::Optional("where", Allowed::Text),
 ];
 
 /// The options of `writers.text`.
 const WRITERS_TEXT: &[Rule] = &[
-    Rule {
-        name: "filename",
-        is_required: true,
-        form: Form::Target,
-    },
-    Rule {
-        name: "order",
-        is_required: false,
-        form: Form::Text,
-    },
-    Rule {
-        name: "precision",
-        is_required: false,
-        form: Form::Whole(0, 9),
-    },
-    Rule {
-        name: "delimiter",
-        is_required: false,
-        form: Form::Sized(1, 8),
-    },
-    Rule {
-        name: "quote_header",
-        is_required: false,
-        form: Form::Truth,
-    },
-    Rule {
-        name: "write_header",
-        is_required: false,
-        form: Form::Truth,
-    },
-    Rule {
-        name: "where",
-        is_required: false,
-        form: Form::Text,
-    },
+    Rule::Required("filename", Allowed::Target),
+    Rule::Optional("order", Allowed::Columns),
+    Rule::Optional("precision", Allowed::Whole(0, 9)),
+    Rule::Optional("delimiter", Allowed::Sized(1, 8)),
+    Rule::Optional("quote_header", Allowed::Truth),
+    Rule::Optional("write_header", Allowed::Truth),
+    Rule::Optional("where", Allowed::Text),
 ];
 
 /// The options of a type, in the order in which they are looked at. A merge has none, and types that aren't built have none yet.
@@ -108,6 +134,7 @@ pub(crate) fn rules(kind: KindName) -> &'static [Rule]
     match kind {
         KindName::ReadersLas => READERS_LAS,
         KindName::FiltersHead => FILTERS_HEAD,
+        KindName::WritersLas => WRITERS_LAS,
         KindName::WritersText => WRITERS_TEXT,
         _ => &[],
     }

@@ -4,26 +4,18 @@ ghost use Rattle.std.specs.Prelude.{◌≡◌, ℕ, List, [], Option, option_map
 ghost use Rattle.std.specs.Option.{unwrap_or};
 ghost use Rattle.serde_json.specs.Data.{Members};
 ghost use Rattle.serde_json.specs.View.{members_view};
-ghost use Rattle.stage_options.specs.Typed.{whole_in, typed_of, is_built};
+ghost use Rattle.stage_options.specs.Typed.{typed_of, is_built};
 ghost use Rattle.stage_options.specs.Faults.{first_fault, IsFaultOf};
 ghost use Rattle.stage_options.specs.Values.{is_source, is_target};
 
+use crate::members::{las_fields, text_options, whole_or};
 use crate::names::{SourceName, TargetName};
-use crate::options::{HeadOptions, LasReaderOptions, MergeOptions, Options, TextOptions};
+use crate::options::{HeadOptions, LasReaderOptions, LasWriterOptions, MergeOptions, Options};
 use crate::rules::rules;
-use crate::values::json_whole;
 use crate::walks::{name_of, refuse};
-use pipeline_json::member;
 use serde_json::{Map, Value};
 use stage_names::{KindName, PipeErr};
 use std::alloc::{AllocError, Global};
-
-/// The whole number that an option is.
-fn whole_in(options: &Map<String, Value>, name: &str) -> Option<u32>
-    ensures { result ≡ whole_in name.now (members_view options.now.entries) }
-{
-    json_whole(member(options, name)?)
-}
 
 /// The options of a reader.
 fn readers_las(alloc: Global, filename: Option<&str>) -> Result<Options, AllocError>
@@ -41,19 +33,39 @@ fn filters_head(options: &Map<String, Value>) -> Options
     ensures { (filename : Option (List ℕ)) → Some result ≡ typed_of KindName.FiltersHead filename (members_view options.now.entries) }
 {
     Options::FiltersHead(HeadOptions {
-        count: whole_in(options, "count").unwrap_or(10),
+        count: whole_or(options, "count", 10),
     })
 }
 
-/// The options of a writer of text.
-fn writers_text(alloc: Global, filename: Option<&str>) -> Result<Options, AllocError>
+/// The options of a writer of a LAS file.
+fn writers_las(
+    alloc: Global,
+    filename: Option<&str>,
+    options: &Map<String, Value>,
+) -> Result<Options, AllocError>
     requires { IsTrue (is_target (unwrap_or (option_map (λ s. s.now) filename) [])) }
-    ensures { (options : Members) → IfOk result (λ o. Some o ≡ typed_of KindName.WritersText (option_map (λ s. s.now) filename.entry) options) }
+    ensures { IfOk result (λ o. Some o ≡ typed_of KindName.WritersLas (option_map (λ s. s.now) filename.entry) (members_view options.now.entries)) }
 {
     let name = name_of(alloc, filename.unwrap_or(""))?;
-    Ok(Options::WritersText(TextOptions {
+    let fields = las_fields(alloc, options)?;
+    Ok(Options::WritersLas(LasWriterOptions {
         filename: TargetName::new(name),
+        fields,
     }))
+}
+
+/// The options of a writer of text.
+fn writers_text(
+    alloc: Global,
+    filename: Option<&str>,
+    options: &Map<String, Value>,
+) -> Result<Options, AllocError>
+    requires { IsTrue (is_target (unwrap_or (option_map (λ s. s.now) filename) [])) }
+    ensures { IfOk result (λ o. Some o ≡ typed_of KindName.WritersText (option_map (λ s. s.now) filename.entry) (members_view options.now.entries)) }
+{
+    let name = name_of(alloc, filename.unwrap_or(""))?;
+    let text = text_options(alloc, TargetName::new(name), options)?;
+    Ok(Options::WritersText(text))
 }
 
 /// The options of stage i, of this type, with this file name and these other members, or their first fault. The other
@@ -75,7 +87,8 @@ pub(crate) fn type_options(
         KindName::ReadersLas => Ok(readers_las(alloc, filename)?),
         KindName::FiltersHead => Ok(filters_head(options)),
         KindName::FiltersMerge => Ok(Options::FiltersMerge(MergeOptions {})),
-        KindName::WritersText => Ok(writers_text(alloc, filename)?),
+        KindName::WritersLas => Ok(writers_las(alloc, filename, options)?),
+        KindName::WritersText => Ok(writers_text(alloc, filename, options)?),
         _ => unreachable!(),
     }
 }

@@ -1,17 +1,26 @@
 //! The values of options.
 
 ghost use Rattle.std.specs.Prelude.{◌≡◌, option_map};
+ghost use Rattle.serde_json.specs.Data.{number, string};
 ghost use Rattle.serde_json.specs.Find.{as_str};
-ghost use Rattle.serde_json.specs.View.{view, members_view};
-ghost use Rattle.stage_options.specs.Values.{text_whole, whole_of, text_truth, truth_of, is_part, is_source, is_target};
+ghost use Rattle.serde_json.specs.View.{view, members_view, number_view};
+ghost use Rattle.stage_options.specs.Values.{text_whole, whole_of, format_with, whole_nano, decimal_of, text_truth, truth_of, is_part, is_source, is_target};
 ghost use Rattle.stage_options.specs.Faults.{value_of};
 ghost use Rattle.stage_options.specs.Seen.{given_view};
 
+use decimal_coords::parse_decimal;
+use las_header::Format;
 use pipeline_json::member;
-use serde_json::{Map, Value};
+use serde_json::{Map, Number, Value};
 
 /// The most digits of a whole number that is a text.
 const MOST_DIGITS: usize = 10;
+
+/// The greatest size of a whole number that is a decimal.
+const MOST_WHOLE: u64 = 4_000_000_000;
+
+/// Nanounits in a unit.
+const NANO: i64 = 1_000_000_000;
 
 /// What an option is given.
 #[derive(Clone, Copy)]
@@ -54,25 +63,29 @@ fn text_whole(text: &str) -> Option<u32>
     text.parse::<u32>().ok()
 }
 
-/// The whole number that a value of JSON is.
-pub(crate) fn json_whole(value: &Value) -> Option<u32>
-    ensures { result ≡ whole_of (view value.now) }
+/// The whole number that a number of JSON is.
+fn number_whole(json: &Number) -> Option<u32>
+    ensures { result ≡ whole_of (number (number_view json.now)) }
 {
-    match value {
-        Value::Number(number) => u32::try_from(number.as_u64()?).ok(),
-        Value::String(text) => text_whole(text.as_str()),
-        _ => None,
+    u32::try_from(json.as_u64()?).ok()
+}
+
+/// A whole number in nanounits, where it is at most 4 * 10^9 in size.
+fn whole_nano(whole: i64) -> Option<i64>
+    ensures { result ≡ whole_nano whole }
+{
+    if whole.unsigned_abs() <= MOST_WHOLE {
+        Some(whole * NANO)
+    } else {
+        None
     }
 }
 
-/// The whole number that is given.
-pub(crate) fn whole_of(given: Given<'_>) -> Option<u32>
-    ensures { result ≡ whole_of (given_view given.entry) }
+/// The decimal that a text writes, in nanounits.
+fn text_decimal(text: &str) -> Option<i64>
+    ensures { result ≡ decimal_of (string text.now) }
 {
-    match given {
-        Given::Name(text) => text_whole(text),
-        Given::Json(value) => json_whole(value),
-    }
+    parse_decimal(text).ok()
 }
 
 /// The truth value that a text is.
@@ -86,34 +99,58 @@ fn text_truth(text: &str) -> Option<bool>
     }
 }
 
-/// The truth value that a value of JSON is.
-fn json_truth(value: &Value) -> Option<bool>
-    ensures { result ≡ truth_of (view value.now) }
-{
-    match value {
-        Value::Bool(truth) => Some(*truth),
-        Value::String(text) => text_truth(text.as_str()),
-        _ => None,
+impl<'a> Given<'a> {
+    /// The whole number that is given.
+    pub(crate) fn whole(self) -> Option<u32>
+        ensures { result ≡ whole_of (given_view self.entry) }
+    {
+        match self {
+            Given::Name(text) => text_whole(text),
+            Given::Json(Value::Number(number)) => number_whole(number),
+            Given::Json(Value::String(text)) => text_whole(text.as_str()),
+            Given::Json(_) => None,
+        }
     }
-}
 
-/// The truth value that is given.
-pub(crate) fn truth_of(given: Given<'_>) -> Option<bool>
-    ensures { result ≡ truth_of (given_view given.entry) }
-{
-    match given {
-        Given::Name(text) => text_truth(text),
-        Given::Json(value) => json_truth(value),
+    /// The point data record format that is given by its number.
+    pub(crate) fn format(self) -> Option<Format>
+        ensures { result ≡ format_with (given_view self.entry) }
+    {
+        Format::of_number(u8::try_from(self.whole()?).ok()?)
     }
-}
 
-/// The text that is given.
-pub(crate) fn text_of<'a>(given: Given<'a>) -> Option<&'a str>
-    ensures { option_map (λ s. s.now) result ≡ as_str (given_view given.entry) }
-{
-    match given {
-        Given::Name(text) => Some(text),
-        Given::Json(value) => value.as_str(),
+    /// The decimal that is given, in nanounits.
+    pub(crate) fn decimal(self) -> Option<i64>
+        ensures { result ≡ decimal_of (given_view self.entry) }
+    {
+        match self {
+            Given::Name(text) => text_decimal(text),
+            Given::Json(Value::Number(number)) => whole_nano(number.as_i64()?),
+            Given::Json(Value::String(text)) => text_decimal(text.as_str()),
+            Given::Json(_) => None,
+        }
+    }
+
+    /// The truth value that is given.
+    pub(crate) fn truth(self) -> Option<bool>
+        ensures { result ≡ truth_of (given_view self.entry) }
+    {
+        match self {
+            Given::Name(text) => text_truth(text),
+            Given::Json(Value::Bool(truth)) => Some(*truth),
+            Given::Json(Value::String(text)) => text_truth(text.as_str()),
+            Given::Json(_) => None,
+        }
+    }
+
+    /// The text that is given.
+    pub(crate) fn text(self) -> Option<&'a str>
+        ensures { option_map (λ s. s.now) result ≡ as_str (given_view self.entry) }
+    {
+        match self {
+            Given::Name(text) => Some(text),
+            Given::Json(value) => value.as_str(),
+        }
     }
 }
 

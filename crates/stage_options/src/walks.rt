@@ -5,26 +5,31 @@ ghost use Rattle.std.specs.BTreeMap.{keys, IsOrdered};
 ghost use Rattle.std.specs.String.{string_cmp};
 ghost use Rattle.std.specs.List.{filter};
 ghost use Rattle.serde_json.specs.View.{members_view};
-ghost use Rattle.stage_options.specs.Rules.{is_within, has_size, fits};
+ghost use Rattle.stage_options.specs.Rules.{is_within, is_between, has_size, fits};
 ghost use Rattle.stage_options.specs.Faults.{value_of, names_of, lesser, least, is_known, first_unknown, first_missing, is_wrong, first_wrong, fault_by, IsFaultOf};
-ghost use Rattle.stage_options.specs.Seen.{form_view, rules_view, given_view};
+ghost use Rattle.stage_options.specs.Seen.{allowed_view, rule_view, rules_view, given_view};
 
-use crate::rules::{Form, Rule};
-use crate::values::{Given, is_source, is_target, text_of, truth_of, value_of, whole_of};
+use crate::rules::{Allowed, Rule};
+use crate::values::{Given, is_source, is_target, value_of};
 use file_devices::Name;
+use option_texts::{is_columns, is_forward};
 use serde_json::{Map, Value};
 use stage_names::{PipeErr, PipeFault};
 use std::alloc::{AllocError, Global};
 use std::cmp::Ordering;
 
-/// Whether a whole number is there and of this range.
-fn is_within(low: u32, high: u32, number: Option<u32>) -> bool
+/// Whether a whole number is of this range.
+fn is_within(low: u32, high: u32, number: u32) -> bool
     ensures { result ≡ is_within low high number }
 {
-    match number {
-        Some(n) => low <= n && n <= high,
-        None => false,
-    }
+    low <= number && number <= high
+}
+
+/// Whether a decimal is of this range.
+fn is_between(low: i64, high: i64, nano: i64) -> bool
+    ensures { result ≡ is_between low high nano }
+{
+    low <= nano && nano <= high
 }
 
 /// Whether a text has at least so many bytes and at most so many.
@@ -34,44 +39,39 @@ fn has_size(low: usize, high: usize, text: &str) -> bool
     low <= text.len() && text.len() <= high
 }
 
-/// Whether an option of this form may hold a value.
-fn fits(form: Form, given: Given<'_>) -> bool
-    ensures { result ≡ fits (form_view form) (given_view given.entry) }
+/// Whether an option may hold a value.
+fn fits(allowed: Allowed, given: Given<'_>) -> bool
+    ensures { result ≡ fits (allowed_view allowed) (given_view given.entry) }
 {
-    match form {
-        Form::Whole(low, high) => is_within(low, high, whole_of(given)),
-        Form::Truth => truth_of(given).is_some(),
-        Form::Text => text_of(given).is_some(),
-        Form::Sized(low, high) => match text_of(given) {
-            Some(text) => has_size(low, high, text),
-            None => false,
-        },
-        Form::Source => match text_of(given) {
-            Some(name) => is_source(name),
-            None => false,
-        },
-        Form::Target => match text_of(given) {
-            Some(name) => is_target(name),
-            None => false,
-        },
+    match allowed {
+        Allowed::Whole(low, high) => given.whole().is_some_and(|n| is_within(low, high, n)),
+        Allowed::Decimal(low, high) => given.decimal().is_some_and(|n| is_between(low, high, n)),
+        Allowed::Format => given.format().is_some(),
+        Allowed::Truth => given.truth().is_some(),
+        Allowed::Text => given.text().is_some(),
+        Allowed::Sized(low, high) => given.text().is_some_and(|text| has_size(low, high, text)),
+        Allowed::Columns => given.text().is_some_and(|text| is_columns(text)),
+        Allowed::Forward => given.text().is_some_and(|text| is_forward(text)),
+        Allowed::Source => given.text().is_some_and(|name| is_source(name)),
+        Allowed::Target => given.text().is_some_and(|name| is_target(name)),
     }
 }
 
 /// Whether an option is there with a value that it may not hold.
 fn is_wrong(rule: &Rule, filename: Option<&str>, options: &Map<String, Value>) -> bool
-    ensures { result ≡ is_wrong (form_view rule.now.form) (value_of rule.now.name.now (option_map (λ s. s.now) filename.entry) (members_view options.now.entries)) }
+    ensures { result ≡ is_wrong ((rule_view rule.now).allowed) (value_of (rule_view rule.now).name (option_map (λ s. s.now) filename.entry) (members_view options.now.entries)) }
 {
-    match value_of(filename, options, rule.name) {
-        Some(value) => !fits(rule.form, value),
+    match value_of(filename, options, rule.name()) {
+        Some(value) => !fits(rule.allowed(), value),
         None => false,
     }
 }
 
 /// Whether an option that has to be there isn't.
 fn is_missing(rule: &Rule, filename: Option<&str>, options: &Map<String, Value>) -> bool
-    ensures { result ≡ (rule.now.is_required && is_none (value_of rule.now.name.now (option_map (λ s. s.now) filename.entry) (members_view options.now.entries))) }
+    ensures { result ≡ ((rule_view rule.now).is_required && is_none (value_of (rule_view rule.now).name (option_map (λ s. s.now) filename.entry) (members_view options.now.entries))) }
 {
-    rule.is_required && value_of(filename, options, rule.name).is_none()
+    rule.is_required() && value_of(filename, options, rule.name()).is_none()
 }
 
 /// Whether one of the options has this name.
@@ -79,7 +79,7 @@ fn is_known(table: &[Rule], name: &str) -> bool
     ensures { result ≡ is_known (rules_view table.now) name.now }
 {
     for rule in table {
-        if rule.name == name {
+        if rule.name() == name {
             return true;
         }
     }
@@ -96,7 +96,7 @@ fn first_missing(
 {
     for rule in table {
         if is_missing(rule, filename, options) {
-            return Some(rule.name);
+            return Some(rule.name());
         }
     }
     None
@@ -112,7 +112,7 @@ fn first_wrong(
 {
     for rule in table {
         if is_wrong(rule, filename, options) {
-            return Some(rule.name);
+            return Some(rule.name());
         }
     }
     None

@@ -1,6 +1,6 @@
 //! Queues of each capacity.
 
-use chunk_queue::{Kind, PlainQueue, Tag};
+use chunk_queue::{ItemKind, PlainQueue, Tag};
 use cloud_points::{Body, Chunk, Item, Point, Spread};
 
 /// The numbers of items that go round three slots, and how many points each brings.
@@ -62,11 +62,11 @@ fn rounds(queue: &mut PlainQueue, no: u64, count: usize) -> Option<(bool, Tag, u
     let given = spread_of(count);
     let points = Tag {
         no,
-        kind: Kind::Points,
+        kind: ItemKind::Points,
     };
     let end = Tag {
         no,
-        kind: Kind::EndView,
+        kind: ItemKind::EndView,
     };
     if given.is_empty()
         || !queue.push_from(points, given.as_slice())
@@ -78,7 +78,7 @@ fn rounds(queue: &mut PlainQueue, no: u64, count: usize) -> Option<(bool, Tag, u
     let tag = queue.pop_into(&mut into)?;
     let came = into.len();
     let last = queue.pop_into(&mut into)?;
-    Some((last.kind == Kind::EndView, tag, came))
+    Some((last.kind == ItemKind::EndView, tag, came))
 }
 
 #[test]
@@ -89,7 +89,7 @@ fn parts_go_round_the_slots(rt: HostRuntime) {
         for (no, count) in COUNTS {
             let tag = Tag {
                 no,
-                kind: Kind::Points,
+                kind: ItemKind::Points,
             };
             assert_eq!(rt; rounds(&mut queue, no, count), Some((true, tag, count)));
         }

@@ -1,2 +1,6 @@
-pub mod LineLemmas
+pub mod Lists
+pub mod Hex
+pub mod Headings
+pub mod Putting
 pub mod Held
+pub mod Whole

@@ -1,22 +1,41 @@
 -- The file of a text writer.
-use Rattle.std.specs.Prelude.{ℕ, List, ◌++◌, codes, Bool, true, Option, Some, None}
-use Rattle.std.specs.List.{flat_map}
+use Rattle.std.specs.Prelude.{ℕ, ◌≤◌, List, [], ◌∷◌, ◌++◌, length, codes, Bool, true, Option, Some, None, if◌then◌else◌}
+use Rattle.std.specs.List.{flat_map, All}
 use Rattle.std.specs.Str.{bytes_eq}
 use Rattle.cloud_points.specs.declared.point.Point.{Point}
-use Rattle.decimal_coords.specs.Fixed.{fixed_text}
+use Rattle.text_writer.specs.declared.form.Column.{Column}
+use Rattle.text_writer.specs.declared.form.TextForm.{TextForm}
+use Rattle.text_writer.specs.Cells.{cell}
 
--- the names of the columns
-abbrev pub header_line : List ℕ
-header_line = codes "\"X\",\"Y\",\"Z\"\n"
+-- a form that can be written: 64 columns at most, of 9 places at most, and a delimiter of 8 bytes at most
+pub record IsTextForm (form : TextForm) : Type 0 where
+  pub columns : length form.columns ≤ 64
+  pub delimiter : length form.delimiter ≤ 8
+  pub places : All (λ (c : Column). c.places ≤ 9) form.columns
 
--- a point's coordinates with three places
-abbrev pub text_line : Point → List ℕ
-text_line p = fixed_text p.x 3 ++ codes "," ++ fixed_text p.y 3 ++ codes "," ++ fixed_text p.z 3 ++ codes "\n"
+-- the texts of the columns with the delimiter between them
+abbrev pub joined : (delimiter : List ℕ) (text : Column → List ℕ) (columns : List Column) → List ℕ
+joined delimiter text [] = []
+joined delimiter text (c ∷ cs) = text c ++ flat_map (λ d. delimiter ++ text d) cs
 
-abbrev pub text_output : List Point → List ℕ
-text_output points = header_line ++ flat_map text_line points
+-- a column's name in the header line
+abbrev pub heading : (is_quoted : Bool) (name : List ℕ) → List ℕ
+heading is_quoted name = if is_quoted then codes "\"" ++ name ++ codes "\"" else name
+
+-- the line with the names of the columns, where there is one
+abbrev pub header_line : TextForm → List ℕ
+header_line form =
+    if form.write_header then joined form.delimiter (λ c. heading form.quote_header c.name) form.columns ++ codes "\n"
+    else []
+
+-- a point's line
+abbrev pub text_line : TextForm → Point → List ℕ
+text_line form p = joined form.delimiter (cell p) form.columns ++ codes "\n"
+
+abbrev pub text_output : TextForm → List Point → List ℕ
+text_output form points = header_line form ++ flat_map (text_line form) points
 
 -- a sink that tells its bytes holds the text of these points
-abbrev pub holds_text : Option (List ℕ) → List Point → Bool
-holds_text None points = true
-holds_text (Some bytes) points = bytes_eq bytes (text_output points)
+abbrev pub holds_text : Option (List ℕ) → TextForm → List Point → Bool
+holds_text None form points = true
+holds_text (Some bytes) form points = bytes_eq bytes (text_output form points)

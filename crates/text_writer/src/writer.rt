@@ -1,61 +1,79 @@
 //! The writer.
 
-ghost use Rattle.std.specs.Prelude.{◌≡◌, ◌+◌, ◌≤◌, ◌++◌, ◌∷◌, [], List, Some, true, length, take, drop, IfOk, IfErr, OnOk, OnErr};
+ghost use Rattle.std.specs.Prelude.{◌≡◌, ◌+◌, ◌-◌, ◌*◌, ◌<◌, ◌≤◌, ◌++◌, [], List, Some, true, length, vec_len, IfOk, IfErr, OnOk, OnErr};
 ghost use Rattle.std.specs.List.{flat_map};
 ghost use Rattle.cloud_points.specs.declared.point.Point.{Point};
-ghost use Rattle.decimal_coords.specs.Fixed.{fixed_text};
 ghost use Rattle.file_devices.specs.Counts.{HasCause, Rose};
 ghost use Rattle.file_devices.specs.Content.{Appends, AppendsPart};
 ghost use Rattle.file_devices.specs.Told.{IsAsTold};
-ghost use Rattle.text_writer.specs.TextOutput.{header_line, text_line, holds_text};
+ghost use Rattle.text_writer.specs.TextOutput.{IsTextForm, header_line, text_line, holds_text};
 
+use crate::header::header_line;
+use crate::lines::{lines_in, put_lines};
+use crate::{BeginErr, TextForm};
 use cloud_points::Point;
-use decimal_coords::put_fixed;
 use file_devices::{Failed, Sink};
+use std::alloc::Global;
 
-/// The places of a coordinate.
-const PLACES: u32 = 3;
+/// Room for the lines that are appended together. The longest line has 64 columns of 21 bytes, each with a delimiter of 8.
+const ROOM: usize = 8192;
 
-/// Room for the longest line.
-const LINE_SIZE: usize = 96;
-
-const HEADER_LINE: &[u8] = b"\"X\",\"Y\",\"Z\"\n";
-
-/// A writer of points as text: a line with the names of the columns, and a line for each point. It is ended by
-/// `release`, which gives the sink back.
+/// A writer of points as text: a line with the names of the columns, where the form asks for it, and a line for each
+/// point. It is ended by `release`, which gives the sink back.
 pub struct TextWriter<K> {
     sink: K,
+    form: TextForm,
+    buffer: Vec<u8>,
+    ghost decided: { IsTextForm form },
+    ghost room: { 1857 ≤ vec_len buffer },
 }
 
 impl<K: Sink> TextWriter<K> {
-    /// A writer onto a sink to which nothing was appended; it appends the line with the names of the columns.
+    /// A writer onto a sink to which nothing was appended; it appends the line with the names of the columns, where the
+    /// form asks for it.
     ///
-    /// A refusal gives the sink back, and comes only where the sink failed. A beginning of the line was appended then.
-    pub fn begin(sink: K) -> Result<TextWriter<K>, (K, Failed)>
-        ensures ok { IfOk result (λ w. Appends (K.bytes sink) header_line (K.bytes w.sink)) }
-        ensures holds { IfOk result (λ w. IsAsTold (K.bytes sink) (Some []) → holds_text (K.bytes w.sink) [] ≡ true) }
+    /// A refusal gives the sink back. It is `Failed` only where the sink failed, and a beginning of the line was appended
+    /// then. It is `Memory` only where there is none for the line or for the lines of points, and the sink is unchanged.
+    pub fn begin(alloc: Global, sink: K, form: TextForm) -> Result<TextWriter<K>, (K, BeginErr)>
+        requires { IsTextForm form }
+        ensures ok { IfOk result (λ w. Appends (K.bytes sink) (header_line form) (K.bytes w.sink)) }
+        ensures holds { IfOk result (λ w. IsAsTold (K.bytes sink) (Some [])
+            → holds_text (K.bytes w.sink) form [] ≡ true) }
+        ensures form { IfOk result (λ w. w.form ≡ form) }
         ensures later { IfOk result (λ w. K.faults sink ≤ K.faults w.sink) }
-        ensures part { IfErr result (λ e. AppendsPart (K.bytes sink) header_line (K.bytes e.0)) }
-        ensures failed { IfErr result (λ e. Rose (K.faults sink) (K.faults e.0)) }
+        ensures part { IfErr result (λ e. AppendsPart (K.bytes sink) (header_line form) (K.bytes e.0)) }
+        ensures failed { IfErr result (λ e. e.1 ≡ BeginErr.Failed → Rose (K.faults sink) (K.faults e.0)) }
+        ensures unchanged { IfErr result (λ e. e.1 ≡ BeginErr.Memory → e.0 ≡ sink) }
         ensures count { IfErr result (λ e. K.faults sink ≤ K.faults e.0) }
     {
+        let Ok(line) = header_line(alloc, &form) else {
+            return Err((sink, BeginErr::Memory));
+        };
+        let Ok(buffer) = vec![in alloc; 0u8; ROOM] else {
+            return Err((sink, BeginErr::Memory));
+        };
         let mut sink = sink;
-        match put_header(&mut sink) {
-            Ok(()) => Ok(TextWriter { sink }),
-            Err(failed) => Err((sink, failed)),
+        match put_header(line.as_slice(), &mut sink) {
+            Ok(()) => Ok(TextWriter { sink, form, buffer }),
+            Err(Failed) => Err((sink, BeginErr::Failed)),
         }
     }
 
-    /// Appends a line for each point, in their order. Each coordinate has three places.
+    /// Appends a line for each point, in their order. It takes no memory.
     ///
     /// It is `Failed` only where the sink failed. A prefix of the lines was appended then.
     pub fn put(&mut self, points: &[Point]) -> Result<(), Failed>
-        ensures ok { OnOk result (Appends (K.bytes self.old.sink) (flat_map text_line points.now) (K.bytes self.new.sink)) }
-        ensures part { OnErr result (AppendsPart (K.bytes self.old.sink) (flat_map text_line points.now) (K.bytes self.new.sink)) }
-        ensures holds { OnOk result ((before : List Point) → holds_text (K.bytes self.old.sink) before ≡ true → holds_text (K.bytes self.new.sink) (before ++ points.now) ≡ true) }
+        ensures ok { OnOk result (Appends (K.bytes self.old.sink)
+            (flat_map (text_line self.old.form) points.now) (K.bytes self.new.sink)) }
+        ensures part { OnErr result (AppendsPart (K.bytes self.old.sink)
+            (flat_map (text_line self.old.form) points.now) (K.bytes self.new.sink)) }
+        ensures holds { OnOk result ((before : List Point)
+            → holds_text (K.bytes self.old.sink) self.old.form before ≡ true
+            → holds_text (K.bytes self.new.sink) self.old.form (before ++ points.now) ≡ true) }
+        ensures form { self.new.form ≡ self.old.form }
         ensures cause { HasCause (K.faults self.old.sink) (K.faults self.new.sink) result }
     {
-        put_points(points, &mut self.sink)
+        put_points(points, &self.form, &mut self.buffer, &mut self.sink)
     }
 
     /// Has the sink write what it holds back, by appending nothing. What it tells stays, unless it stops telling.
@@ -63,7 +81,10 @@ impl<K: Sink> TextWriter<K> {
     /// It is `Failed` only where the sink failed.
     pub fn finish(&mut self) -> Result<(), Failed>
         ensures same { IsAsTold (K.bytes self.new.sink) (K.bytes self.old.sink) }
-        ensures holds { (points : List Point) → holds_text (K.bytes self.old.sink) points ≡ true → holds_text (K.bytes self.new.sink) points ≡ true }
+        ensures holds { (points : List Point)
+            → holds_text (K.bytes self.old.sink) self.old.form points ≡ true
+            → holds_text (K.bytes self.new.sink) self.old.form points ≡ true }
+        ensures form { self.new.form ≡ self.old.form }
         ensures cause { HasCause (K.faults self.old.sink) (K.faults self.new.sink) result }
     {
         self.sink.append(&[])
@@ -73,63 +94,79 @@ impl<K: Sink> TextWriter<K> {
     pub fn release(self) -> K
         ensures { result ≡ self.sink }
     {
-        let TextWriter { sink } = self;
+        let TextWriter {
+            sink,
+            form: _form,
+            buffer: _buffer,
+        } = self;
         sink
     }
 }
 
-/// Appends the names of the columns.
-fn put_header<K: Sink>(sink: &mut K) -> Result<(), Failed>
-    ensures ok { OnOk result (Appends (K.bytes sink.old) header_line (K.bytes sink.new)) }
-    ensures part { OnErr result (AppendsPart (K.bytes sink.old) header_line (K.bytes sink.new)) }
+/// Appends the line with the names of the columns.
+fn put_header<K: Sink>(line: &[u8], sink: &mut K) -> Result<(), Failed>
+    ensures ok { OnOk result (Appends (K.bytes sink.old) line.now (K.bytes sink.new)) }
+    ensures part { OnErr result (AppendsPart (K.bytes sink.old) line.now (K.bytes sink.new)) }
     ensures cause { HasCause (K.faults sink.old) (K.faults sink.new) result }
 {
-    sink.append(HEADER_LINE)
+    sink.append(line)
 }
 
-/// Writes a coordinate and the byte behind it so that the byte ends at `end`, and answers where they start.
-fn put_field(nano: i64, after: u8, line: &mut [u8], end: usize) -> usize
-    requires room { 22 ≤ end }
-    requires within { end ≤ length line.old }
-    ensures start { result ≤ end }
-    ensures short { end ≤ result + 22 }
-    ensures written { drop result line.new ≡ fixed_text nano PLACES ++ after ∷ drop end line.old }
-{
-    line[end - 1] = after;
-    put_fixed(nano, PLACES, line, end - 1)
-}
-
-/// Writes a point's line so that it ends with `line`, and answers where it starts.
-fn put_line(point: &Point, line: &mut [u8]) -> usize
-    requires { length line.old ≡ LINE_SIZE }
-    ensures within { result ≤ LINE_SIZE }
-    ensures written { drop result line.new ≡ text_line point.now }
-{
-    let z = put_field(point.z, b'\n', line, LINE_SIZE);
-    let y = put_field(point.y, b',', line, z);
-    put_field(point.x, b',', line, y)
-}
-
-/// Appends a point's line, which is made in `line`.
-fn put_point<K: Sink>(point: &Point, line: &mut [u8], sink: &mut K) -> Result<(), Failed>
-    requires { length line.old ≡ LINE_SIZE }
-    ensures ok { OnOk result (Appends (K.bytes sink.old) (text_line point.now) (K.bytes sink.new)) }
-    ensures part { OnErr result (AppendsPart (K.bytes sink.old) (text_line point.now) (K.bytes sink.new)) }
+/// Appends a line for each point, which are made in `buffer`, all at once.
+fn append_lines<K: Sink>(
+    points: &[Point],
+    form: &TextForm,
+    buffer: &mut [u8],
+    sink: &mut K,
+) -> Result<(), Failed>
+    requires form { IsTextForm form.now }
+    requires room { length points.now * (29 * length form.now.columns + 1) ≤ length buffer.old }
+    ensures ok { OnOk result (Appends (K.bytes sink.old)
+        (flat_map (text_line form.now) points.now) (K.bytes sink.new)) }
+    ensures part { OnErr result (AppendsPart (K.bytes sink.old)
+        (flat_map (text_line form.now) points.now) (K.bytes sink.new)) }
     ensures cause { HasCause (K.faults sink.old) (K.faults sink.new) result }
 {
-    let start = put_line(point, line);
-    sink.append(&line[start..])
+    let start = put_lines(points, form, buffer);
+    sink.append(&buffer[start..])
 }
 
-/// Appends a line for each point.
-fn put_points<K: Sink>(points: &[Point], sink: &mut K) -> Result<(), Failed>
-    ensures ok { OnOk result (Appends (K.bytes sink.old) (flat_map text_line points.now) (K.bytes sink.new)) }
-    ensures part { OnErr result (AppendsPart (K.bytes sink.old) (flat_map text_line points.now) (K.bytes sink.new)) }
+/// The place behind the next points, `most` at most, from a place on.
+fn next_stop(from: usize, most: usize, count: usize) -> usize
+    requires some { 1 ≤ most }
+    requires within { from < count }
+    ensures later { from < result }
+    ensures within { result ≤ count }
+    ensures few { result - from ≤ most }
+{
+    if count - from > most {
+        from + most
+    } else {
+        count
+    }
+}
+
+/// Appends a line for each point, as many at once as have room in `buffer`.
+fn put_points<K: Sink>(
+    points: &[Point],
+    form: &TextForm,
+    buffer: &mut [u8],
+    sink: &mut K,
+) -> Result<(), Failed>
+    requires form { IsTextForm form.now }
+    requires room { 1857 ≤ length buffer.old }
+    ensures ok { OnOk result (Appends (K.bytes sink.old)
+        (flat_map (text_line form.now) points.now) (K.bytes sink.new)) }
+    ensures part { OnErr result (AppendsPart (K.bytes sink.old)
+        (flat_map (text_line form.now) points.now) (K.bytes sink.new)) }
     ensures cause { HasCause (K.faults sink.old) (K.faults sink.new) result }
 {
-    let mut line = [0u8; LINE_SIZE];
-    for point in points {
-        put_point(point, &mut line, sink)?;
+    let most = lines_in(buffer.len(), form);
+    let mut from = 0;
+    while from < points.len() {
+        let to = next_stop(from, most, points.len());
+        append_lines(&points[from..to], form, buffer, sink)?;
+        from = to;
     }
     Ok(())
 }

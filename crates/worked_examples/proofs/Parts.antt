@@ -16,6 +16,7 @@ use Rattle.las_header.specs.Headers.{record_format, format_in, scales_of, offset
 use Rattle.las_vlr.specs.declared.entry.VlrFault.TheVariants.{TooManyVlrs, VlrPastPoints, EvlrPastEnd}
 use Rattle.las_vlr.specs.Vlrs.{entries_from}
 use Rattle.las_reader.specs.Frames.{LasFault, In_header, In_list}
+use Rattle.cloud_points.specs.declared.faults.PointFault.TheVariants.{Cut}
 use Rattle.cloud_points.specs.Points.{zero_point}
 use Rattle.las_reader.specs.Records.{point_of, points_from}
 use Rattle.las_reader.specs.Files.{Las, las_of}
@@ -158,23 +159,23 @@ absent_is : planned second_absent ≡ Ok (joining (codes "b.las"))
 unfolding is_utf8 chars encode value punctuate lex content
 absent_is = refl
 
-pub two_read : las_of file_a ≡ Ok (record { points = record zero_point { x = pos 1000000000; y = pos 2000000000; z = pos 3000000000; return_number = 1; number_of_returns = 1; classification = 2 } ∷ record zero_point { x = negsuc 9999999; y = pos 0; z = pos 50000000; return_number = 1; number_of_returns = 1; classification = 2 } ∷ []; cut = None })
+pub two_read : las_of file_a ≡ Ok (record { points = record zero_point { x = pos 1000000000; y = pos 2000000000; z = pos 3000000000; return_number = 1; number_of_returns = 1; classification = 2 } ∷ record zero_point { x = negsuc 9999999; y = pos 0; z = pos 50000000; return_number = 1; number_of_returns = 1; classification = 2 } ∷ []; fault = None })
 unfolding header_of format_in record_format scales_of offsets_of header_with scale_of_word decimal_of_word entries_from point_of points_from
 two_read = refl
 
-pub none_read : las_of file_without_points ≡ Ok (record { points = []; cut = None })
+pub none_read : las_of file_without_points ≡ Ok (record { points = []; fault = None })
 unfolding header_of format_in record_format scales_of offsets_of header_with scale_of_word decimal_of_word entries_from point_of points_from
 none_read = refl
 
-pub cut_at_1 : las_of (take 414 file_a) ≡ Ok (record { points = record zero_point { x = pos 1000000000; y = pos 2000000000; z = pos 3000000000; return_number = 1; number_of_returns = 1; classification = 2 } ∷ []; cut = Some 1 })
+pub cut_at_1 : las_of (take 414 file_a) ≡ Ok (record { points = record zero_point { x = pos 1000000000; y = pos 2000000000; z = pos 3000000000; return_number = 1; number_of_returns = 1; classification = 2 } ∷ []; fault = Some (Cut 1) })
 unfolding header_of format_in record_format scales_of offsets_of header_with scale_of_word decimal_of_word entries_from point_of points_from
 cut_at_1 = refl
 
-pub cut_at_0 : las_of (take 394 file_a) ≡ Ok (record { points = []; cut = Some 0 })
+pub cut_at_0 : las_of (take 394 file_a) ≡ Ok (record { points = []; fault = Some (Cut 0) })
 unfolding header_of format_in record_format scales_of offsets_of header_with scale_of_word decimal_of_word entries_from point_of points_from
 cut_at_0 = refl
 
-pub longer_read : las_of file_of_format_6 ≡ Ok (record { points = record zero_point { x = pos 1000000000; y = pos 2000000000; z = pos 3000000000 } ∷ record zero_point { x = negsuc 9999999; y = pos 0; z = pos 50000000 } ∷ []; cut = None })
+pub longer_read : las_of file_of_format_6 ≡ Ok (record { points = record zero_point { x = pos 1000000000; y = pos 2000000000; z = pos 3000000000 } ∷ record zero_point { x = negsuc 9999999; y = pos 0; z = pos 50000000 } ∷ []; fault = None })
 unfolding header_of format_in record_format scales_of offsets_of header_with scale_of_word decimal_of_word entries_from point_of points_from
 longer_read = refl
 
@@ -198,7 +199,7 @@ pub other_scale : las_of file_of_neighbour ≡ Err (In_header (ScaleNotDecimal X
 unfolding header_of format_in record_format scales_of scale_of_word
 other_scale = refl
 
-pub far_read : las_of file_far ≡ Ok (record { points = record zero_point { x = pos 3147483646000000000; y = pos 0; z = pos 0 } ∷ []; cut = None })
+pub far_read : las_of file_far ≡ Ok (record { points = record zero_point { x = pos 3147483646000000000; y = pos 0; z = pos 0 } ∷ []; fault = None })
 unfolding header_of format_in record_format scales_of offsets_of header_with scale_of_word decimal_of_word entries_from point_of points_from
 far_read = refl
 

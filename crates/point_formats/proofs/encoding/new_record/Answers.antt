@@ -1,29 +1,44 @@
-use Rattle.std.proofs.Common.{rules, sym, ap, ◌∙◌, Ok, ◌++◌, [], ◌∷◌, FitsSigned}
+use Rattle.std.proofs.Common.{rules, get_or, pos, ◌≡◌, Err, FitsSigned, w8, w16, w64, sym, ap, refl, ◌∙◌}
+use Rattle.std.specs.Int.{to_le_bytes, cast_unsigned}
 use Rattle.std.proofs.lemmas.Int.{to_z-of_z}
-use Rattle.std.specs.Int.{w8, w16, w64, to_le_bytes}
-use Rattle.cloud_points.specs.declared.dims.Dim.TheVariants.{X, Y, Z}
-use Rattle.point_formats.specs.Encoded.{coordinate_bytes, angle_bytes}
-use Rattle.point_formats.proofs.Appending.{joined_ok, put_ok, bits_ok, end_ok, regrouped}
+use Rattle.point_formats.specs.Encoded.{angle_number}
+use Rattle.point_formats.proofs.Steps.{raw_bytes, new_is}
 use Rattle.point_formats.proofs.encoding.new_record.Goals as goal
 
-pub returns-clause-ok : goal.returns-clause-ok
-returns-clause-ok c =
-    let p = c.args.p.now in
-    let grid = c.args.grid.now in
-    let fits_x : FitsSigned w64 p.x = search rules in
-    let fits_y : FitsSigned w64 p.y = search rules in
-    let fits_z : FitsSigned w64 p.z = search rules in
-    let fits_angle : FitsSigned w64 p.scan_angle_rank = search rules in
-    let x = sym (c.coordinate_bytes.ensures ∙ ap (λ n. coordinate_bytes grid X 0 n) (to_z-of_z w64 p.x fits_x)) ∙ c.in_ok-x.was in
-    let y = sym (c.coordinate_bytes-2.ensures ∙ ap (λ n. coordinate_bytes grid Y 1 n) (to_z-of_z w64 p.y fits_y)) ∙ c.in_ok-y.was in
-    let z = sym (c.coordinate_bytes-3.ensures ∙ ap (λ n. coordinate_bytes grid Z 2 n) (to_z-of_z w64 p.z fits_z)) ∙ c.in_ok-z.was in
-    let first = bits_ok (sym c.new_returns.ensures ∙ c.in_ok-returns.was) in
-    let second = bits_ok (sym c.new_flags.ensures ∙ c.in_ok-flags.was) in
-    let angle = sym (c.angle_bytes.ensures ∙ ap (λ n. angle_bytes w16 6000000 n) (to_z-of_z w64 p.scan_angle_rank fits_angle)) ∙ c.in_ok-angle.was in
-    let intensity = to_le_bytes w16 p.intensity in
-    let bits = c.in_ok-returns.returns ∷ c.in_ok-flags.flags ∷ [] in
-    let tail = to_le_bytes w8 p.classification ++ (to_le_bytes w8 p.user_data ++ (c.in_ok-angle.angle ++ (to_le_bytes w16 p.point_source_id ++ to_le_bytes w64 p.gps_time))) in
-    let block = c.put_new.ensures.items ∙ ap (λ l. l ++ tail) c.first_block-block.ensures.items
-    ∙ regrouped c.in_ok-x.x c.in_ok-y.y c.in_ok-z.z intensity bits tail in
-    joined_ok x (joined_ok y (joined_ok z (put_ok intensity (joined_ok first (joined_ok second
-    (put_ok (to_le_bytes w8 p.classification) (put_ok (to_le_bytes w8 p.user_data) (joined_ok angle (put_ok (to_le_bytes w16 p.point_source_id) (put_ok (to_le_bytes w64 p.gps_time) end_ok)))))))))) ∙ ap Ok (sym block)
+pub returns-in_err-x : goal.returns-in_err-x
+returns-in_err-x c =
+    let refused : c.from_residual.result ≡ Err c.in_err-x.field-0.0 = search rules in
+    refused ∙ sym (new_is c.args.grid.now c.args.p.now (sym c.raw_numbers.ensures.value ∙ c.in_err-x.was) refl refl refl)
+
+pub returns-in_err-returns : goal.returns-in_err-returns
+returns-in_err-returns c =
+    let refused : c.from_residual-in_err-returns.result ≡ Err c.in_err-returns.field-0.0 = search rules in
+    refused ∙ sym (new_is c.args.grid.now c.args.p.now (sym c.raw_numbers.ensures.value ∙ c.in_ok-x.was) (sym c.new_returns.ensures ∙ c.in_err-returns.was) refl refl)
+
+pub returns-in_err-flags : goal.returns-in_err-flags
+returns-in_err-flags c =
+    let refused : c.from_residual-in_err-flags.result ≡ Err c.in_err-flags.field-0.0 = search rules in
+    refused ∙ sym (new_is c.args.grid.now c.args.p.now (sym c.raw_numbers.ensures.value ∙ c.in_ok-x.was) (sym c.new_returns.ensures ∙ c.in_ok-returns.was) (sym c.new_flags.ensures ∙ c.in_err-flags.was) refl)
+
+pub returns-in_err-angle : goal.returns-in_err-angle
+returns-in_err-angle c =
+    let fits : FitsSigned w64 c.args.p.now.scan_angle_rank = search rules in
+    let angle = ap (λ n. angle_number w16 6000000 n) (to_z-of_z w64 c.args.p.now.scan_angle_rank fits) in
+    let refused : c.from_residual-in_err-angle.result ≡ Err c.in_err-angle.field-0.0 = search rules in
+    refused ∙ sym (new_is c.args.grid.now c.args.p.now (sym c.raw_numbers.ensures.value ∙ c.in_ok-x.was) (sym c.new_returns.ensures ∙ c.in_ok-returns.was) (sym c.new_flags.ensures ∙ c.in_ok-flags.was) (sym (c.angle_steps.ensures ∙ angle) ∙ c.in_err-angle.was))
+
+pub returns : goal.returns
+returns c =
+    let fits : FitsSigned w64 c.args.p.now.scan_angle_rank = search rules in
+    let angle = ap (λ n. angle_number w16 6000000 n) (to_z-of_z w64 c.args.p.now.scan_angle_rank fits) in
+    let record_is = new_is c.args.grid.now c.args.p.now (sym c.raw_numbers.ensures.value ∙ c.in_ok-x.was) (sym c.new_returns.ensures ∙ c.in_ok-returns.was) (sym c.new_flags.ensures ∙ c.in_ok-flags.was) (sym (c.angle_steps.ensures ∙ angle) ∙ c.in_ok-angle.was) in
+    let x_bytes : c.to_le_bytes-x.result ≡ raw_bytes (get_or c.in_ok-x.field-0 0 (pos 0)) = search rules in
+    let y_bytes : c.to_le_bytes-y.result ≡ raw_bytes (get_or c.in_ok-x.field-0 1 (pos 0)) = search rules in
+    let z_bytes : c.to_le_bytes-z.result ≡ raw_bytes (get_or c.in_ok-x.field-0 2 (pos 0)) = search rules in
+    let light_bytes : c.to_le_bytes-light.result ≡ to_le_bytes w16 c.args.p.now.intensity = search rules in
+    let class_bytes : c.to_le_bytes-class.result ≡ to_le_bytes w8 c.args.p.now.classification = search rules in
+    let user_bytes : c.to_le_bytes-user.result ≡ to_le_bytes w8 c.args.p.now.user_data = search rules in
+    let source_bytes : c.to_le_bytes-source.result ≡ to_le_bytes w16 c.args.p.now.point_source_id = search rules in
+    let time_bytes : c.to_le_bytes-time.result ≡ to_le_bytes w64 c.args.p.now.gps_time = search rules in
+    let angle_bytes : c.to_le_bytes-angle.result ≡ to_le_bytes w16 (cast_unsigned w16 c.in_ok-angle.angle) = search rules in
+    rw (x_bytes, y_bytes, z_bytes, light_bytes, class_bytes, user_bytes, source_bytes, time_bytes, angle_bytes) (sym record_is)

@@ -1,5 +1,9 @@
-use Rattle.std.proofs.Common.{option_map}
+use Rattle.std.proofs.Common.{◌≡◌, option_map, drop, None, ap, ◌∙◌, subst}
 use Rattle.serde_json.specs.View.{members_view}
+use Rattle.stage_names.specs.declared.kinds.KindName.TheVariants.{WritersLas, WritersText}
+use Rattle.stage_options.proofs.Named.{is_named}
+use Rattle.stage_options.specs.Faults.{fault_by}
+use Rattle.stage_options.specs.Rules.{rules_of}
 use Rattle.stage_options.proofs.typing.type_options.Goals as goal
 
 pub returns-in_ok-readers_las-in-ReadersLas-clause-ok :
@@ -9,6 +13,14 @@ returns-in_ok-readers_las-in-ReadersLas-clause-ok c = rw c.in-ReadersLas.is (c.i
 pub returns-in-FiltersHead-clause-ok : goal.returns-in-FiltersHead-clause-ok
 returns-in-FiltersHead-clause-ok c = rw c.in-FiltersHead.is (c.filters_head.ensures (option_map (λ s. s.now) c.args.filename))
 
-pub returns-in_ok-writers_text-in-WritersText-clause-ok :
-    goal.returns-in_ok-writers_text-in-WritersText-clause-ok
-returns-in_ok-writers_text-in-WritersText-clause-ok c = rw c.in-WritersText.is (c.in_ok-writers_text-in-WritersText.ensures (members_view c.args.options.now.entries))
+pub writers_las-requires : goal.writers_las-requires
+writers_las-requires c =
+    let ms = members_view c.args.options.now.entries in
+    let filename = option_map (λ s. s.now) c.args.filename in
+    is_named c.args.i (drop 1 (rules_of WritersLas)) filename ms (subst (λ rs. fault_by c.args.i rs filename ms ≡ None) (c.rules.ensures ∙ ap rules_of c.in-WritersLas.is) c.in_ok-refuse.ensures.ok)
+
+pub writers_text-requires : goal.writers_text-requires
+writers_text-requires c =
+    let ms = members_view c.args.options.now.entries in
+    let filename = option_map (λ s. s.now) c.args.filename in
+    is_named c.args.i (drop 1 (rules_of WritersText)) filename ms (subst (λ rs. fault_by c.args.i rs filename ms ≡ None) (c.rules.ensures ∙ ap rules_of c.in-WritersText.is) c.in_ok-refuse.ensures.ok)

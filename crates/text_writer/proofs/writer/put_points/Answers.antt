@@ -1,15 +1,16 @@
 use Rattle.std.proofs.Common.{arith, rules}
 use Rattle.std.proofs.lemmas.List.{take_all}
-use Rattle.text_writer.proofs.LineLemmas.{putting_more, putting_part, on_err_is}
+use Rattle.text_writer.proofs.Putting.{putting_more, putting_part, on_err_is}
 use Rattle.text_writer.proofs.writer.put_points.Goals as goal
 
-pub loop-point-preserved : goal.loop-point-preserved
-loop-point-preserved g c =
-    putting_more c.args.points.now c.loop-point.point-index _ _ _ _ _ _ _ _ (search rules) (search rules) c.in_ok-put_point.ensures.ok c.in_ok-put_point.ensures.cause.later (search rules)
+pub loop-from-preserved : goal.loop-from-preserved
+loop-from-preserved g c =
+    putting_more c.args.form.now c.args.points.now c.loop-from.from c.next_stop-to.result _ _ _ _ _ _ _ _ (omega (arith, c.next_stop-to.ensures.later)) c.next_stop-to.ensures.within (search rules)
+    c.in_ok-append_lines.ensures.ok c.in_ok-append_lines.ensures.cause.later c.loop-from.invariant.put c.loop-from.invariant.later
 
-pub returns-in_err-put_point-clause-part : goal.returns-in_err-put_point-clause-part
-returns-in_err-put_point-clause-part g c =
-    on_err_is c.from_residual.result (putting_part c.args.points.now c.loop-point.point-index _ _ _ _ _ _ _ c.loop-point-test.true c.in_err-put_point.ensures.part c.loop-point.invariant)
+pub returns-in_err-append_lines-clause-part : goal.returns-in_err-append_lines-clause-part
+returns-in_err-append_lines-clause-part g c =
+    on_err_is c.from_residual.result (putting_part c.args.form.now c.args.points.now c.loop-from.from c.next_stop-to.result _ _ _ (omega (arith, c.next_stop-to.ensures.later)) c.in_err-append_lines.ensures.part c.loop-from.invariant.put)
 
 pub returns-clause-ok : goal.returns-clause-ok
-returns-clause-ok g c = rw (take_all c.loop-point.point-index c.args.points.now (omega (arith, c.loop-point-test.false))) at c.loop-point.invariant.put
+returns-clause-ok g c = rw (take_all c.loop-from.from c.args.points.now (omega (arith, c.loop-from-test.false))) at c.loop-from.invariant.put

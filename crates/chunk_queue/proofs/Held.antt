@@ -1,0 +1,97 @@
+-- The items of a queue's entries: one more at the end, one less at the front.
+use Rattle.std.proofs.Common.{◌≡◌, ℕ, ◌+◌, ◌<◌, true, false, List, [], ◌∷◌, ◌++◌, length, drop, Some, None, Ok, Err, refl, ap, subst, sym, ◌∙◌, arith, length-append}
+use Rattle.std.specs.Prelude.{slice_get, Result, IsOk, OnOk}
+use Rattle.circular_buffer.specs.Buffer.{Buffer, buffer}
+use Rattle.cloud_points.specs.declared.point.Point.{Point}
+use Rattle.cloud_points.specs.declared.item.Item.{Item}
+use Rattle.chunk_queue.specs.declared.tag.Entry.{Entry}
+use Rattle.chunk_queue.specs.declared.tag.ItemKind.{ItemKind}
+use Rattle.chunk_queue.specs.declared.tag.ItemKind.TheVariants.{Points, EndView, End}
+use Rattle.chunk_queue.specs.Slots.{kind_body, tag_item, entry_item, brings_points, filled, held_items, HasPoints, AllHavePoints, IsSlotted, IsPopped}
+
+pub on_ok : {T E : Type 0} (r : Result T E) (P : Type 0) → IsOk r → OnOk r P → P
+on_ok (Ok x) P h p = p
+on_ok (Err e) P h p = cc
+
+pub held-length : (entries : List Entry) → length (held_items entries) ≡ length entries
+held-length [] = refl
+held-length (e ∷ entries) = let r = held-length entries in omega (arith, r)
+
+-- what a clause sees of the queue tells how many entries there are
+pub seen-length : (entries : Buffer Entry) (q : Buffer Item) → buffer (held_items entries.items) entries.capacity ≡ q → length entries.items ≡ length q.items
+seen-length entries q e = sym (held-length entries.items) ∙ ap (λ (b : Buffer Item). length b.items) e
+
+held-last : (entries : List Entry) (e : Entry) → held_items (entries ++ e ∷ []) ≡ held_items entries ++ entry_item e ∷ []
+held-last [] e = refl
+held-last (x ∷ entries) e = ap (λ is. entry_item x ∷ is) (held-last entries e)
+
+body-filled : (kind : ItemKind) (old points now : List Point) → now ≡ filled kind old points → kind_body kind now ≡ kind_body kind points
+body-filled Points old points now h = ap (kind_body Points) h
+body-filled EndView old points now h = refl
+body-filled (End cut) old points now h = refl
+
+has_points : (kind : ItemKind) (points : List Point) → (brings_points kind ≡ true → 0 < length points) → HasPoints (kind_body kind points)
+has_points Points points h = h refl
+has_points EndView points h = tt
+has_points (End cut) points h = tt
+
+brought : (kind : ItemKind) (points : List Point) → HasPoints (kind_body kind points) → brings_points kind ≡ true → 0 < length points
+brought Points points h e = h
+brought EndView points h e = cc
+brought (End cut) points h e = cc
+
+all-last : (is : List Item) (i : Item) → AllHavePoints is → HasPoints i.body → AllHavePoints (is ++ i ∷ [])
+all-last [] i h p = (p, tt)
+all-last (x ∷ is) i h p = (h.0, all-last is i h.1 p)
+
+-- an entry is put behind the last one, with points in its slot
+pub put-held : (entries : List Entry) (e : Entry) (old points : List Point) → e.slot.value.items ≡ filled e.tag.kind old points
+    → held_items (entries ++ e ∷ []) ≡ held_items entries ++ tag_item e.tag points ∷ []
+put-held entries e old points fills =
+    held-last entries e ∙ ap (λ b. held_items entries ++ record { no = e.tag.no; body = b } ∷ []) (body-filled e.tag.kind old points e.slot.value.items fills)
+
+pub put-slotted : (entries : Buffer Entry) (free left most : ℕ) (e : Entry) (old points : List Point) → IsSlotted entries free most
+    → e.slot.value.items ≡ filled e.tag.kind old points → (brings_points e.tag.kind ≡ true → 0 < length points) → left + 1 ≡ free
+    → IsSlotted (buffer (entries.items ++ e ∷ []) entries.capacity) left most
+put-slotted entries free left most e old points ok fills some count = record {
+  slots = let l = length-append entries.items (e ∷ []) in let o : length (e ∷ []) ≡ 1 = refl in let s = ok.slots in omega (arith, l, o, s, count);
+  room = ok.room;
+  points = subst AllHavePoints (sym (put-held entries.items e old points fills)) (all-last (held_items entries.items) (tag_item e.tag points) ok.points (has_points e.tag.kind points some));
+}
+
+-- the first entry is taken out, and its slot is free
+pub popped-slotted : (items : List Entry) (capacity free left most : ℕ) (e : Entry) → IsSlotted (buffer items capacity) free most → Some e ≡ slice_get items 0 → left ≡ free + 1
+    → IsSlotted (buffer (drop 1 items) capacity) left most
+popped-slotted [] capacity free left most e ok first count = cc
+popped-slotted (x ∷ items) capacity free left most e ok first count = record {
+  slots = let s = ok.slots in omega (arith, s, count);
+  room = ok.room;
+  points = ok.points.1;
+}
+
+pub popped-held : (entries : List Entry) → held_items (drop 1 entries) ≡ drop 1 (held_items entries)
+popped-held [] = refl
+popped-held (e ∷ entries) = refl
+
+-- what a pop in parts answers
+pub popped-none : (entries : List Entry) (points : List Point) → None ≡ slice_get entries 0 → IsPopped (held_items entries) None points points
+popped-none [] points h = (refl, refl)
+popped-none (e ∷ entries) points h = cc
+
+kept-old : (kind : ItemKind) (old now points : List Point) → now ≡ filled kind old points → brings_points kind ≡ false → now ≡ old
+kept-old Points old now points h e = cc
+kept-old EndView old now points h e = h
+kept-old (End cut) old now points h e = h
+
+pub popped-some : (entries : List Entry) (e : Entry) (old now : List Point) → AllHavePoints (held_items entries) → Some e ≡ slice_get entries 0
+    → now ≡ filled e.tag.kind old e.slot.value.items → IsPopped (held_items entries) (Some e.tag) old now
+popped-some [] e old now a h f = cc
+popped-some (x ∷ entries) e old now a h f =
+    let is : e ≡ x = cc in
+    let points = e.slot.value.items in
+    let same : kind_body e.tag.kind now ≡ kind_body e.tag.kind points = body-filled e.tag.kind old points now f in
+    let first_is : entry_item x ≡ tag_item e.tag now = ap entry_item (sym is) ∙ ap (λ b. record { no = e.tag.no; body = b }) (sym same) in (
+      ap Some first_is,
+      kept-old e.tag.kind old now points f,
+      brought e.tag.kind now (subst HasPoints (ap (λ (i : Item). i.body) first_is) a.0),
+    )

@@ -1,0 +1,66 @@
+-- The columns that a text lists are few, and have one digit each.
+use Rattle.std.proofs.Common.{◌≡◌, ℕ, suc, ◌-◌, ◌≤◌, ◌&&◌, nat_le, Bool, true, false, List, [], ◌∷◌, length, Option, Some, None, IfSome, All, if◌then◌else◌, option_and_then, option_map, refl, sym, ap, ◌∙◌, subst, arith, leb-true}
+use Rattle.std.proofs.lemmas.Option.{none-some, same_Some}
+use Rattle.std.proofs.lemmas.List.Elements.{All-cons, All-nil}
+use Rattle.std.proofs.lemmas.Bool.{and_parts}
+use Rattle.std.specs.Char.{is_ascii_digit}
+use Rattle.std.specs.List.{before_first, after_first}
+use Rattle.option_texts.specs.declared.columns.NamedColumn.{NamedColumn}
+use Rattle.option_texts.specs.Parts.{parts_of, each_read, is_name, trimmed}
+use Rattle.option_texts.specs.Columns.{digit_of, column_with, column_of, columns_of, AreColumns, has_colon, is_colon}
+
+both_read : {X : Type 0} (o : Option X) (r : Option (List X)) (xs : List X) → option_and_then (λ x. option_map (λ ys. x ∷ ys) r) o ≡ Some xs
+    → (x : X) × (ys : List X) × (o ≡ Some x) × (r ≡ Some ys) × (x ∷ ys ≡ xs)
+both_read None r xs e = absurd (none-some xs e)
+both_read (Some x) None xs e = absurd (none-some xs e)
+both_read (Some x) (Some ys) xs e = (x, ys, refl, refl, same_Some (x ∷ ys) xs e)
+
+-- each part is read, and what holds of all that parts are read as holds of these
+each_all : {X : Type 0} (read : List ℕ → Option X) (P : X → Type 0) → ((part : List ℕ) (x : X) → read part ≡ Some x → P x)
+    → (parts : List (List ℕ)) (xs : List X) → each_read read parts ≡ Some xs → (length xs ≡ length parts) × All P xs
+each_all read P each [] xs e = subst (λ ys. (length ys ≡ 0) × All P ys) (same_Some [] xs e) (refl, All-nil P)
+each_all read P each (part ∷ parts) xs e =
+    let (x, ys, first, rest, is) = both_read (read part) (each_read read parts) xs e in
+    let (count, all) = each_all read P each parts ys rest in
+    subst (λ zs. (length zs ≡ suc (length parts)) × All P zs) is (ap suc count, All-cons P x ys (each part x first) all)
+
+small_digit : (b d : ℕ) (is : Bool) → (is ≡ true → b ≤ 57) → (if is then Some (b - 48) else None) ≡ Some d → d ≤ 9
+small_digit b d true low e =
+    let is = same_Some (b - 48) d e in
+    let most = low refl in
+    omega (arith, is, most)
+small_digit b d false low e = absurd (none-some d e)
+
+most_digit : (b : ℕ) → is_ascii_digit b ≡ true → b ≤ 57
+most_digit b e = leb-true b 57 (and_parts (nat_le 48 b) (nat_le b 57) e).1
+
+digit_is_small : (text : List ℕ) (d : ℕ) → digit_of text ≡ Some d → d ≤ 9
+digit_is_small [] d e = absurd (none-some d e)
+digit_is_small (b ∷ []) d e = small_digit b d (is_ascii_digit b) (most_digit b) e
+digit_is_small (b ∷ c ∷ more) d e = absurd (none-some d e)
+
+near_with : (name : List ℕ) (places : Option ℕ) (is : Bool) (c : NamedColumn) → (if is then Some (record { name = name; places = places }) else None) ≡ Some c
+    → IfSome places (λ n. n ≤ 9) → IfSome c.places (λ n. n ≤ 9)
+near_with name places true c e near = subst (λ (k : NamedColumn). IfSome k.places (λ n. n ≤ 9)) (same_Some (record { name = name; places = places }) c e) near
+near_with name places false c e near = absurd (none-some c e)
+
+near_column : (part : List ℕ) (c : NamedColumn) → column_of part ≡ Some c → IfSome c.places (λ n. n ≤ 9)
+near_column part c e = by_colon (has_colon part) e
+  where
+    by_digit : (o : Option ℕ) (name : List ℕ) → ((d : ℕ) → o ≡ Some d → d ≤ 9) → option_and_then (λ d. column_with name (Some d)) o ≡ Some c → IfSome c.places (λ n. n ≤ 9)
+    by_digit None name small e = absurd (none-some c e)
+    by_digit (Some d) name small e = near_with name (Some d) (is_name name) c e (small d refl)
+
+    by_colon : (has : Bool) → (if has then option_and_then (λ d. column_with (trimmed (before_first is_colon part)) (Some d)) (digit_of (trimmed (after_first is_colon part))) else column_with (trimmed part) None) ≡ Some c
+        → IfSome c.places (λ n. n ≤ 9)
+    by_colon true e = by_digit (digit_of (trimmed (after_first is_colon part))) (trimmed (before_first is_colon part)) (digit_is_small (trimmed (after_first is_colon part))) e
+    by_colon false e = near_with (trimmed part) None (is_name (trimmed part)) c e tt
+
+pub are_columns : (text : List ℕ) (columns : List NamedColumn) → columns_of text ≡ Some columns → AreColumns columns
+are_columns text columns e = by_count (nat_le (length (parts_of text)) 64) refl e
+  where
+    by_count : (few : Bool) → nat_le (length (parts_of text)) 64 ≡ few → (if few then each_read column_of (parts_of text) else None) ≡ Some columns → AreColumns columns
+    by_count true is e =
+        let (count, near) = each_all column_of (λ c. IfSome c.places (λ n. n ≤ 9)) near_column (parts_of text) columns e in
+        record { few = subst (λ n. n ≤ 64) (sym count) (leb-true (length (parts_of text)) 64 is); near = near }
+    by_count false is e = absurd (none-some columns e)

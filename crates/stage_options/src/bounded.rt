@@ -1,0 +1,112 @@
+//! Values of options within the bounds of their table.
+
+ghost use Rattle.std.specs.Prelude.{◌≡◌, ◌≤◌, length};
+ghost use Rattle.forward_rules.specs.Options.{AreGoodOptions};
+
+use file_devices::Name;
+use forward_rules::LasOpts;
+use std::marker::Model;
+
+/// How many decimal places are printed, 0 to 9, which contracts see as that number.
+#[derive(Drop)]
+pub struct Places {
+    count: u32,
+}
+
+impl Model for Places {
+    ghost use Rattle.std.specs.Prelude.{ℕ, ◌≤◌};
+
+    ghost Value = { ℕ };
+
+    ghost view = { λ p. p.count };
+
+    ghost invariant = { λ p. p.count ≤ 9 };
+}
+
+impl Places {
+    /// So many places.
+    pub fn new(count: u32) -> Self
+        requires { count ≤ 9 }
+        ensures { result ≡ count }
+    {
+        Places { count }
+    }
+
+    /// Their number.
+    pub fn count(&self) -> u32
+        ensures value { result ≡ self.now }
+        ensures few { result ≤ 9 }
+    {
+        self.count
+    }
+}
+
+/// What stands between two columns, at most 8 bytes, which contracts see as the list of them.
+#[derive(Drop)]
+pub struct Delimiter {
+    text: Name,
+}
+
+impl Model for Delimiter {
+    ghost use Rattle.std.specs.Prelude.{ℕ, List, ◌≤◌, length};
+
+    ghost Value = { List ℕ };
+
+    ghost view = { λ d. d.text };
+
+    ghost invariant = { λ d. length d.text ≤ 8 };
+}
+
+impl Delimiter {
+    /// This text. It takes no memory.
+    pub fn new(text: Name) -> Self
+        requires { length text ≤ 8 }
+        ensures { result ≡ text }
+    {
+        Delimiter { text }
+    }
+
+    /// The text.
+    pub fn as_str(&self) -> &str
+        ensures text { result.now ≡ self.now }
+        ensures short { length result.now ≤ 8 }
+    {
+        self.text.as_str()
+    }
+}
+
+/// What a LAS writer is told of its file, which contracts see as `LasOpts`: a version is 1.4,
+/// offsets are below 10^9 in size, and identifiers have at most 32 bytes.
+#[derive(Drop)]
+pub struct LasFields {
+    fields: LasOpts,
+}
+
+impl Model for LasFields {
+    ghost use Rattle.forward_rules.specs.declared.options.LasOpts.{LasOpts as Fields};
+    ghost use Rattle.forward_rules.specs.Options.{AreGoodOptions};
+
+    ghost Value = { Fields };
+
+    ghost view = { λ f. f.fields };
+
+    ghost invariant = { λ f. AreGoodOptions f.fields };
+}
+
+impl LasFields {
+    /// These fields. It takes no memory.
+    pub fn new(fields: LasOpts) -> Self
+        requires { AreGoodOptions fields }
+        ensures { result ≡ fields }
+    {
+        LasFields { fields }
+    }
+
+    /// The fields.
+    pub fn as_options(&self) -> &LasOpts
+        ensures fields { result.now ≡ self.now }
+        ensures bounded { AreGoodOptions result.now }
+    {
+        &self.fields
+    }
+}

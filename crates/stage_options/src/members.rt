@@ -1,0 +1,249 @@
+//! Options as their members hold them.
+
+ghost use Rattle.std.specs.Prelude.{◌≡◌, ◌≤◌, codes, length, option_map, true, IfOk, IfSome};
+ghost use Rattle.std.specs.Option.{unwrap_or};
+ghost use Rattle.serde_json.specs.Find.{as_str, get_member};
+ghost use Rattle.serde_json.specs.View.{members_view};
+ghost use Rattle.las_header.specs.Offsets.{IsOffset};
+ghost use Rattle.las_header.specs.ScaleWords.{scale_of_nano};
+ghost use Rattle.stage_options.specs.Seen.{given_view};
+ghost use Rattle.stage_options.specs.Typed.{option_in, whole_in, text_in, scale_in, offset_in, columns_in, forward_in, las_fields_in, text_options_in};
+ghost use Rattle.stage_options.specs.Values.{whole_of, format_with, decimal_of, truth_of};
+
+use crate::bounded::{Delimiter, LasFields, Places};
+use crate::names::TargetName;
+use crate::options::TextOptions;
+use crate::values::Given;
+use crate::walks::name_of;
+use decimal_coords::Scale;
+use file_devices::Name;
+use forward_rules::{LasOpts, NameList};
+use las_header::Format;
+use option_texts::{NamedColumns, columns_of, forward_of};
+use pipeline_json::member;
+use serde_json::{Map, Value};
+use std::alloc::{AllocError, Global};
+
+/// The greatest offset, in nanounits.
+const MOST_OFFSET: i64 = 999_999_999_999_999_999;
+
+/// What an option is given.
+fn given<'a>(options: &'a Map<String, Value>, name: &str) -> Option<Given<'a>>
+    ensures { option_map given_view result ≡ get_member name.now (members_view options.now.entries) }
+{
+    match member(options, name) {
+        Some(value) => Some(Given::Json(value)),
+        None => None,
+    }
+}
+
+/// The whole number that an option is, or else this one.
+pub(crate) fn whole_or(options: &Map<String, Value>, name: &str, default: u32) -> u32
+    ensures { result ≡ unwrap_or (option_in whole_of name.now (members_view options.now.entries)) default }
+{
+    given(options, name)
+        .and_then(|given| given.whole())
+        .unwrap_or(default)
+}
+
+/// The whole number of this range that an option is.
+fn whole_in(options: &Map<String, Value>, low: u32, high: u32, name: &str) -> Option<u32>
+    ensures value { result ≡ whole_in low high name.now (members_view options.now.entries) }
+    ensures high { IfSome result (λ n. n ≤ high) }
+{
+    let whole = given(options, name)?.whole()?;
+    if low <= whole && whole <= high {
+        Some(whole)
+    } else {
+        None
+    }
+}
+
+/// The number of 16 bits that an option is.
+fn short_in(options: &Map<String, Value>, name: &str) -> Option<u16>
+    ensures { result ≡ whole_in 0 65535 name.now (members_view options.now.entries) }
+{
+    match whole_in(options, 0, 65_535, name) {
+        Some(whole) => Some(whole as u16),
+        None => None,
+    }
+}
+
+/// The minor version that is given.
+fn minor_in(options: &Map<String, Value>) -> Option<u8>
+    ensures value { result ≡ whole_in 4 4 (codes "minor_version") (members_view options.now.entries) }
+    ensures four { IfSome result (λ minor. minor ≡ 4) }
+{
+    match whole_in(options, 4, 4, "minor_version") {
+        Some(_) => Some(4),
+        None => None,
+    }
+}
+
+/// The point data record format that is given.
+fn format_in(options: &Map<String, Value>) -> Option<Format>
+    ensures { result ≡ option_in format_with (codes "dataformat_id") (members_view options.now.entries) }
+{
+    given(options, "dataformat_id")?.format()
+}
+
+/// The decimal that an option is, in nanounits.
+fn decimal_in(options: &Map<String, Value>, name: &str) -> Option<i64>
+    ensures { result ≡ option_in decimal_of name.now (members_view options.now.entries) }
+{
+    given(options, name)?.decimal()
+}
+
+/// The scale factor of so many nanounits.
+fn scale_of_nano(nano: i64) -> Option<Scale>
+    ensures { result ≡ scale_of_nano nano }
+{
+    Scale::new(nano)
+}
+
+/// The scale factor that an option is.
+fn scale_in(options: &Map<String, Value>, name: &str) -> Option<Scale>
+    ensures { result ≡ scale_in name.now (members_view options.now.entries) }
+{
+    scale_of_nano(decimal_in(options, name)?)
+}
+
+/// The offset that an option is, in nanounits.
+fn offset_in(options: &Map<String, Value>, name: &str) -> Option<i64>
+    ensures value { result ≡ offset_in name.now (members_view options.now.entries) }
+    ensures small { IfSome result IsOffset }
+{
+    let offset = decimal_in(options, name)?;
+    if -MOST_OFFSET <= offset && offset <= MOST_OFFSET {
+        Some(offset)
+    } else {
+        None
+    }
+}
+
+/// The truth value that an option is, or else true.
+fn truth_in(options: &Map<String, Value>, name: &str) -> bool
+    ensures { result ≡ unwrap_or (option_in truth_of name.now (members_view options.now.entries)) true }
+{
+    given(options, name)
+        .and_then(|given| given.truth())
+        .unwrap_or(true)
+}
+
+/// The text that an option is.
+fn text_of<'a>(options: &'a Map<String, Value>, name: &str) -> Option<&'a str>
+    ensures { option_map (λ s. s.now) result ≡ option_in as_str name.now (members_view options.now.entries) }
+{
+    given(options, name)?.text()
+}
+
+/// The text of so many bytes that an option is.
+fn text_in<'a>(
+    options: &'a Map<String, Value>,
+    low: usize,
+    high: usize,
+    name: &str,
+) -> Option<&'a str>
+    ensures value { option_map (λ s. s.now) result ≡ text_in low high name.now (members_view options.now.entries) }
+    ensures high { IfSome result (λ s. length s.now ≤ high) }
+{
+    let text = text_of(options, name)?;
+    if low <= text.len() && text.len() <= high {
+        Some(text)
+    } else {
+        None
+    }
+}
+
+/// The identifier that an option is.
+fn identifier_in(
+    alloc: Global,
+    options: &Map<String, Value>,
+    name: &str,
+) -> Result<Option<Name>, AllocError>
+    ensures value { IfOk result (λ o. o ≡ text_in 0 32 name.now (members_view options.now.entries)) }
+    ensures short { IfOk result (λ o. IfSome o (λ name. length name ≤ 32)) }
+{
+    match text_in(options, 0, 32, name) {
+        Some(text) => Ok(Some(name_of(alloc, text)?)),
+        None => Ok(None),
+    }
+}
+
+/// The names of what is forwarded.
+fn forward_in(alloc: Global, options: &Map<String, Value>) -> Result<NameList, AllocError>
+    ensures { IfOk result (λ names. names ≡ forward_in (members_view options.now.entries)) }
+{
+    let Some(text) = text_of(options, "forward") else {
+        return Ok(NameList::new(Vec::new(alloc)));
+    };
+    match forward_of(alloc, text)? {
+        Some(names) => Ok(NameList::new(names.into_vec())),
+        None => Ok(NameList::new(Vec::new(alloc))),
+    }
+}
+
+/// What a LAS writer is told of its file.
+pub(crate) fn las_fields(
+    alloc: Global,
+    options: &Map<String, Value>,
+) -> Result<LasFields, AllocError>
+    ensures { IfOk result (λ fields. fields ≡ las_fields_in (members_view options.now.entries)) }
+{
+    let forward = forward_in(alloc, options)?;
+    let system = identifier_in(alloc, options, "system_id")?;
+    let software = identifier_in(alloc, options, "software_id")?;
+    Ok(LasFields::new(LasOpts {
+        format: format_in(options),
+        minor: minor_in(options),
+        scale: [
+            scale_in(options, "scale_x"),
+            scale_in(options, "scale_y"),
+            scale_in(options, "scale_z"),
+        ],
+        offset: [
+            offset_in(options, "offset_x"),
+            offset_in(options, "offset_y"),
+            offset_in(options, "offset_z"),
+        ],
+        forward,
+        source_id: short_in(options, "filesource_id"),
+        encoding: short_in(options, "global_encoding"),
+        day: short_in(options, "creation_doy"),
+        year: short_in(options, "creation_year"),
+        system,
+        software,
+    }))
+}
+
+/// The columns of a text file: by default X, Y and Z.
+fn columns_in(alloc: Global, options: &Map<String, Value>) -> Result<NamedColumns, AllocError>
+    ensures { IfOk result (λ columns. columns ≡ columns_in (members_view options.now.entries)) }
+{
+    let text = text_of(options, "order").unwrap_or("X,Y,Z");
+    match columns_of(alloc, text)? {
+        Some(columns) => Ok(columns),
+        None => Ok(NamedColumns::none(alloc)),
+    }
+}
+
+/// What a text writer is told of its file.
+pub(crate) fn text_options(
+    alloc: Global,
+    filename: TargetName,
+    options: &Map<String, Value>,
+) -> Result<TextOptions, AllocError>
+    ensures { IfOk result (λ text. text ≡ text_options_in filename (members_view options.now.entries)) }
+{
+    let columns = columns_in(alloc, options)?;
+    let delimiter = name_of(alloc, text_in(options, 1, 8, "delimiter").unwrap_or(","))?;
+    let precision = whole_in(options, 0, 9, "precision").unwrap_or(3);
+    Ok(TextOptions {
+        filename,
+        columns,
+        precision: Places::new(precision),
+        delimiter: Delimiter::new(delimiter),
+        quote_header: truth_in(options, "quote_header"),
+        write_header: truth_in(options, "write_header"),
+    })
+}

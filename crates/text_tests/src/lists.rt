@@ -1,0 +1,107 @@
+//! Texts of options that are lists.
+
+use option_texts::{NamedColumn, columns_of, forward_of, is_columns, is_forward};
+use std::alloc::{AllocError, Global};
+
+/// Texts, and the columns that they are read as, each with a bar behind it.
+const COLUMNS: [(&str, &str); 16] = [
+    ("X:2,Y:2,Z:2,Classification", "X:2|Y:2|Z:2|Classification|"),
+    (" X , Y:3 ", "X|Y:3|"),
+    ("\t_a1 :\n0\r", "_a1:0|"),
+    ("X,X", "X|X|"),
+    ("X:", "refused"),
+    (":2", "refused"),
+    ("X:10", "refused"),
+    ("X:a", "refused"),
+    ("X:2:3", "refused"),
+    ("X Y", "refused"),
+    (",X", "refused"),
+    ("X,", "refused"),
+    ("", "refused"),
+    (" ", "refused"),
+    ("1X", "refused"),
+    ("X\u{c}", "refused"),
+];
+
+/// Texts, and the names that they are read as, each with a bar behind it.
+const FIELDS: [(&str, &str); 8] = [
+    ("all", "all|"),
+    ("scale , offset", "scale|offset|"),
+    ("vlr,vlr", "vlr|vlr|"),
+    (" offset_z\n", "offset_z|"),
+    ("All", "refused"),
+    ("scales", "refused"),
+    ("scale,", "refused"),
+    ("", "refused"),
+];
+
+/// Adds a column, with a bar behind it.
+fn show_column(column: &NamedColumn, shown: &mut String) -> Result<(), AllocError> {
+    shown.push_str(column.name.as_str())?;
+    if let Some(places) = column.places {
+        shown.push(':')?;
+        shown.push(char::from_digit(places, 10).unwrap_or('?'))?;
+    }
+    shown.push('|')
+}
+
+/// The columns of a text, each with a bar behind it.
+fn shown_columns(alloc: Global, text: &str) -> Result<String, AllocError> {
+    let Some(columns) = columns_of(alloc, text)? else {
+        return String::from_str(alloc, "refused");
+    };
+    let mut shown = String::new(alloc);
+    for column in columns.as_slice() {
+        show_column(column, &mut shown)?;
+    }
+    Ok(shown)
+}
+
+/// The names of a text, each with a bar behind it.
+fn shown_fields(alloc: Global, text: &str) -> Result<String, AllocError> {
+    let Some(names) = forward_of(alloc, text)? else {
+        return String::from_str(alloc, "refused");
+    };
+    let mut shown = String::new(alloc);
+    for name in names.as_slice() {
+        shown.push_str(name.as_str())?;
+        shown.push('|')?;
+    }
+    Ok(shown)
+}
+
+#[test]
+fn columns_are_read(rt: HostRuntime) -> Result<(), AllocError> {
+    for (text, expected) in COLUMNS {
+        let shown = shown_columns(rt.alloc(), text)?;
+        assert_eq!(rt; shown.as_str(), expected, "{text}");
+        assert_eq!(rt; is_columns(text), expected != "refused", "{text}");
+    }
+    Ok(())
+}
+
+#[test]
+fn fields_are_read(rt: HostRuntime) -> Result<(), AllocError> {
+    for (text, expected) in FIELDS {
+        let shown = shown_fields(rt.alloc(), text)?;
+        assert_eq!(rt; shown.as_str(), expected, "{text}");
+        assert_eq!(rt; is_forward(text), expected != "refused", "{text}");
+    }
+    Ok(())
+}
+
+/// A list of this many columns.
+fn many_columns(alloc: Global, count: usize) -> Result<String, AllocError> {
+    let mut text = String::from_str(alloc, "X")?;
+    for _ in 1..count {
+        text.push_str(",X")?;
+    }
+    Ok(text)
+}
+
+#[test]
+fn sixty_four_columns_are_the_most(rt: HostRuntime) -> Result<(), AllocError> {
+    assert!(rt; is_columns(many_columns(rt.alloc(), 64)?.as_str()));
+    assert!(rt; !is_columns(many_columns(rt.alloc(), 65)?.as_str()));
+    Ok(())
+}
