@@ -1,5 +1,5 @@
 -- Points that are cut into parts.
-use Rattle.std.specs.Prelude.{◌≡◌, ℕ, ◌+◌, ℤ, FitsSigned, List, [], ◌∷◌, ◌++◌, length, Some, None, Ok, option_map, ⊤}
+use Rattle.std.specs.Prelude.{◌≡◌, ℕ, ◌+◌, ◌<◌, ℤ, FitsSigned, List, [], ◌∷◌, ◌++◌, length, Some, None, Ok, option_map, ⊤}
 use Rattle.std.specs.Int.{w32}
 use Rattle.decimal_coords.specs.Grid.{nearest_step}
 use Rattle.point_formats.specs.declared.grid.Grid.{Grid}
@@ -27,6 +27,10 @@ SecondPartRefuses = (form : LasForm) (a b : List Point) → refusal form a ≡ N
 -- points behind others have the same refusal, with so many added to its number
 abbrev pub NumbersShift : Type 0
 NumbersShift = (form : LasForm) (n : ℕ) (points : List Point) → refusal_from form n points ≡ option_map (λ r. (n + r.0, r.1)) (refusal form points)
+
+-- a refused point is one of the points
+abbrev pub RefusedIsThere : Type 0
+RefusedIsThere = (form : LasForm) (points : List Point) (r : ℕ × EncodeFault) → refusal form points ≡ Some r → r.0 < length points
 
 -- the unfinished file of more points
 abbrev pub UnfinishedGrows : Type 0
