@@ -39,4 +39,4 @@ same_from form n (p ∷ points) are h =
     ap (λ q. q ∷ map (written_point form) points) first.0 ∙ ap (λ l. p ∷ l) (same_from form (n + 1) points are.1 first.1)
 
 pub points_again : PointsAreReadBack
-points_again form points w are = files_again form points w ∙ ap (λ l. Ok (record { points = l; cut = None })) (same_from form 0 points are w.held)
+points_again form points w are = files_again form points w ∙ ap (λ l. Ok (record { points = l; fault = None })) (same_from form 0 points are w.held)

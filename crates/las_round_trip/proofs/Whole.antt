@@ -3,6 +3,7 @@ use Rattle.std.proofs.Common.{◌≡◌, ℕ, zero, suc, ◌+◌, ◌-◌, ◌*�
 use Rattle.std.specs.Prelude.{◌==◌, ◌&&◌, nat_lt, if◌then◌else◌}
 use Rattle.std.specs.List.{All, flat_map}
 use Rattle.std.proofs.Math.Seq.{drop-append_seam, take-append_seam}
+use Rattle.cloud_points.specs.declared.faults.PointFault.TheVariants.{Cut}
 use Rattle.cloud_points.specs.declared.point.Point.{Point}
 use Rattle.las_header.specs.declared.block.Header.{Header}
 use Rattle.las_header.specs.declared.form.Format.{Format}
@@ -151,21 +152,21 @@ behind_lists form points w =
     let long : points_at form ≡ length (front ++ v) = omega (arith, front_length form points w, length-append front v) in
     ap (drop (points_at form)) (sym (append_assoc front v rest)) ∙ ap (λ n. drop n ((front ++ v) ++ rest)) long ∙ drop-append_seam (front ++ v) rest
 
-points_read : (form : LasForm) (points : List Point) → IsWritten form points → points_from (header_for form points) 0 (length points) (drop (header_for form points).points_at (las_output form points)) ≡ map (written_point form) points
+points_read : (form : LasForm) (points : List Point) → IsWritten form points → points_from (point_of (header_for form points)) (header_for form points).record_length 0 (length points) (drop (header_for form points).points_at (las_output form points)) ≡ map (written_point form) points
 unfolding header_with point_of
 points_read form points w =
     let none : format_size form.format * 0 ≡ 0 = omega arith in
     points_again form (header_for form points) 0 points (drop (points_at form) (las_output form points)) (evlrs_bytes form) refl (all_held form points w.held)
     (ap (λ n. drop n (drop (points_at form) (las_output form points))) none ∙ behind_lists form points w)
 
-las_is : (form : LasForm) (points : List Point) → IsWritten form points → las_with (header_for form points) (las_output form points) ≡ record { points = map (written_point form) points; cut = None }
+las_is : (form : LasForm) (points : List Point) → IsWritten form points → las_with (header_for form points) (las_output form points) ≡ record { points = map (written_point form) points; fault = None }
 las_is form points w =
     let h = header_for form points in
     let file = las_output form points in
     let n = length points in
-    let these : points_from h 0 (whole_records h file) (drop h.points_at file) ≡ map (written_point form) points = ap (λ m. points_from h 0 m (drop h.points_at file)) (whole_is form points w) ∙ points_read form points w in
-    let uncut : cut_of (points_in h) (whole_records h file) ≡ None = (λ i. cut_of (points_counted form points w i) (whole_is form points w i)) ∙ ap (λ b. if b then None else Some n) (eq-eqb n n refl) in
-    λ i. record { points = these i; cut = uncut i }
+    let these : points_from (point_of h) h.record_length 0 (whole_records h file) (drop h.points_at file) ≡ map (written_point form) points = ap (λ m. points_from (point_of h) h.record_length 0 m (drop h.points_at file)) (whole_is form points w) ∙ points_read form points w in
+    let uncut : cut_of (points_in h) (whole_records h file) ≡ None = (λ i. cut_of (points_counted form points w i) (whole_is form points w i)) ∙ ap (λ b. if b then None else Some (Cut n)) (eq-eqb n n refl) in
+    λ i. record { points = these i; fault = uncut i }
 
 pub files_again : FilesAreReadBack
 files_again form points w =

@@ -26,7 +26,7 @@ written_point form p = decoded form.format (grid_for form) (point_record form p)
 
 -- a written file is read as a whole one, with the points of its records
 abbrev pub FilesAreReadBack : Type 0
-FilesAreReadBack = (form : LasForm) (points : List Point) → IsWritten form points → las_of (las_output form points) ≡ Ok (record { points = map (written_point form) points; cut = None })
+FilesAreReadBack = (form : LasForm) (points : List Point) → IsWritten form points → las_of (las_output form points) ≡ Ok (record { points = map (written_point form) points; fault = None })
 
 -- each point is one that the format holds as it is
 abbrev pub AreOfFormat : LasForm → List Point → Type 0
@@ -34,4 +34,4 @@ AreOfFormat form points = AllByRecursion (λ p. FitsTypes p × IsOfFormat form.f
 
 -- such points are read back as they were
 abbrev pub PointsAreReadBack : Type 0
-PointsAreReadBack = (form : LasForm) (points : List Point) → IsWritten form points → AreOfFormat form points → las_of (las_output form points) ≡ Ok (record { points = points; cut = None })
+PointsAreReadBack = (form : LasForm) (points : List Point) → IsWritten form points → AreOfFormat form points → las_of (las_output form points) ≡ Ok (record { points = points; fault = None })

@@ -1,9 +1,9 @@
 //! The variable length records of a written file.
 
-ghost use Rattle.std.specs.Prelude.{◌≡◌, ◌+◌, ◌≤◌, length, OnOk};
+ghost use Rattle.std.specs.Prelude.{◌≡◌, ◌+◌, ◌≤◌, length, OnOk, OnErr};
 ghost use Rattle.std.specs.List.{All, flat_map};
 ghost use Rattle.file_devices.specs.Counts.{HasCause};
-ghost use Rattle.file_devices.specs.Content.{Appends};
+ghost use Rattle.file_devices.specs.Content.{Appends, AppendsPart};
 ghost use Rattle.las_header.specs.Headers.{block_size};
 ghost use Rattle.las_vlr.specs.Limits.{AreHeldVlrs};
 ghost use Rattle.las_vlr.specs.Written.{IsVlr, payload_size, vlr_bytes, evlr_bytes};
@@ -41,6 +41,8 @@ pub(crate) fn points_at(vlrs: &[Vlr]) -> u32
 pub(crate) fn put_vlrs<K: Sink>(vlrs: &[Vlr], sink: &mut K) -> Result<(), Failed>
     requires { All IsVlr vlrs.now }
     ensures ok { OnOk result (Appends (K.bytes sink.old) (flat_map vlr_bytes vlrs.now) (K.bytes sink.new)) }
+    ensures part { OnErr result (AppendsPart (K.bytes sink.old) (flat_map vlr_bytes vlrs.now)
+        (K.bytes sink.new)) }
     ensures no_less { K.appended sink.old ≤ K.appended sink.new }
     ensures cause { HasCause (K.faults sink.old) (K.faults sink.new) result }
 {

@@ -78,6 +78,8 @@ fn put_header<K: Sink>(
     requires start { start ≡ points_at form.now }
     ensures ok { OnOk result (Appends (K.bytes sink.old) (header_bytes (header_with form.now totals.now))
         (K.bytes sink.new)) }
+    ensures part { OnErr result (AppendsPart (K.bytes sink.old) (header_bytes (header_with form.now totals.now))
+        (K.bytes sink.new)) }
     ensures begun { OnOk result (375 ≤ K.appended sink.new) }
     ensures cause { HasCause (K.faults sink.old) (K.faults sink.new) result }
 {
@@ -118,6 +120,8 @@ fn put_front<K: Sink>(
     requires start { start ≡ points_at form.now }
     ensures ok { OnOk result (Appends (K.bytes sink.old)
         (header_bytes (header_with form.now totals.now) ++ vlrs_bytes form.now) (K.bytes sink.new)) }
+    ensures part { OnErr result (AppendsPart (K.bytes sink.old)
+        (header_bytes (header_with form.now totals.now) ++ vlrs_bytes form.now) (K.bytes sink.new)) }
     ensures begun { OnOk result (375 ≤ K.appended sink.new) }
     ensures cause { HasCause (K.faults sink.old) (K.faults sink.new) result }
 {
@@ -129,8 +133,8 @@ impl<K: FileSink> LasWriter<K> {
     /// A writer onto a sink to which nothing was appended; it appends a header without points, and the VLRs.
     ///
     /// The form is of version 1.4, its offsets are below 10^18 nanounits in size, and its lists are within the limits of
-    /// those that are read. A refusal gives the sink back. It is `Failed` only where the sink failed, and `Memory` where
-    /// there is none for the records of a chunk.
+    /// those that are read. A refusal gives the sink back. It is `Memory` where there is none for the records of a chunk, and
+    /// the sink is then as it was; it is `Failed` only where the sink failed, and a beginning was appended then.
     pub fn begin(alloc: Global, sink: K, form: LasForm) -> Result<LasWriter<K>, (K, BeginErr)>
         requires { IsForm form }
         ensures ok { IfOk result (λ w. Appends (K.bytes sink) (las_unfinished form []) (K.bytes w.sink)) }
@@ -139,6 +143,8 @@ impl<K: FileSink> LasWriter<K> {
         ensures totals { IfOk result (λ w. w.totals ≡ totals_of form []) }
         ensures form { IfOk result (λ w. w.form ≡ form) }
         ensures later { IfOk result (λ w. K.faults sink ≤ K.faults w.sink) }
+        ensures part { IfErr result (λ e. AppendsPart (K.bytes sink) (las_unfinished form []) (K.bytes e.0)) }
+        ensures unchanged { IfErr result (λ e. e.1 ≡ BeginErr.Memory → e.0 ≡ sink) }
         ensures failed { IfErr result (λ e. e.1 ≡ BeginErr.Failed → Rose (K.faults sink) (K.faults e.0)) }
         ensures count { IfErr result (λ e. K.faults sink ≤ K.faults e.0) }
     {
@@ -162,12 +168,14 @@ impl<K: FileSink> LasWriter<K> {
         }
     }
 
-    /// Appends the records of a chunk of points, in their order, with one call of the sink.
+    /// Appends the records of a chunk of points, in their order, with one call of the sink, or with none where there are no
+    /// points: an empty piece would have the sink write what it holds back.
     ///
     /// It is `Refused` exactly where a point has no record, with the first such point, and changes nothing then. It is
     /// `Failed` only where the sink failed. A prefix of the records was appended then.
     pub fn put_all(&mut self, points: &[Point]) -> Result<(), ChunkErr>
         requires { length points.now ≤ MOST_POINTS }
+        ensures idle { points.now ≡ [] → self.new ≡ self.old }
         ensures ok { OnOk result (Appends (K.bytes self.old.sink) (records self.old.form points.now)
             (K.bytes self.new.sink)) }
         ensures held { OnOk result (refusal self.old.form points.now ≡ None) }
@@ -187,6 +195,9 @@ impl<K: FileSink> LasWriter<K> {
             → Rose (K.faults self.old.sink) (K.faults self.new.sink)) }
         ensures later { K.faults self.old.sink ≤ K.faults self.new.sink }
     {
+        if points.is_empty() {
+            return Ok(());
+        }
         let parts = &mut self.parts;
         let mut totals = parts.totals;
         let size = put_records(points, &parts.form, &mut parts.buffer, &mut totals)?;

@@ -10,7 +10,7 @@ use file_devices::{Bytes, MemIn, Source, SureOut};
 use forward_rules::{Forwarding, LasForm};
 use las_header::{Format, Header};
 use las_reader::LasReader;
-use las_round_trip::{files_are_read_back, points_are_read_back};
+use las_round_trip::{files_are_read_back, files_become_bytes, points_are_read_back};
 use las_vlr::{Vlr, VlrList};
 use las_writer::{
     LasWriter, forms_are_taken, raw_numbers_are_steps, refusals_are_cut, unfinished_grows,
@@ -192,6 +192,7 @@ fn a_file_is_written_again_as_it_was(rt: HostRuntime) {
     let written = read_and_written(rt.alloc(), &file);
     assert_eq!(rt; written.as_deref(), Some(file.as_slice()));
     files_are_read_back();
+    files_become_bytes();
     points_are_read_back();
     raw_numbers_are_steps();
     refusals_are_cut();
