@@ -14,14 +14,19 @@ import sys
 from fractions import Fraction
 
 
-def header(minor, point_format, size, points, scale, offset, start, vlrs=0, evlrs=0, evlr_start=0):
-    """The public header block of LAS 1.4, or of LAS 1.2 where minor is 2."""
+EXAMPLES = (b"lasline examples", b"examples/make.py", 1, 2024)
+DEFAULTS = (b"lasline", b"lasline 1", 0, 0)
+
+
+def header(minor, point_format, size, points, scale, offset, start, vlrs=0, evlrs=0, evlr_start=0, origin=EXAMPLES):
+    """The public header block of LAS 1.4, or of LAS 1.2 where minor is 2. All points are first returns. The origin is the system,
+    the software, the day and the year."""
     length = 375 if minor == 4 else 227
     count = len(points)
     legacy = count if point_format < 6 else 0
     block = b"LASF"
     block += struct.pack("<HH16sBB", 0, 16 if point_format >= 6 else 0, bytes(16), 1, minor)
-    block += struct.pack("<32s32sHH", b"lasline examples", b"examples/make.py", 1, 2024)
+    block += struct.pack("<32s32sHH", *origin)
     block += struct.pack("<HIIBHI", length, start, vlrs, point_format, size, legacy)
     block += struct.pack("<5I", legacy, 0, 0, 0, 0)
     block += struct.pack("<3d", *[float(step) for step in scale])
@@ -43,15 +48,30 @@ def evlr(record_id, payload):
     return struct.pack("<H16sHQ32s", 0, b"lasline", record_id, len(payload), b"an example") + payload
 
 
-def places(value):
-    """A number with three places, rounded half away from zero."""
-    steps = int(abs(value) * 1000 + Fraction(1, 2))
-    sign = "-" if value < 0 and steps > 0 else ""
-    return f"{sign}{steps // 1000}.{steps % 1000:03d}"
+def nearest(value):
+    """The nearest whole number, a half away from zero."""
+    steps = int(abs(value) + Fraction(1, 2))
+    return -steps if value < 0 else steps
+
+
+def places(value, digits=3):
+    """A number with so many places, rounded half away from zero."""
+    steps = nearest(value * 10**digits)
+    sign = "-" if steps < 0 else ""
+    return f"{sign}{abs(steps) // 10**digits}.{abs(steps) % 10**digits:0{digits}d}"
 
 
 def text(points):
     lines = ['"X","Y","Z"'] + [",".join(places(value) for value in point) for point in points]
+    return "".join(line + "\n" for line in lines)
+
+
+def columns(points):
+    """The points of the hill in two places, with their intensities and the words of their times."""
+    lines = ['"X","Y","Z","Intensity","GpsTime"']
+    for k, point in enumerate(points):
+        cells = [places(value, 2) for value in point] + [str(100 + k), f"0x{struct.pack('>d', 250000.0 + k / 100).hex()}"]
+        lines.append(",".join(cells))
     return "".join(line + "\n" for line in lines)
 
 
@@ -70,28 +90,64 @@ def grid(raw, scale, offset):
     return [tuple(Fraction(n) * step + shift for n, step, shift in zip(point, scale, offset)) for point in raw]
 
 
+def record6(raw, intensity, kind, angle, time):
+    """A record of format 6: the only return of its pulse, from source 1."""
+    return struct.pack("<iiiHBBBBhHd", *raw, intensity, 0x11, 0, kind, 0, angle, 1, time)
+
+
+def record3(raw, k):
+    """The record of a point of the coast in format 3."""
+    return struct.pack("<iiiHBBbBHdHHH", *raw, 7, 9, 9, -3, 0, 1, k / 2, 1000 * k, 2, 3)
+
+
+def hill_record(raw, k):
+    return record6(raw, 100 + k, 2, -500 + 7 * k, 250000.0 + k / 100)
+
+
 def hill():
     """150 points in format 6, 15 by 10 of them: more than two chunks of 64."""
     scale, offset = [Fraction(1, 100)] * 3, [Fraction(500000), Fraction(4800000), Fraction(0)]
     raw = [(150 * i, 150 * j, 12000 - 37 * ((i - 7) ** 2 + (j - 4) ** 2)) for j in range(10) for i in range(15)]
     points = grid(raw, scale, offset)
     data = header(4, 6, 30, points, scale, offset, 375)
-    for k, (x, y, z) in enumerate(raw):
-        data += struct.pack("<iiiHBBBBhHd", x, y, z, 100 + k, 0x11, 0, 2, 0, -500 + 7 * k, 1, 250000.0 + k / 100)
-    return data, points
+    return data + b"".join(hill_record(point, k) for k, point in enumerate(raw)), points
+
+
+COAST_GRID = ([Fraction(1, 10000)] * 3, [Fraction(-3, 2), Fraction(0), Fraction(1, 4)])
+NOTE, LATER_NOTE = vlr(7, b"a note"), evlr(8, b"another note")
 
 
 def coast():
     """5 points in format 3 on a grid of 0.0001, with bytes of their own behind each record, a VLR, a gap and an EVLR."""
-    scale, offset = [Fraction(1, 10000)] * 3, [Fraction(-3, 2), Fraction(0), Fraction(1, 4)]
+    scale, offset = COAST_GRID
     raw = [(15005, -4, 0), (14995, -5, -2500), (-2147483648, 2147483647, -2505), (10005, 5, 7), (0, 123456789, -2495)]
-    note = vlr(7, b"a note")
-    start = 375 + len(note) + 3
+    start = 375 + len(NOTE) + 3
     points = grid(raw, scale, offset)
-    data = header(4, 3, 36, points, scale, offset, start, 1, 1, start + 36 * len(raw)) + note + b"gap"
-    for k, (x, y, z) in enumerate(raw):
-        data += struct.pack("<iiiHBBbBHdHHH", x, y, z, 7, 9, 9, -3, 0, 1, k / 2, 1000 * k, 2, 3) + b"ab"
-    return data + evlr(8, b"another note"), points
+    data = header(4, 3, 36, points, scale, offset, start, 1, 1, start + 36 * len(raw)) + NOTE + b"gap"
+    return data + b"".join(record3(point, k) + b"ab" for k, point in enumerate(raw)) + LATER_NOTE, points
+
+
+def steps(points, scale, offset):
+    """The raw numbers of points on a grid."""
+    return [tuple(nearest((value - shift) / step) for value, step, shift in zip(point, scale, offset)) for point in points]
+
+
+def copied(points):
+    """These first points of the coast, in a file of the same kind: without the gap, and the bytes behind each record."""
+    scale, offset = COAST_GRID
+    raw, start = steps(points, scale, offset), 375 + len(NOTE)
+    data = header(4, 3, 34, points, scale, offset, start, 1, 1, start + 34 * len(points)) + NOTE
+    return data + b"".join(record3(point, k) for k, point in enumerate(raw)) + LATER_NOTE
+
+
+def joined6(hill_points, coast_points):
+    """All points in format 6, in steps of 0.001, 0.01 and 0.001. The coast has its angle in steps of 0.006 degree, and no colours."""
+    scale, offset = [Fraction(1, 1000), Fraction(1, 100), Fraction(1, 1000)], [Fraction(0)] * 3
+    hill_raw, coast_raw = steps(hill_points, scale, offset), steps(coast_points, scale, offset)
+    points = grid(hill_raw + coast_raw, scale, offset)
+    data = header(4, 6, 30, points, scale, offset, 375, origin=DEFAULTS)
+    data += b"".join(hill_record(point, k) for k, point in enumerate(hill_raw))
+    return data + b"".join(record6(point, 7, 9, -500, k / 2) for k, point in enumerate(coast_raw))
 
 
 def old():
@@ -107,7 +163,7 @@ def main():
     hill_data, hill_points = hill()
     coast_data, coast_points = coast()
     every, some = len(hill_points), 5
-    reader, head, writer = "readers.las", "filters.head", "writers.text"
+    reader, head, writer, las_writer = "readers.las", "filters.head", "writers.text", "writers.las"
 
     # By pipeline: the exit code, what is printed, what is said on standard error, and the files that are kept.
     runs = {
@@ -125,6 +181,14 @@ def main():
             "",
             {"all.txt": text(hill_points + coast_points)},
         ),
+        "columns": (0, report((reader, every), (writer, every, every)), "", {"hill.csv": columns(hill_points)}),
+        "copy": (0, report((reader, 5), (head, 3), (las_writer, 3, 3)), "", {"copy.las": copied(coast_points[:3])}),
+        "grid": (
+            0,
+            report((reader, every), (reader, 5), (las_writer, every + 5, every + 5), last_views=2),
+            "",
+            {"grid.las": joined6(hill_points, coast_points)},
+        ),
         "whole": (0, report((reader, every)), "", {}),
         "named": (0, report((reader, 5), (writer, 5, 5)), "", {"coast.asc": text(coast_points)}),
         "old": (3, "", "lasline: stage 0: version not read\n", {}),
@@ -133,7 +197,7 @@ def main():
     files = {"hill.las": hill_data, "coast.las": coast_data, "old.las": old()}
     for name, (code, printed, said, kept) in runs.items():
         for file, content in [("code", f"{code}\n"), ("printed", printed), ("said", said), *kept.items()]:
-            files[f"expected/{name}/{file}"] = content.encode()
+            files[f"expected/{name}/{file}"] = content if isinstance(content, bytes) else content.encode()
     for name, content in files.items():
         path = os.path.join(folder, name)
         os.makedirs(os.path.dirname(path), exist_ok=True)
