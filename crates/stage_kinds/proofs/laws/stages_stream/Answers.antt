@@ -1,4 +1,5 @@
 use Rattle.stage_kinds.proofs.Streams as streams
+use Rattle.stage_kinds.proofs.Stopping as stopping
 use Rattle.stage_kinds.proofs.laws.stages_stream.Goals as goal
 
 pub returns : goal.returns
@@ -10,4 +11,7 @@ returns c = record {
   merge_sound = streams.merge_sound;
   text_gives = streams.text_gives;
   text_sound = streams.text_sound;
+  las_gives = stopping.las_gives;
+  las_stops = stopping.las_stops;
+  las_fault = stopping.las_fault;
 }
