@@ -37,8 +37,8 @@ behind_fault : (n k m : ℕ) (o : Option (ℕ × EncodeFault)) → ((at : ℕ) �
 behind_fault n k m None h = refl
 behind_fault n k m (Some r) h = ap (λ number. Some (stage.Point (point_fault number r.1))) (h r.0)
 
-finds : (form : LasForm) (n : ℕ) (a b : List Point) → refusal form a ≡ None → recording_fault form n (a ++ b) ≡ recording_fault form (recorded form n a) b
-finds form n a b e =
+pub fault_behind : (form : LasForm) (n : ℕ) (a b : List Point) → refusal form a ≡ None → recording_fault form n (a ++ b) ≡ recording_fault form (recorded form n a) b
+fault_behind form n a b e =
     let all : length (before_refused form a) ≡ length a = ap length (all_before form a e) in
     ap (fault_of n) (second_part_refuses form a b e ∙ shifted form (length a) b)
     ∙ behind_fault n (length a) (recorded form n a) (refusal form b) (λ at. omega (arith, all))
@@ -57,7 +57,7 @@ pub recording_keeps : KeepsCutting recording_meaning
 recording_keeps = record {
   emits = λ s a b h. before_second s.0 a b (none_refused s.1 (refusal s.0 a) h);
   goes_on = λ s a b h. ap (λ n. (s.0, n)) (goes_on s.0 s.1 a b (none_refused s.1 (refusal s.0 a) h));
-  finds = λ s a b h. finds s.0 s.1 a b (none_refused s.1 (refusal s.0 a) h);
+  finds = λ s a b h. fault_behind s.0 s.1 a b (none_refused s.1 (refusal s.0 a) h);
   stops_emit = λ s a b h. let r = some_refused s.1 (refusal s.0 a) h in before_first s.0 a b r.at r.is;
   stops_after = λ s a b h. let r = some_refused s.1 (refusal s.0 a) h in ap (λ points. (s.0, counted_on s.1 (length points))) (before_first s.0 a b r.at r.is);
   stops_fault = λ s a b h. let r = some_refused s.1 (refusal s.0 a) h in ap (fault_of s.1) (first_part_refuses s.0 a b r.at r.is ∙ sym r.is);

@@ -1,5 +1,5 @@
 //! Tests of the public calls of the libraries that a run is made of: the words of a command, devices in memory, points,
-//! queues, text, nets and stages.
+//! queues, nets and stages.
 //!
 //! They stand above these libraries, since a crate that has tests is proved once more with them.
 #![tactic(auto)]
@@ -16,7 +16,5 @@ mod points;
 mod queues;
 #[cfg(test)]
 mod stages;
-#[cfg(test)]
-mod texts;
 #[cfg(test)]
 mod words;

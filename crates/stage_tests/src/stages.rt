@@ -1,14 +1,16 @@
 //! Stages that run by themselves.
 
-ghost use Rattle.std.specs.Prelude.{◌≡◌, true, false};
+ghost use Rattle.std.specs.Prelude.{◌≡◌, true, false, IfOk, IfSome};
+ghost use Rattle.text_writer.specs.TextOutput.{IsTextForm};
+ghost use Rattle.stage_kinds.specs.Stages.{is_reader};
 
-use cloud_points::{Make, Point, PointFault, Spread, StageFault, Work, put_points};
-use file_devices::{MemIn, MemOut, Op};
+use cloud_points::{Dim, Make, Point, PointFault, Spread, StageFault, Work, put_points};
+use file_devices::{MemIn, MemOut, Name, Op};
 use las_reader::LasReader;
 use recorded_files::two_points;
-use stage_kinds::{Head, StageWork};
-use std::alloc::Global;
-use text_writer::TextWriter;
+use stage_kinds::{FileForm, Head, Held, StageWork, begin_file};
+use std::alloc::{AllocError, Global};
+use text_writer::{Column, ColumnList, TextForm};
 
 /// A stage over devices in memory.
 type Stage = StageWork<MemIn, MemOut>;
@@ -56,10 +58,10 @@ fn hand<W: Work>(stage: &mut W, count: usize) -> (Option<StageFault>, usize)
 }
 
 fn drop_stage(stage: Stage) {
-    match stage {
-        StageWork::Reader(reader) => drop(reader.release()),
-        StageWork::Head(_) | StageWork::Merge => {}
-        StageWork::Text(writer) => drop(writer.release()),
+    match stage.release() {
+        Held::Source(source) => drop(source),
+        Held::Sink(sink) => drop(sink),
+        Held::Nothing => {}
     }
 }
 
@@ -132,13 +134,47 @@ fn a_reader_gives_its_points_and_its_end(rt: HostRuntime) {
     }
 }
 
-/// What becomes of two points and then of one where the third of these appends fails.
+fn column(alloc: Global, dim: Dim) -> Result<Column, AllocError>
+    ensures { IfOk result (λ c. c.places ≡ 3) }
+{
+    let name = Name::new(String::from_str(alloc, dim.name())?);
+    Ok(Column {
+        dim,
+        name,
+        places: 3,
+    })
+}
+
+/// Text of X, Y and Z.
+fn text_form(alloc: Global) -> Result<TextForm, AllocError>
+    ensures { IfOk result (λ f. IsTextForm f) }
+{
+    let x = column(alloc, Dim::X)?;
+    let y = column(alloc, Dim::Y)?;
+    let z = column(alloc, Dim::Z)?;
+    Ok(TextForm {
+        columns: ColumnList::new(vec![in alloc; x, y, z]?),
+        delimiter: Name::new(String::from_str(alloc, ",")?),
+        quote_header: true,
+        write_header: true,
+    })
+}
+
+/// A work that is no reader.
+fn writer(alloc: Global, sink: MemOut) -> Option<Stage>
+    ensures { IfSome result (λ w. is_reader w ≡ false) }
+{
+    let form = FileForm::Text(text_form(alloc).ok()?);
+    match begin_file(alloc, sink, form) {
+        Ok(stage) => Some(stage),
+        Err(_) => None,
+    }
+}
+
+/// What becomes of two points and then of one where the second of these appends fails.
 fn written(alloc: Global) -> Option<[(Option<StageFault>, usize); 2]> {
-    let fails = vec![in alloc; 4u64].ok()?;
-    let Ok(writer) = TextWriter::begin(MemOut::new(alloc, 200, fails).ok()?) else {
-        return None;
-    };
-    let mut stage: Stage = StageWork::Text(writer);
+    let fails = vec![in alloc; 3u64].ok()?;
+    let mut stage = writer(alloc, MemOut::new(alloc, 200, fails).ok()?)?;
     let first = hand(&mut stage, 2);
     let second = hand(&mut stage, 1);
     drop_stage(stage);
