@@ -12,6 +12,7 @@ fn shown_options(alloc: Global, options: &Options) -> Result<String, AllocError>
         Options::ReadersLas(options) => { format!(in alloc; "read {}", options.filename.as_str()) }
         Options::FiltersHead(options) => format!(in alloc; "head {}", options.count),
         Options::FiltersMerge(_) => String::from_str(alloc, "merge"),
+        Options::WritersLas(options) => { format!(in alloc; "write {}", options.filename.as_str()) }
         Options::WritersText(options) => {
             format!(in alloc; "write {}", options.filename.as_str())
         }
@@ -142,13 +143,17 @@ const STAGES: &[(&str, &str)] = &[
     ),
     (
         r#",{"type":"writers.text","filename":"o","order":"X,Y,Z"}"#,
-        "not built",
+        "write o",
     ),
     (
         r#",{"type":"writers.text","filename":"o","where":""}"#,
         "not built",
     ),
-    (r#",{"type":"writers.las","filename":"o"}"#, "not built"),
+    (r#",{"type":"writers.las","filename":"o"}"#, "write o"),
+    (
+        r#",{"type":"writers.las","filename":"o","where":""}"#,
+        "not built",
+    ),
     (r#","b.las","o.txt""#, "write o.txt"),
 ];
 

@@ -123,7 +123,8 @@ const FAULTS: &[(KindName, Option<&str>, &str, &str)] = &[
 
 /// The options of a writer with a file, without the braces, and their first fault.
 const VALUES: &[(&str, &str)] = &[
-    (r#""order":"""#, "none"),
+    (r#""order":"""#, "wrong 1 order"),
+    (r#""order":"X:2, Intensity""#, "none"),
     (r#""order":["X"]"#, "wrong 1 order"),
     (r#""precision":9"#, "none"),
     (r#""precision":"0""#, "none"),
@@ -142,6 +143,40 @@ const VALUES: &[(&str, &str)] = &[
     (r#""where":true"#, "wrong 1 where"),
 ];
 
+/// The options of a LAS writer with a file, without the braces, and their first fault.
+const LAS_VALUES: &[(&str, &str)] = &[
+    (r#""dataformat_id":"6""#, "none"),
+    (r#""dataformat_id":4"#, "wrong 1 dataformat_id"),
+    (r#""minor_version":4"#, "none"),
+    (r#""minor_version":3"#, "wrong 1 minor_version"),
+    (r#""scale_x":"0.000000001","scale_z":1"#, "none"),
+    (r#""scale_x":0.01"#, "wrong 1 scale_x"),
+    (r#""scale_y":"0""#, "wrong 1 scale_y"),
+    (r#""scale_z":"1.1""#, "wrong 1 scale_z"),
+    (r#""offset_x":-999999999,"offset_y":"+.5""#, "none"),
+    (r#""offset_y":1000000000"#, "wrong 1 offset_y"),
+    (r#""offset_z":"-1000000000""#, "wrong 1 offset_z"),
+    (r#""forward":"all, scale""#, "none"),
+    (r#""forward":"All""#, "wrong 1 forward"),
+    (r#""filesource_id":65535"#, "none"),
+    (r#""creation_year":65536"#, "wrong 1 creation_year"),
+    (
+        r#""system_id":"123456789012345678901234567890123""#,
+        "wrong 1 system_id",
+    ),
+];
+
+/// Whether the options of a writer with a file are told so.
+fn writer_tells(
+    alloc: Global,
+    kind: KindName,
+    member: &str,
+    words: &str,
+) -> Result<bool, AllocError> {
+    let text = format!(in alloc; "{{{member}}}")?;
+    tells(alloc, kind, Some("o"), text.as_str(), words)
+}
+
 #[test]
 fn first_faults_of_options_are_told(rt: HostRuntime) -> Result<(), Fail> {
     let alloc = rt.alloc();
@@ -149,17 +184,12 @@ fn first_faults_of_options_are_told(rt: HostRuntime) -> Result<(), Fail> {
         assert!(rt; tells(alloc, *kind, *filename, text, words)?, "{text}");
     }
     for (member, words) in VALUES {
-        let text = format!(in alloc; "{{{member}}}")?;
-        assert!(rt;
-            tells(
-                alloc,
-                KindName::WritersText,
-                Some("o"),
-                text.as_str(),
-                words
-            )?,
-            "{member}"
-        );
+        let kind = KindName::WritersText;
+        assert!(rt; writer_tells(alloc, kind, member, words)?, "{member}");
+    }
+    for (member, words) in LAS_VALUES {
+        let kind = KindName::WritersLas;
+        assert!(rt; writer_tells(alloc, kind, member, words)?, "{member}");
     }
     Ok(())
 }

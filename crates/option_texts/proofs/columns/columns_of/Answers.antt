@@ -35,6 +35,6 @@ pub invariant_of-result : goal.invariant_of-result
 invariant_of-result c =
     let text = c.args.text.now in
     let read = last_added column_of text c.loop-part.columns.items c.add_column-2.new.columns.items c.loop-part.rest.now c.in_ok-add_column-2.field-0
-        (c.in_default.ensures.byte (lit< tt) (λ w o h. h)) c.if-not-branch-2.false c.in_ok-add_column-2.ensures c.loop-part.invariant in
+    (c.in_default.ensures.byte (lit< tt) (λ w o h. h)) c.if-not-branch-2.false c.in_ok-add_column-2.ensures c.loop-part.invariant in
     are_columns text c.add_column-2.new.columns.items
-        (sym (ap (λ few. if few then each_read column_of (parts_of text) else None) (sym c.if-not-has_few_parts.false ∙ c.has_few_parts.ensures)) ∙ read)
+    (sym (ap (λ few. if few then each_read column_of (parts_of text) else None) (sym c.if-not-has_few_parts.false ∙ c.has_few_parts.ensures)) ∙ read)

@@ -80,12 +80,12 @@ loop-reader-preserved g c =
     let o = options_at c.args.stages.now c.loop-reader.at in
     let reader-here = get_or_from_slice_get c.args.readers.items c.loop-reader.at c.in-Some.reader None p.0 in
     let form-there = sym (now.left_forms c.loop-reader.at (omega arith)) ∙ slice_get_read c.loop-reader.forms.items (length c.loop-reader.forms.items) c.loop-reader.at c.index_mut.result.now refl
-        (let a = n.0 in let b = c.requires.count in let d = now.forms in omega (arith, a, b, d)) c.index_mut.ensures.value in
+    (let a = n.0 in let b = c.requires.count in let d = now.forms in omega (arith, a, b, d)) c.index_mut.ensures.value in
     let form-here = c.take-form.ensures.value ∙ sym (get_or_from_slice_get c.args.forms.items c.loop-reader.at c.index_mut.result.now None form-there) in
     let one = subst (λ f. IsWork g.F.In.Source g.F.Out.Sink (files.map c.args.files.now) c.loop-reader.at o (slice_index_or c.args.readers.items c.loop-reader.at None) f c.in-Ok-begin_work.work) form-here
-        (subst (λ r. IsWork g.F.In.Source g.F.Out.Sink (files.map c.args.files.now) c.loop-reader.at o r c.take-form.result c.in-Ok-begin_work.work) (sym reader-here)
-        (subst (λ x. IsWork g.F.In.Source g.F.Out.Sink (files.map c.args.files.now) c.loop-reader.at x c.in-Some.reader c.take-form.result c.in-Ok-begin_work.work) (ap (λ (s : StageSpec). s.options) (sym (stage-is c.args.stages.now c.loop-reader.at c.index-stages-at.result at)))
-        (subst (λ map. IsWork g.F.In.Source g.F.Out.Sink map c.loop-reader.at c.index-stages-at.result.options c.in-Some.reader c.take-form.result c.in-Ok-begin_work.work) now.map c.in-Ok-begin_work.ensures.ok))) in
+    (subst (λ r. IsWork g.F.In.Source g.F.Out.Sink (files.map c.args.files.now) c.loop-reader.at o r c.take-form.result c.in-Ok-begin_work.work) (sym reader-here)
+    (subst (λ x. IsWork g.F.In.Source g.F.Out.Sink (files.map c.args.files.now) c.loop-reader.at x c.in-Some.reader c.take-form.result c.in-Ok-begin_work.work) (ap (λ (s : StageSpec). s.options) (sym (stage-is c.args.stages.now c.loop-reader.at c.index-stages-at.result at)))
+    (subst (λ map. IsWork g.F.In.Source g.F.Out.Sink map c.loop-reader.at c.index-stages-at.result.options c.in-Some.reader c.take-form.result c.in-Ok-begin_work.work) now.map c.in-Ok-begin_work.ensures.ok))) in
     let less = sum-pop there c.loop-reader.readers.items c.pop.new.self.items c.in-Some.reader c.in-Some.ensures.items in
     let more = ap all_held pushed ∙ sum-push (λ w. there (op_of w)) c.loop-reader.works.items c.in-Ok-begin_work.work in
     record {
@@ -114,6 +114,6 @@ begin_work-requires-clause-form g c =
     let n = one_less c.loop-reader.at (vec_len c.loop-reader.readers) (vec_len c.pop.new.self) (length c.args.readers.items) now.count c.in-Some.ensures.cases in
     let at = slice_get_read c.args.stages.now (length c.args.stages.now) c.loop-reader.at c.index-stages-at.result refl (let a = n.0 in let b = c.requires.count in omega (arith, a, b)) c.index-stages-at.is in
     let form-there = sym (now.left_forms c.loop-reader.at (omega arith)) ∙ slice_get_read c.loop-reader.forms.items (length c.loop-reader.forms.items) c.loop-reader.at c.index_mut.result.now refl
-        (let a = n.0 in let b = c.requires.count in let d = now.forms in omega (arith, a, b, d)) c.index_mut.ensures.value in
+    (let a = n.0 in let b = c.requires.count in let d = now.forms in omega (arith, a, b, d)) c.index_mut.ensures.value in
     subst (IsForm (role_of c.index-stages-at.result.options)) (sym c.take-form.ensures.value)
     (subst (λ r. IsForm r c.index_mut.result.now) (sym (role-is c.args.stages.now c.loop-reader.at c.index-stages-at.result at)) (c.requires.fits c.loop-reader.at c.index_mut.result.now form-there))

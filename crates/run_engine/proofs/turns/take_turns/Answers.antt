@@ -27,7 +27,7 @@ returns-in-Err-outcome-clause-err g c =
     c.turn_works-works.result.outcome c.in-Ok.report c.in-Ok.is c.turn_works-works.ensures.ok in
     inr (
       unfinished-on (faults_of g.S.Source.faults g.K.Sink.faults) c.args.works.items c.turn_works-works.result.works.items c.finish-works.result.works.items c.turn_works-works.ensures.later c.finish-works.ensures.later
-      c.in-Err-outcome.refusal
-      (err-of (IsUnfinished (faults_of g.S.Source.faults g.K.Sink.faults) c.turn_works-works.result.works.items c.finish-works.result.works.items) c.finish-works.result.outcome c.in-Err-outcome.refusal c.in-Err-outcome.is c.finish-works.ensures.err),
+          c.in-Err-outcome.refusal
+          (err-of (IsUnfinished (faults_of g.S.Source.faults g.K.Sink.faults) c.turn_works-works.result.works.items c.finish-works.result.works.items) c.finish-works.result.outcome c.in-Err-outcome.refusal c.in-Err-outcome.is c.finish-works.ensures.err),
       λ opened tell. (was opened tell).sound,
     )
