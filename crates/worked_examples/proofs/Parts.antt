@@ -1,5 +1,5 @@
 -- The parts of the examples.
-use Rattle.std.proofs.Common.{◌≡◌, ℕ, List, [], ◌∷◌, take, length, codes, true, Option, Some, None, Result, Ok, Err, refl, pos, negsuc, ap, ◌∙◌}
+use Rattle.std.proofs.Common.{◌≡◌, ℕ, List, [], ◌∷◌, take, length, codes, Option, Some, None, Result, Ok, Err, refl, pos, negsuc, ap, ◌∙◌}
 use Rattle.std.specs.Fmt.{digits}
 use Rattle.std.specs.Str.{is_utf8, chars}
 use Rattle.std.specs.Float.Numeral.{scan_numeral}
@@ -10,6 +10,8 @@ use Rattle.json.specs.Text.{content}
 use Rattle.json.specs.Word.{word, after_number}
 use Rattle.serde_json.specs.Read.{number_of}
 use Rattle.ieee_words.specs.DecimalOfWord.{decimal_of_word, scale_of_word}
+use Rattle.las_header.specs.declared.form.Format.{Format}
+use Rattle.las_header.specs.declared.form.Format.TheVariants.{F0, F6}
 use Rattle.las_header.specs.declared.faults.Axis.TheVariants.{X}
 use Rattle.las_header.specs.declared.faults.HeaderFault.TheVariants.{NotLas, HeaderSize, Compressed, ScaleNotDecimal}
 use Rattle.las_header.specs.Headers.{record_format, format_in, scales_of, offsets_of, header_with, header_of}
@@ -19,22 +21,23 @@ use Rattle.las_reader.specs.Frames.{LasFault, In_header, In_list}
 use Rattle.cloud_points.specs.declared.faults.PointFault.TheVariants.{Cut}
 use Rattle.cloud_points.specs.Points.{zero_point}
 use Rattle.las_reader.specs.Records.{point_of, points_from}
-use Rattle.las_reader.specs.Files.{Las, las_of}
+use Rattle.forward_rules.specs.Forwarded.{ReadFile}
 use Rattle.file_devices.specs.Named.{Names}
 use Rattle.file_devices.specs.declared.devices.Op.TheVariants.{Open}
 use Rattle.run_report.specs.declared.refusal.Place.TheVariants.{Stage}
 use Rattle.run_report.specs.declared.refusal.Refusal.{Refusal}
 use Rattle.run_report.specs.declared.refusal.Refusal.TheVariants.{Device, Pipeline, NotBuilt}
-use Rattle.stage_names.specs.declared.kinds.KindName.TheVariants as kind
 use Rattle.stage_names.specs.declared.faults.PipeFault.TheVariants.{Empty, NotJson, NotAPipeline, CannotInfer, NoInput, TagTwice, TagUnknown, UsedTwice, OptionValue, OptionUnknown, SameOutput}
-use Rattle.stage_options.specs.declared.options.Options.TheVariants.{ReadersLas, FiltersHead, WritersText}
 use Rattle.stage_options.specs.declared.stage.StageSpec.{StageSpec}
 use Rattle.pipeline_json.specs.Trees.{tree_of}
 use Rattle.answer_model.specs.Steps.{and_then}
 use Rattle.stage_options.specs.Roles.{Role, Reads}
 use Rattle.answer_model.specs.Steps.{why}
-use Rattle.answer_model.specs.Values.{role_at, or_later, least_from, evaluated}
-use Rattle.answer_model.specs.Runs.{Run, las_read, las_or, no_las, unless_unread, run_with, run_of, opened_in}
+use Rattle.answer_model.specs.Values.{LasFile, role_at, or_later, least_from, evaluated}
+use Rattle.answer_model.specs.Forms.{text_form}
+use Rattle.answer_model.specs.Examples.{read, head, write}
+use Rattle.answer_model.specs.Runs as runs
+use Rattle.answer_model.specs.Runs.{Run, las_file_of, las_read, file_or, no_file, unless_unread, run_of, opened_in}
 use Rattle.command_words.specs.Machine.{command_of}
 use Rattle.lasline_top.specs.Words.{Run_file, task_of}
 use Rattle.lasline_top.specs.Answer.{piped, typed, ran, done, answer}
@@ -45,31 +48,36 @@ abbrev pub planned : List ℕ → Result (List StageSpec) Refusal
 planned text = and_then (piped (tree_of text)) typed
 
 -- a reader, and stages behind the reader of the LAS file
-abbrev reader_of : List ℕ → StageSpec
-reader_of name = record { kind = kind.ReadersLas; ins = []; options = ReadersLas (record { filename = name }) }
-
 abbrev from_las : List StageSpec → List StageSpec
-from_las later = reader_of (codes "in.las") ∷ later
+from_las later = read (codes "in.las") ∷ later
 
 -- a head, and a writer, behind the stage with this number
 abbrev head_after : ℕ → ℕ → StageSpec
-head_after i count = record { kind = kind.FiltersHead; ins = i ∷ []; options = FiltersHead (record { count = count }) }
+head_after i count = head count (i ∷ [])
 
 abbrev writer_after : ℕ → List ℕ → StageSpec
-writer_after i name = record { kind = kind.WritersText; ins = i ∷ []; options = WritersText (record { filename = name }) }
+writer_after i name = write name (i ∷ [])
+
+-- what a file says of itself, with this format of its points
+abbrev said_in : Format → ReadFile → ReadFile
+said_in format said = record said { values = record said.values { format = format } }
 
 -- ---- what the run of stages comes to whose readers all read this
 
-abbrev unread_by : Result Las LasFault → ℕ → Role → Option Refusal
-unread_by read i (Reads name) = why (las_read i read)
-unread_by read i role = None
+abbrev unread_by : Result LasFile LasFault → ℕ → Role → Option Refusal
+unread_by file i (Reads name) = why (las_read i file)
+unread_by file i role = None
 
-abbrev holds_by : Result Las LasFault → ℕ → Role → Las
-holds_by read i (Reads name) = las_or (las_read i read)
-holds_by read i role = no_las
+abbrev holds_by : Result LasFile LasFault → ℕ → Role → LasFile
+holds_by file i (Reads name) = file_or (las_read i file)
+holds_by file i role = no_file
 
-abbrev pub run_by : Result Las LasFault → List StageSpec → Result Run Refusal
-run_by read stages = unless_unread (least_from (λ i. unread_by read i (role_at stages i)) (length stages) 0) (run_with (evaluated stages (λ i. holds_by read i (role_at stages i))))
+abbrev pub run_by : Result LasFile LasFault → List StageSpec → Result Run Refusal
+run_by file stages = unless_unread (least_from (λ i. unread_by file i (role_at stages i)) (length stages) 0) (runs.run_over stages (λ i. holds_by file i (role_at stages i)))
+
+-- what a file says of itself; a text writer asks for no more than the format of its points
+abbrev read_of : List ℕ → Format → ReadFile
+read_of bytes format = said_in format (file_or (las_read 0 (las_file_of bytes))).read
 
 chain_is : planned pipeline_text ≡ Ok (from_las (writer_after 0 (codes "o.txt") ∷ []))
 unfolding is_utf8 chars encode value punctuate lex content
@@ -149,7 +157,7 @@ a_sort = refl
 
 -- two readers and the writer that takes both
 abbrev joining : List ℕ → List StageSpec
-joining name = from_las (reader_of name ∷ record { kind = kind.WritersText; ins = 0 ∷ 1 ∷ []; options = WritersText (record { filename = codes "o.txt" }) } ∷ [])
+joining name = from_las (read name ∷ write (codes "o.txt") (0 ∷ 1 ∷ []) ∷ [])
 
 twice_is : planned twice ≡ Ok (joining (codes "in.las"))
 unfolding is_utf8 chars encode value punctuate lex content
@@ -159,63 +167,63 @@ absent_is : planned second_absent ≡ Ok (joining (codes "b.las"))
 unfolding is_utf8 chars encode value punctuate lex content
 absent_is = refl
 
-pub two_read : las_of file_a ≡ Ok (record { points = record zero_point { x = pos 1000000000; y = pos 2000000000; z = pos 3000000000; return_number = 1; number_of_returns = 1; classification = 2 } ∷ record zero_point { x = negsuc 9999999; y = pos 0; z = pos 50000000; return_number = 1; number_of_returns = 1; classification = 2 } ∷ []; fault = None })
+pub two_read : las_file_of file_a ≡ Ok (record { read = read_of file_a F0; las = record { points = record zero_point { x = pos 1000000000; y = pos 2000000000; z = pos 3000000000; return_number = 1; number_of_returns = 1; classification = 2 } ∷ record zero_point { x = negsuc 9999999; y = pos 0; z = pos 50000000; return_number = 1; number_of_returns = 1; classification = 2 } ∷ []; fault = None } })
 unfolding header_of format_in record_format scales_of offsets_of header_with scale_of_word decimal_of_word entries_from point_of points_from
 two_read = refl
 
-pub none_read : las_of file_without_points ≡ Ok (record { points = []; fault = None })
+pub none_read : las_file_of file_without_points ≡ Ok (record { read = read_of file_without_points F0; las = record { points = []; fault = None } })
 unfolding header_of format_in record_format scales_of offsets_of header_with scale_of_word decimal_of_word entries_from point_of points_from
 none_read = refl
 
-pub cut_at_1 : las_of (take 414 file_a) ≡ Ok (record { points = record zero_point { x = pos 1000000000; y = pos 2000000000; z = pos 3000000000; return_number = 1; number_of_returns = 1; classification = 2 } ∷ []; fault = Some (Cut 1) })
+pub cut_at_1 : las_file_of (take 414 file_a) ≡ Ok (record { read = read_of (take 414 file_a) F0; las = record { points = record zero_point { x = pos 1000000000; y = pos 2000000000; z = pos 3000000000; return_number = 1; number_of_returns = 1; classification = 2 } ∷ []; fault = Some (Cut 1) } })
 unfolding header_of format_in record_format scales_of offsets_of header_with scale_of_word decimal_of_word entries_from point_of points_from
 cut_at_1 = refl
 
-pub cut_at_0 : las_of (take 394 file_a) ≡ Ok (record { points = []; fault = Some (Cut 0) })
+pub cut_at_0 : las_file_of (take 394 file_a) ≡ Ok (record { read = read_of (take 394 file_a) F0; las = record { points = []; fault = Some (Cut 0) } })
 unfolding header_of format_in record_format scales_of offsets_of header_with scale_of_word decimal_of_word entries_from point_of points_from
 cut_at_0 = refl
 
-pub longer_read : las_of file_of_format_6 ≡ Ok (record { points = record zero_point { x = pos 1000000000; y = pos 2000000000; z = pos 3000000000 } ∷ record zero_point { x = negsuc 9999999; y = pos 0; z = pos 50000000 } ∷ []; fault = None })
+pub longer_read : las_file_of file_of_format_6 ≡ Ok (record { read = read_of file_of_format_6 F6; las = record { points = record zero_point { x = pos 1000000000; y = pos 2000000000; z = pos 3000000000 } ∷ record zero_point { x = negsuc 9999999; y = pos 0; z = pos 50000000 } ∷ []; fault = None } })
 unfolding header_of format_in record_format scales_of offsets_of header_with scale_of_word decimal_of_word entries_from point_of points_from
 longer_read = refl
 
-pub vlr_past_points : las_of file_of_a_vlr ≡ Err (In_list (VlrPastPoints 0))
+pub vlr_past_points : las_file_of file_of_a_vlr ≡ Err (In_list (VlrPastPoints 0))
 unfolding header_of format_in record_format scales_of offsets_of header_with scale_of_word decimal_of_word entries_from
 vlr_past_points = refl
 
-pub too_many_vlrs : las_of file_of_many_vlrs ≡ Err (In_list TooManyVlrs)
+pub too_many_vlrs : las_file_of file_of_many_vlrs ≡ Err (In_list TooManyVlrs)
 unfolding header_of format_in record_format scales_of offsets_of header_with scale_of_word decimal_of_word entries_from
 too_many_vlrs = refl
 
-pub evlr_past_end : las_of file_of_a_far_evlr ≡ Err (In_list (EvlrPastEnd 0))
+pub evlr_past_end : las_file_of file_of_a_far_evlr ≡ Err (In_list (EvlrPastEnd 0))
 unfolding header_of format_in record_format scales_of offsets_of header_with scale_of_word decimal_of_word entries_from
 evlr_past_end = refl
 
-pub compressed : las_of file_compressed ≡ Err (In_header Compressed)
+pub compressed : las_file_of file_compressed ≡ Err (In_header Compressed)
 unfolding header_of format_in record_format
 compressed = refl
 
-pub other_scale : las_of file_of_neighbour ≡ Err (In_header (ScaleNotDecimal X))
+pub other_scale : las_file_of file_of_neighbour ≡ Err (In_header (ScaleNotDecimal X))
 unfolding header_of format_in record_format scales_of scale_of_word
 other_scale = refl
 
-pub far_read : las_of file_far ≡ Ok (record { points = record zero_point { x = pos 3147483646000000000; y = pos 0; z = pos 0 } ∷ []; fault = None })
+pub far_read : las_file_of file_far ≡ Ok (record { read = read_of file_far F0; las = record { points = record zero_point { x = pos 3147483646000000000; y = pos 0; z = pos 0 } ∷ []; fault = None } })
 unfolding header_of format_in record_format scales_of offsets_of header_with scale_of_word decimal_of_word entries_from point_of points_from
 far_read = refl
 
-pub short_header : las_of (take 374 file_a) ≡ Err (In_header HeaderSize)
+pub short_header : las_file_of (take 374 file_a) ≡ Err (In_header HeaderSize)
 unfolding header_of format_in
 short_header = refl
 
-pub other_signature : las_of file_with_x ≡ Err (In_header NotLas)
+pub other_signature : las_file_of file_with_x ≡ Err (In_header NotLas)
 unfolding header_of format_in
 other_signature = refl
 
-pub short_signature : las_of (take 3 file_a) ≡ Err (In_header NotLas)
+pub short_signature : las_file_of (take 3 file_a) ≡ Err (In_header NotLas)
 unfolding header_of format_in
 short_signature = refl
 
-pub no_bytes : las_of [] ≡ Err (In_header NotLas)
+pub no_bytes : las_file_of [] ≡ Err (In_header NotLas)
 unfolding header_of format_in
 no_bytes = refl
 
@@ -228,13 +236,13 @@ pub run_is : (m : Names) → answer run_p m ≡ ran m (codes "p.json")
 run_is m = ap (λ task. and_then task (done m)) asked
 
 -- the run of a pipeline over a LAS file
-pub run_over : (pipeline las : List ℕ) {later : List StageSpec} {read : Result Las LasFault} → planned pipeline ≡ Ok (from_las later) → las_of las ≡ read
-    → run_of (files_with pipeline las) (from_las later) ≡ run_by (las_of las) (from_las later) → answer run_p (files_with pipeline las) ≡ run_by read (from_las later)
+pub run_over : (pipeline las : List ℕ) {later : List StageSpec} {file : Result LasFile LasFault} → planned pipeline ≡ Ok (from_las later) → las_file_of las ≡ file
+    → run_of (files_with pipeline las) (from_las later) ≡ run_by (las_file_of las) (from_las later) → answer run_p (files_with pipeline las) ≡ run_by file (from_las later)
 run_over pipeline las {later} plan is same = run_is (files_with pipeline las) ∙ ap (λ stages. and_then stages (run_of (files_with pipeline las))) plan
     ∙ same ∙ ap (λ r. run_by r (from_las later)) is
 
 -- the run of the example's pipeline
-pub run_whole : (las : List ℕ) {read : Result Las LasFault} → las_of las ≡ read → answer run_p (files las) ≡ run_by read (from_las (writer_after 0 (codes "o.txt") ∷ []))
+pub run_whole : (las : List ℕ) {file : Result LasFile LasFault} → las_file_of las ≡ file → answer run_p (files las) ≡ run_by file (from_las (writer_after 0 (codes "o.txt") ∷ []))
 unfolding evaluated
 run_whole las is = run_over _ las chain_is is refl
 
@@ -243,23 +251,23 @@ pub refused : (pipeline : List ℕ) {refusal : Refusal} → planned pipeline ≡
 refused pipeline plan = run_is (files_with pipeline file_a) ∙ ap (λ stages. and_then stages (run_of (files_with pipeline file_a))) plan
 
 pub one_passes : answer run_p (files_with head_of_1 file_a) ≡ Ok first_point
-unfolding digits evaluated
+unfolding digits text_form evaluated
 one_passes = run_over _ _ one_is two_read refl
 
 pub no_point_passes : answer run_p (files_with head_of_0 file_a) ≡ Ok none_pass
-unfolding digits evaluated
+unfolding digits text_form evaluated
 no_point_passes = run_over _ _ zero_is two_read refl
 
 pub tagged_passes : answer run_p (files_with tagged_head file_a) ≡ Ok first_point
-unfolding digits evaluated
+unfolding digits text_form evaluated
 tagged_passes = run_over _ _ tagged_is two_read refl
 
 pub reader_reads : answer run_p (files_with reader_alone file_a) ≡ Ok only_read
-unfolding digits evaluated
+unfolding digits text_form evaluated
 reader_reads = run_over _ _ reader_is two_read refl
 
 pub both_write : answer run_p (files_with writer_between file_a) ≡ Ok all_and_first
-unfolding digits evaluated
+unfolding digits text_form evaluated
 both_write = run_over _ _ between_is two_read refl
 
 -- the pipeline's file is there, and its LAS file isn't
@@ -267,10 +275,10 @@ pub absent_las : answer run_p pipeline_alone ≡ Err (Device (Stage 0) Open)
 absent_las = run_is pipeline_alone ∙ ap (λ stages. and_then stages (run_of pipeline_alone)) chain_is
 
 pub twice_read : answer run_p (files_with twice file_a) ≡ Ok two_points_twice
-unfolding digits evaluated
+unfolding digits text_form evaluated
 twice_read = run_over _ _ twice_is two_read refl
 
 -- the first file can be read, and the second isn't there
 pub second_unread : answer run_p (files_with second_absent file_a) ≡ Err (Device (Stage 1) Open)
 second_unread = run_is (files_with second_absent file_a) ∙ ap (λ stages. and_then stages (run_of (files_with second_absent file_a))) absent_is
-    ∙ ap (λ r. unless_unread (or_later 0 (why (las_read 0 r)) (Some (1, Device (Stage 1) Open))) (run_with (evaluated (joining (codes "b.las")) (opened_in (files_with second_absent file_a) (joining (codes "b.las")))))) two_read
+    ∙ ap (λ r. unless_unread (or_later 0 (why (las_read 0 r)) (Some (1, Device (Stage 1) Open))) (runs.run_over (joining (codes "b.las")) (opened_in (files_with second_absent file_a) (joining (codes "b.las"))))) two_read
