@@ -67,6 +67,17 @@ fn put_fault(e: ChunkErr) -> PutFault
     }
 }
 
+/// The header block with these totals.
+fn header_block(form: &LasForm, start: u32, totals: &Totals) -> [u8; BLOCK_SIZE]
+    requires form { IsForm form.now }
+    requires start { start ≡ points_at form.now }
+    ensures { result ≡ header_bytes (header_with form.now totals.now) }
+{
+    let mut block = [0; BLOCK_SIZE];
+    write_header(&header_with(form, start, totals), &mut block);
+    block
+}
+
 /// Appends the header with these totals.
 fn put_header<K: Sink>(
     form: &LasForm,
@@ -83,9 +94,7 @@ fn put_header<K: Sink>(
     ensures begun { OnOk result (375 ≤ K.appended sink.new) }
     ensures cause { HasCause (K.faults sink.old) (K.faults sink.new) result }
 {
-    let mut block = [0; BLOCK_SIZE];
-    write_header(&header_with(form, start, totals), &mut block);
-    sink.append(&block)
+    sink.append(&header_block(form, start, totals))
 }
 
 /// Puts a header with these totals in place of the one in front.
@@ -104,9 +113,7 @@ fn patch_header<K: FileSink>(
     ensures begun { 375 ≤ K.appended sink.new }
     ensures cause { HasCause (K.faults sink.old) (K.faults sink.new) result }
 {
-    let mut block = [0; BLOCK_SIZE];
-    write_header(&header_with(form, start, totals), &mut block);
-    sink.patch(0, &block)
+    sink.patch(0, &header_block(form, start, totals))
 }
 
 /// Appends what stands in front of the points.

@@ -124,6 +124,13 @@ impl<W: Work> Node<W> {
     }
 
     /// Its work.
+    pub fn work(&self) -> &W
+        ensures { result.now ≡ work_of self.now }
+    {
+        &self.work
+    }
+
+    /// Gives its work back.
     pub fn into_work(self) -> W
         ensures { result ≡ work_of self }
     {
