@@ -1,0 +1,13 @@
+pub mod Complete
+pub mod Sound
+pub mod Depth
+pub mod Spans
+pub mod Cuts
+pub mod Reading
+pub mod Conditions
+pub mod Telling
+pub mod Assignments
+pub mod Assigned
+pub mod OneAnswer
+pub mod Lexing
+pub mod Told

@@ -1,0 +1,14 @@
+pub mod Formula
+pub mod Codes
+pub mod Trees
+pub mod Grammar
+pub mod Machine
+pub mod Fronts
+pub mod Faults
+pub mod Seen
+pub mod Lexical
+pub mod Reading
+pub mod Texts
+pub mod Tokens
+pub mod Said
+pub mod Laws

@@ -1,0 +1,100 @@
+//! Texts of assignments.
+
+use expr_lang::{ExprErr, ExprFault, ExprKind, parse_assign};
+use std::alloc::Global;
+use std::test::Fail;
+
+/// Texts that are no assignment, each with the place and the kind of its first fault.
+const FAULTS: [(&str, usize, ExprKind); 36] = [
+    ("", 0, ExprKind::Unexpected),
+    ("4000000001 = 1", 0, ExprKind::BadNumber),
+    ("Z", 1, ExprKind::Unexpected),
+    ("Z == 1", 2, ExprKind::Unexpected),
+    ("Z = ", 4, ExprKind::Unexpected),
+    ("WHERE = 1", 0, ExprKind::Unexpected),
+    ("Z = X > 1", 4, ExprKind::Unexpected),
+    ("Z = 1 WHERE X", 12, ExprKind::Unexpected),
+    ("Z = X > 1 WHERE X && Y > 1", 18, ExprKind::Unexpected),
+    ("Z = (X WHERE X > 1", 7, ExprKind::Unexpected),
+    ("Z = 1 WHERE X > 1 WHERE X > 1", 18, ExprKind::Unexpected),
+    ("Z = 1 WHERE", 11, ExprKind::Unexpected),
+    ("Intensity=\t0.5 WHERE", 20, ExprKind::Unexpected),
+    ("Z 2 1 WHERE X", 2, ExprKind::Unexpected),
+    ("X=", 2, ExprKind::Unexpected),
+    ("Z X > 1", 2, ExprKind::Unexpected),
+    ("Z = (1 WHRE X > 0)>", 7, ExprKind::Unexpected),
+    ("Classification", 14, ExprKind::Unexpected),
+    ("Z ==91", 2, ExprKind::Unexpected),
+    ("1 = 2", 0, ExprKind::Unexpected),
+    ("z117.44", 4, ExprKind::Unexpected),
+    ("Z = (1 WHE X*0)", 7, ExprKind::Unexpected),
+    ("Z = 1 WHERE X > 0 WHERE Y > 0", 18, ExprKind::Unexpected),
+    ("Z&=66", 1, ExprKind::Unexpected),
+    ("X=1WHERE Y>", 11, ExprKind::Unexpected),
+    ("Z = X > 1 WHERE Y", 4, ExprKind::Unexpected),
+    (
+        "X=-(ReturnNumbe)*X+(\n7Y *X)\n-\tZ-X",
+        22,
+        ExprKind::Unexpected,
+    ),
+    ("ZPOINT 4000000000== 1", 7, ExprKind::Unexpected),
+    ("-Z 1= 2", 0, ExprKind::Unexpected),
+    ("POINTH=EE = 1", 10, ExprKind::Unexpected),
+    ("Y=#X", 2, ExprKind::Unexpected),
+    ("Z ", 2, ExprKind::Unexpected),
+    ("Z = Y = 1", 6, ExprKind::Unexpected),
+    ("Z = 1 WHERE X > 0 WHER4E Y > 0", 18, ExprKind::Unexpected),
+    ("== 1", 0, ExprKind::Unexpected),
+    ("-Z = 2", 0, ExprKind::Unexpected),
+];
+
+/// Texts that are assignments.
+const ASSIGNMENTS: [&str; 15] = [
+    "Z = 2 * Z WHERE X > 0",
+    "Z=1where X>0",
+    "Z=-X",
+    "Y=(Y)* Y /17.66\n",
+    "WHE2E = 1",
+    "Y=0.00000",
+    "Classification=Classification",
+    "Z=-y/1-(0.38)",
+    "Y=0.01 Where (--\nX<X-ReturnNumber)",
+    "a_1=\t00.5",
+    "Y=a_1 where 1< Y",
+    "Z\n=(-Classification) where Red\n>=(  136100)",
+    "Y=  17.71 Where -(4000000000)>=\t3- y",
+    "X=Classificaion\n",
+    "Z=99634",
+];
+
+/// Whether the first fault of a text is this one.
+fn is_refused(alloc: Global, text: &str, at: usize, kind: ExprKind) -> bool {
+    let fault = ExprFault { at, kind };
+    parse_assign(alloc, text).err() == Some(ExprErr::Fault(fault))
+}
+
+/// Whether a text is read as an assignment to this name, with a condition or without one.
+fn is_for(alloc: Global, text: &str, name: &str, is_limited: bool) -> bool {
+    let Ok(assign) = parse_assign(alloc, text) else {
+        return false;
+    };
+    assign.target.as_str() == name && assign.only.is_some() == is_limited
+}
+
+#[test]
+fn first_faults_are_told(rt: HostRuntime) -> Result<(), Fail> {
+    for (text, at, kind) in FAULTS {
+        assert!(rt; is_refused(rt.alloc(), text, at, kind));
+    }
+    Ok(())
+}
+
+#[test]
+fn assignments_are_read(rt: HostRuntime) -> Result<(), Fail> {
+    for text in ASSIGNMENTS {
+        assert!(rt; parse_assign(rt.alloc(), text).is_ok());
+    }
+    assert!(rt; is_for(rt.alloc(), "z = 2 * Z wHeRe X > 0", "z", true));
+    assert!(rt; is_for(rt.alloc(), "no_dim9=1", "no_dim9", false));
+    Ok(())
+}
