@@ -1,0 +1,13 @@
+//! Filters: each judges its points one after the other, in place.
+#![tactic(auto)]
+
+mod filter;
+mod judge;
+mod point_filter;
+mod rules;
+mod written;
+
+pub use filter::Filter;
+pub use point_filter::PointFilter;
+pub use rules::{Condition, Head, PassOn, PointRule};
+pub use written::Written;
