@@ -1,5 +1,5 @@
 -- What each stage of a tree gives on, and its fault, on whole flows.
-use Rattle.std.specs.Prelude.{◌≡◌, ℕ, ◌+◌, ◌<◌, Bool, true, false, cond, List, [], ◌∷◌, map, flat_map, length, slice_index_or, Option, Some, None, option_map, Result, Ok, Err}
+use Rattle.std.specs.Prelude.{◌≡◌, ℕ, ◌+◌, ◌<◌, Bool, true, false, cond, List, [], ◌∷◌, map, filter, flat_map, length, slice_index_or, Option, Some, None, option_map, Result, Ok, Err}
 use Rattle.std.proofs.Common.{zero, suc}
 use Rattle.std.specs.List.{range_with_len, list_any}
 use Rattle.cloud_points.specs.declared.dims.Dim.{Dim}
@@ -120,8 +120,12 @@ abbrev pub written : ℕ → Role → List ℕ → List Output
 written k (Writes name) bytes = record { stage = k; name = name; bytes = bytes } ∷ []
 written k _ bytes = []
 
+-- the points that stage k writes of those that it takes
+abbrev pub written_at : List StageSpec → Opened → ℕ → List Point
+written_at stages opened k = filter ((row_at stages opened k).writes) (points (stage_input stages opened k))
+
 abbrev pub output_at : List StageSpec → Opened → ℕ → List Output
-output_at stages opened k = written k (role_at stages k) ((row_at stages opened k).bytes (points (stage_input stages opened k)))
+output_at stages opened k = written k (role_at stages k) ((row_at stages opened k).bytes (written_at stages opened k))
 
 -- how many views and points a stage gave on, and how many points it wrote
 abbrev pub count_at : List StageSpec → Opened → ℕ → StageCount
@@ -130,7 +134,7 @@ count_at stages opened k = record {
   kind = (stage_at stages k).kind;
   views = up_to_limit (length (stage_value stages opened k).views);
   points = up_to_limit (length (points (stage_value stages opened k)));
-  wrote = option_map (λ name. up_to_limit (length (points (stage_input stages opened k)))) (target_of (role_at stages k));
+  wrote = option_map (λ name. up_to_limit (length (written_at stages opened k))) (target_of (role_at stages k));
 }
 
 -- those of all stages, in the order of their numbers

@@ -10,6 +10,10 @@ use std::test::Fail;
 fn shown_options(alloc: Global, options: &Options) -> Result<String, AllocError> {
     match options {
         Options::ReadersLas(options) => { format!(in alloc; "read {}", options.filename.as_str()) }
+        Options::FiltersAssign(options) => {
+            format!(in alloc; "assign {}", options.assignments.as_slice().len())
+        }
+        Options::FiltersExpression(_) => String::from_str(alloc, "keep"),
         Options::FiltersHead(options) => format!(in alloc; "head {}", options.count),
         Options::FiltersMerge(_) => String::from_str(alloc, "merge"),
         Options::WritersLas(options) => { format!(in alloc; "write {}", options.filename.as_str()) }
@@ -134,8 +138,32 @@ const STAGES: &[(&str, &str)] = &[
         "same 3",
     ),
     (r#",{"type":"filters.tail"}"#, "not built"),
-    (r#",{"type":"filters.head","where":"X > 1"}"#, "not built"),
-    (r#",{"type":"filters.head","where":1}"#, "not built"),
+    (r#",{"type":"filters.head","where":"X > 1"}"#, "head 10"),
+    (r#",{"type":"filters.head","where":1}"#, "wrong 1 where"),
+    (r#",{"type":"filters.head","where":"X"}"#, "wrong 1 where"),
+    (
+        r#",{"type":"filters.expression","expression":"X > 1"}"#,
+        "keep",
+    ),
+    (
+        r#",{"type":"filters.expression","expression":"X >"}"#,
+        "wrong 1 expression",
+    ),
+    (
+        r#",{"type":"filters.expression","where":"X"}"#,
+        "missing 1 expression",
+    ),
+    (r#",{"type":"filters.assign","value":"X = 1"}"#, "assign 1"),
+    (
+        r#",{"type":"filters.assign","value":["X = 1","Y = X WHERE Z > 2"]}"#,
+        "assign 2",
+    ),
+    (r#",{"type":"filters.assign","value":[]}"#, "wrong 1 value"),
+    (
+        r#",{"type":"filters.assign","value":["X = 1",2]}"#,
+        "wrong 1 value",
+    ),
+    (r#",{"type":"filters.assign"}"#, "missing 1 value"),
     (r#",{"type":"filters.head","count":1,"a":2}"#, "unknown 1 a"),
     (
         r#",{"type":"writers.text","filename":"o","a":1}"#,
@@ -147,12 +175,12 @@ const STAGES: &[(&str, &str)] = &[
     ),
     (
         r#",{"type":"writers.text","filename":"o","where":""}"#,
-        "not built",
+        "wrong 1 where",
     ),
     (r#",{"type":"writers.las","filename":"o"}"#, "write o"),
     (
-        r#",{"type":"writers.las","filename":"o","where":""}"#,
-        "not built",
+        r#",{"type":"writers.las","filename":"o","where":"X > 1"}"#,
+        "write o",
     ),
     (r#","b.las","o.txt""#, "write o.txt"),
 ];

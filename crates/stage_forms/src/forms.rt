@@ -1,7 +1,8 @@
 //! The forms of files that are written.
 
 ghost use Rattle.std.specs.Prelude.{◌≡◌, ◌<◌, ◌≤◌, All, IfOk, length, map};
-ghost use Rattle.answer_model.specs.Forms.{column_of, dim_of, text_form};
+ghost use Rattle.answer_model.specs.Forms.{column_of, extra_names, text_form};
+ghost use Rattle.expr_eval.specs.Bindings.{dim_of};
 ghost use Rattle.forward_rules.specs.Forwarded.{form_of};
 ghost use Rattle.las_writer.specs.LasOutput.{IsForm};
 ghost use Rattle.stage_forms.specs.Below.{reads_in};
@@ -18,7 +19,7 @@ use text_writer::{Column, ColumnList, TextForm};
 
 /// The dimension of a name; it is there in every run, since names are bound before.
 fn dim_of(alloc: Global, name: &str) -> Dim
-    ensures { result ≡ dim_of name.now }
+    ensures { result ≡ dim_of extra_names name.now }
 {
     cloud_points::dim_of(name, &ExtraNames::none(alloc)).unwrap_or(Dim::X)
 }

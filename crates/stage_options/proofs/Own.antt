@@ -12,8 +12,10 @@ use Rattle.stage_options.specs.Kinds.{kind_of, HaveOwnOptions}
 use Rattle.stage_options.specs.Typed.{typed_of, is_built}
 use Rattle.stage_options.specs.TypedTree.{is_stage_built, are_built, specs_of}
 
-own_kind : (k : KindName) (filename : Option (List ℕ)) (ms : Members) → IsTrue (is_built k ms) → kind_of (unwrap_or (typed_of k filename ms) (ReadersLas (record { filename = [] }))) ≡ k
+own_kind : (k : KindName) (filename : Option (List ℕ)) (ms : Members) → IsTrue (is_built k) → kind_of (unwrap_or (typed_of k filename ms) (ReadersLas (record { filename = [] }))) ≡ k
 own_kind kind.ReadersLas filename ms h = refl
+own_kind kind.FiltersAssign filename ms h = refl
+own_kind kind.FiltersExpression filename ms h = refl
 own_kind kind.FiltersHead filename ms h = refl
 own_kind kind.FiltersMerge filename ms h = refl
 own_kind kind.WritersLas filename ms h = refl

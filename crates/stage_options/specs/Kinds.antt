@@ -3,12 +3,14 @@ use Rattle.std.specs.Prelude.{ℕ, ◌≡◌, List, Some, slice_get}
 use Rattle.stage_names.specs.declared.kinds.KindName.{KindName}
 use Rattle.stage_names.specs.declared.kinds.KindName.TheVariants as kind
 use Rattle.stage_options.specs.declared.options.Options.{Options}
-use Rattle.stage_options.specs.declared.options.Options.TheVariants.{ReadersLas, FiltersHead, FiltersMerge, WritersLas, WritersText}
+use Rattle.stage_options.specs.declared.options.Options.TheVariants.{ReadersLas, FiltersAssign, FiltersExpression, FiltersHead, FiltersMerge, WritersLas, WritersText}
 use Rattle.stage_options.specs.declared.stage.StageSpec.{StageSpec}
 
 -- the type whose options these are
 abbrev pub kind_of : Options → KindName
 kind_of (ReadersLas o) = kind.ReadersLas
+kind_of (FiltersAssign o) = kind.FiltersAssign
+kind_of (FiltersExpression o) = kind.FiltersExpression
 kind_of (FiltersHead o) = kind.FiltersHead
 kind_of (FiltersMerge o) = kind.FiltersMerge
 kind_of (WritersLas o) = kind.WritersLas

@@ -1,4 +1,6 @@
+pub mod Codes
 pub mod Binding
+pub mod Expressions
 pub mod Faults
 pub mod Kinds
 pub mod Outputs

@@ -1,7 +1,7 @@
 -- What stages do with files.
 use Rattle.std.specs.Prelude.{ℕ, Bool, true, false, List, Option, Some, None}
 use Rattle.stage_options.specs.declared.options.Options.{Options}
-use Rattle.stage_options.specs.declared.options.Options.TheVariants.{ReadersLas, FiltersHead, FiltersMerge, WritersLas, WritersText}
+use Rattle.stage_options.specs.declared.options.Options.TheVariants.{ReadersLas, FiltersAssign, FiltersExpression, FiltersHead, FiltersMerge, WritersLas, WritersText}
 
 pub data Role : Type 0 where
   Reads : List ℕ → Role  -- the file of this name
@@ -11,6 +11,8 @@ pub data Role : Type 0 where
 -- what a stage with these options does: one row for each type
 abbrev pub role_of : Options → Role
 role_of (ReadersLas o) = Reads o.filename
+role_of (FiltersAssign o) = Filters
+role_of (FiltersExpression o) = Filters
 role_of (FiltersHead o) = Filters
 role_of (FiltersMerge o) = Filters
 role_of (WritersLas o) = Writes o.filename

@@ -5,7 +5,8 @@ use Rattle.serde_json.specs.Find.{as_str}
 use Rattle.option_texts.specs.Columns.{columns_of}
 use Rattle.option_texts.specs.Forward.{forward_of}
 use Rattle.stage_names.specs.declared.kinds.KindName.{KindName}
-use Rattle.stage_names.specs.declared.kinds.KindName.TheVariants.{ReadersLas, FiltersHead, WritersLas, WritersText}
+use Rattle.stage_names.specs.declared.kinds.KindName.TheVariants.{ReadersLas, FiltersAssign, FiltersExpression, FiltersHead, WritersLas, WritersText}
+use Rattle.stage_options.specs.Expressions.{condition_with, assignments_with}
 use Rattle.stage_options.specs.Values.{whole_of, truth_of, format_with, decimal_of, is_source, is_target}
 
 -- what an option may hold
@@ -14,10 +15,11 @@ pub data Allowed : Type 0 where
   decimal : ℤ → ℤ → Allowed  -- a decimal from the first to the second, in nanounits
   format : Allowed  -- a point data record format
   truth : Allowed
-  text : Allowed
   sized : ℕ → ℕ → Allowed  -- a text of so many bytes
   columns : Allowed  -- the columns of a text file
   forward : Allowed  -- the names of what is forwarded
+  condition : Allowed  -- the text of a condition
+  assignments : Allowed  -- the text of an assignment, or several such texts
   source : Allowed  -- the name of a file that is read
   target : Allowed  -- the name of a file that is written
 
@@ -48,9 +50,17 @@ abbrev pub rules_of : KindName → List Rule
 rules_of ReadersLas =
     (required (codes "filename") source
     ∷ [])
+rules_of FiltersAssign =
+    (required (codes "value") assignments
+    ∷ optional (codes "where") condition
+    ∷ [])
+rules_of FiltersExpression =
+    (required (codes "expression") condition
+    ∷ optional (codes "where") condition
+    ∷ [])
 rules_of FiltersHead =
     (optional (codes "count") (whole 0 4294967295)
-    ∷ optional (codes "where") text
+    ∷ optional (codes "where") condition
     ∷ [])
 rules_of WritersLas =
     (required (codes "filename") target
@@ -69,7 +79,7 @@ rules_of WritersLas =
     ∷ optional (codes "creation_year") short
     ∷ optional (codes "system_id") (sized 0 32)
     ∷ optional (codes "software_id") (sized 0 32)
-    ∷ optional (codes "where") text
+    ∷ optional (codes "where") condition
     ∷ [])
 rules_of WritersText =
     (required (codes "filename") target
@@ -78,7 +88,7 @@ rules_of WritersText =
     ∷ optional (codes "delimiter") (sized 1 8)
     ∷ optional (codes "quote_header") truth
     ∷ optional (codes "write_header") truth
-    ∷ optional (codes "where") text
+    ∷ optional (codes "where") condition
     ∷ [])
 rules_of _ = []
 
@@ -102,9 +112,10 @@ fits (whole low high) d = passes (is_within low high) (whole_of d)
 fits (decimal low high) d = passes (is_between low high) (decimal_of d)
 fits format d = is_some (format_with d)
 fits truth d = is_some (truth_of d)
-fits text d = is_some (as_str d)
 fits (sized low high) d = passes (has_size low high) (as_str d)
 fits columns d = passes (λ t. is_some (columns_of t)) (as_str d)
 fits forward d = passes (λ t. is_some (forward_of t)) (as_str d)
+fits condition d = is_some (condition_with d)
+fits assignments d = is_some (assignments_with d)
 fits source d = passes is_source (as_str d)
 fits target d = passes is_target (as_str d)

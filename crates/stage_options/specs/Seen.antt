@@ -18,10 +18,11 @@ allowed_view (allowed.Whole low high) = rules.whole low high
 allowed_view (allowed.Decimal low high) = rules.decimal low high
 allowed_view allowed.Format = rules.format
 allowed_view allowed.Truth = rules.truth
-allowed_view allowed.Text = rules.text
 allowed_view (allowed.Sized low high) = rules.sized low high
 allowed_view allowed.Columns = rules.columns
 allowed_view allowed.Forward = rules.forward
+allowed_view allowed.Condition = rules.condition
+allowed_view allowed.Assignments = rules.assignments
 allowed_view allowed.Source = rules.source
 allowed_view allowed.Target = rules.target
 

@@ -1,19 +1,22 @@
 -- The typed options of a stage.
-use Rattle.std.specs.Prelude.{ℕ, ℤ, pos, neg_ℤ, Bool, true, false, List, [], ◌∷◌, codes, Option, Some, None, option_and_then, is_none, if◌then◌else◌}
+use Rattle.std.specs.Prelude.{ℕ, ℤ, pos, neg_ℤ, Bool, true, false, List, [], ◌∷◌, codes, Option, Some, None, option_and_then, if◌then◌else◌}
 use Rattle.std.specs.Option.{unwrap_or}
 use Rattle.serde_json.specs.Data.{Data, Members}
 use Rattle.serde_json.specs.Find.{as_str, get_member}
 use Rattle.decimal_coords.specs.declared.grid.Scale.{Scale}
 use Rattle.las_header.specs.ScaleWords.{scale_of_nano}
 use Rattle.forward_rules.specs.declared.options.LasOpts.{LasOpts}
+use Rattle.expr_lang.specs.Formula.{Formula, number}
+use Rattle.expr_lang.specs.declared.expr.Assign.{Assign}
 use Rattle.option_texts.specs.declared.columns.NamedColumn.{NamedColumn}
 use Rattle.option_texts.specs.Columns.{columns_of}
 use Rattle.option_texts.specs.Forward.{forward_of}
 use Rattle.stage_names.specs.declared.kinds.KindName.{KindName}
 use Rattle.stage_names.specs.declared.kinds.KindName.TheVariants as kind
 use Rattle.stage_options.specs.declared.options.Options.{Options}
-use Rattle.stage_options.specs.declared.options.Options.TheVariants.{ReadersLas, FiltersHead, FiltersMerge, WritersLas, WritersText}
+use Rattle.stage_options.specs.declared.options.Options.TheVariants.{ReadersLas, FiltersAssign, FiltersExpression, FiltersHead, FiltersMerge, WritersLas, WritersText}
 use Rattle.stage_options.specs.declared.options.TextOptions.{TextOptions}
+use Rattle.stage_options.specs.Expressions.{condition_with, assignments_with}
 use Rattle.stage_options.specs.Values.{whole_of, format_with, decimal_of, truth_of}
 use Rattle.stage_options.specs.Rules.{is_within, is_between, has_size}
 
@@ -36,6 +39,17 @@ scale_in name ms = option_and_then scale_of_nano (option_in decimal_of name ms)
 
 abbrev pub offset_in : List ℕ → Members → Option ℤ
 offset_in name ms = option_and_then (where_it (is_between (neg_ℤ (pos 999999999999999999)) (pos 999999999999999999))) (option_in decimal_of name ms)
+
+-- which points a filter judges or a writer writes
+abbrev pub where_in : Members → Option (Formula (List ℕ))
+where_in ms = option_in condition_with (codes "where") ms
+
+-- the condition of points that go on; where it is missing, none does
+abbrev pub expression_in : Members → Formula (List ℕ)
+expression_in ms = unwrap_or (option_in condition_with (codes "expression") ms) (number (pos 0))
+
+abbrev pub assignments_in : Members → List Assign
+assignments_in ms = unwrap_or (option_in assignments_with (codes "value") ms) []
 
 -- the columns of a text file
 abbrev pub columns_in : Members → List NamedColumn
@@ -70,22 +84,27 @@ text_options_in filename ms = record {
   delimiter = unwrap_or (text_in 1 8 (codes "delimiter") ms) (codes ",");
   quote_header = unwrap_or (option_in truth_of (codes "quote_header") ms) true;
   write_header = unwrap_or (option_in truth_of (codes "write_header") ms) true;
+  only = where_in ms;
 }
 
 -- the options that a run heeds, with their defaults
 abbrev pub typed_of : KindName → Option (List ℕ) → Members → Option Options
 typed_of kind.ReadersLas filename ms = Some (ReadersLas (record { filename = unwrap_or filename [] }))
-typed_of kind.FiltersHead filename ms = Some (FiltersHead (record { count = unwrap_or (option_in whole_of (codes "count") ms) 10 }))
+typed_of kind.FiltersAssign filename ms = Some (FiltersAssign (record { assignments = assignments_in ms; only = where_in ms }))
+typed_of kind.FiltersExpression filename ms = Some (FiltersExpression (record { expression = expression_in ms; only = where_in ms }))
+typed_of kind.FiltersHead filename ms = Some (FiltersHead (record { count = unwrap_or (option_in whole_of (codes "count") ms) 10; only = where_in ms }))
 typed_of kind.FiltersMerge filename ms = Some (FiltersMerge (record {}))
-typed_of kind.WritersLas filename ms = Some (WritersLas (record { filename = unwrap_or filename []; fields = las_fields_in ms }))
+typed_of kind.WritersLas filename ms = Some (WritersLas (record { filename = unwrap_or filename []; fields = las_fields_in ms; only = where_in ms }))
 typed_of kind.WritersText filename ms = Some (WritersText (text_options_in (unwrap_or filename []) ms))
 typed_of _ filename ms = None
 
--- whether a stage of this type, with these options beside its file name, is built
-abbrev pub is_built : KindName → Members → Bool
-is_built kind.ReadersLas ms = true
-is_built kind.FiltersHead ms = is_none (get_member (codes "where") ms)
-is_built kind.FiltersMerge ms = true
-is_built kind.WritersLas ms = is_none (get_member (codes "where") ms)
-is_built kind.WritersText ms = is_none (get_member (codes "where") ms)
-is_built _ ms = false
+-- whether stages of this type are built
+abbrev pub is_built : KindName → Bool
+is_built kind.ReadersLas = true
+is_built kind.FiltersAssign = true
+is_built kind.FiltersExpression = true
+is_built kind.FiltersHead = true
+is_built kind.FiltersMerge = true
+is_built kind.WritersLas = true
+is_built kind.WritersText = true
+is_built _ = false

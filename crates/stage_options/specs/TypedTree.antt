@@ -14,9 +14,9 @@ use Rattle.stage_options.specs.Faults.{first_fault, or_else}
 use Rattle.stage_options.specs.Outputs.{same_output}
 use Rattle.stage_options.specs.Typed.{typed_of, is_built}
 
--- whether a stage is built: its type, with its options
+-- whether a stage is built
 abbrev pub is_stage_built : Stage → Bool
-is_stage_built s = is_built s.kind s.members
+is_stage_built s = is_built s.kind
 
 abbrev pub are_built : List Stage → Bool
 are_built stages = list_all is_stage_built stages

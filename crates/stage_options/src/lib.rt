@@ -1,6 +1,7 @@
 //! The options of a stage: which names its type has, which values they may hold, and their defaults.
 #![tactic(auto)]
 
+mod assignments;
 mod binding;
 mod bounded;
 mod built;
@@ -18,13 +19,15 @@ mod typing;
 mod values;
 mod walks;
 
-pub use binding::bind;
+pub use assignments::AssignList;
+pub use binding::{BoundFilter, BoundStage, bind};
 pub use bounded::{Delimiter, LasFields, Places};
 pub use built::is_built;
 pub use laws::roles_follow_types;
 pub use names::{SourceName, TargetName};
 pub use options::{
-    HeadOptions, LasReaderOptions, LasWriterOptions, MergeOptions, Options, TextOptions,
+    AssignOptions, ExpressionOptions, HeadOptions, LasReaderOptions, LasWriterOptions,
+    MergeOptions, Options, TextOptions,
 };
 pub use outputs::first_same_output;
 pub use role::Role;

@@ -6,16 +6,19 @@ ghost use Rattle.serde_json.specs.Find.{as_str, get_member};
 ghost use Rattle.serde_json.specs.View.{members_view};
 ghost use Rattle.las_header.specs.Offsets.{IsOffset};
 ghost use Rattle.las_header.specs.ScaleWords.{scale_of_nano};
+ghost use Rattle.stage_options.specs.Expressions.{condition_with};
 ghost use Rattle.stage_options.specs.Seen.{given_view};
-ghost use Rattle.stage_options.specs.Typed.{option_in, whole_in, text_in, scale_in, offset_in, columns_in, forward_in, las_fields_in, text_options_in};
+ghost use Rattle.stage_options.specs.Typed.{option_in, whole_in, text_in, scale_in, offset_in, columns_in, forward_in, las_fields_in, text_options_in, where_in, expression_in, assignments_in};
 ghost use Rattle.stage_options.specs.Values.{whole_of, format_with, decimal_of, truth_of};
 
+use crate::assignments::AssignList;
 use crate::bounded::{Delimiter, LasFields, Places};
 use crate::names::TargetName;
 use crate::options::TextOptions;
 use crate::values::Given;
 use crate::walks::name_of;
 use decimal_coords::Scale;
+use expr_lang::{Expr, ExprTree};
 use file_devices::Name;
 use forward_rules::{LasOpts, NameList};
 use las_header::Format;
@@ -216,6 +219,56 @@ pub(crate) fn las_fields(
     }))
 }
 
+/// The condition that an option is.
+fn condition_in(
+    alloc: Global,
+    options: &Map<String, Value>,
+    name: &str,
+) -> Result<Option<Expr>, AllocError>
+    ensures { IfOk result (λ o. o ≡ option_in condition_with name.now (members_view options.now.entries)) }
+{
+    match given(options, name) {
+        Some(given) => given.condition(alloc),
+        None => Ok(None),
+    }
+}
+
+/// Which points a filter judges or a writer writes.
+pub(crate) fn where_in(
+    alloc: Global,
+    options: &Map<String, Value>,
+) -> Result<Option<Expr>, AllocError>
+    ensures { IfOk result (λ o. o ≡ where_in (members_view options.now.entries)) }
+{
+    condition_in(alloc, options, "where")
+}
+
+/// The condition of points that go on.
+pub(crate) fn expression_in(alloc: Global, options: &Map<String, Value>) -> Result<Expr, AllocError>
+    ensures { IfOk result (λ e. e ≡ expression_in (members_view options.now.entries)) }
+{
+    match condition_in(alloc, options, "expression")? {
+        Some(expression) => Ok(expression),
+        None => Ok(Expr::new(ExprTree::Number(0))),
+    }
+}
+
+/// The assignments that are made.
+pub(crate) fn assignments_in(
+    alloc: Global,
+    options: &Map<String, Value>,
+) -> Result<AssignList, AllocError>
+    ensures { IfOk result (λ list. list ≡ assignments_in (members_view options.now.entries)) }
+{
+    let Some(given) = given(options, "value") else {
+        return Ok(AssignList::new(Vec::new(alloc)));
+    };
+    match given.assignments(alloc)? {
+        Some(assignments) => Ok(AssignList::new(assignments)),
+        None => Ok(AssignList::new(Vec::new(alloc))),
+    }
+}
+
 /// The columns of a text file: by default X, Y and Z.
 fn columns_in(alloc: Global, options: &Map<String, Value>) -> Result<NamedColumns, AllocError>
     ensures { IfOk result (λ columns. columns ≡ columns_in (members_view options.now.entries)) }
@@ -238,6 +291,7 @@ pub(crate) fn text_options(
     let columns = columns_in(alloc, options)?;
     let delimiter = name_of(alloc, text_in(options, 1, 8, "delimiter").unwrap_or(","))?;
     let precision = whole_in(options, 0, 9, "precision").unwrap_or(3);
+    let only = where_in(alloc, options)?;
     Ok(TextOptions {
         filename,
         columns,
@@ -245,5 +299,6 @@ pub(crate) fn text_options(
         delimiter: Delimiter::new(delimiter),
         quote_header: truth_in(options, "quote_header"),
         write_header: truth_in(options, "write_header"),
+        only,
     })
 }

@@ -1,13 +1,15 @@
-//! The options of a stage, by its type. An option that no run heeds yet has no field here: a stage that has it isn't built.
+//! The options of a stage, by its type.
 
 ghost use Rattle.std.specs.Prelude.{◌≡◌};
 ghost use Rattle.stage_options.specs.Kinds.{kind_of};
 ghost use Rattle.stage_options.specs.Roles.{role_of};
 ghost use Rattle.stage_options.specs.Seen.{role_view};
 
+use crate::assignments::AssignList;
 use crate::bounded::{Delimiter, LasFields, Places};
 use crate::names::{SourceName, TargetName};
 use crate::role::Role;
+use expr_lang::Expr;
 use option_texts::NamedColumns;
 use stage_names::KindName;
 
@@ -16,6 +18,12 @@ use stage_names::KindName;
 pub enum Options {
     /// Of `readers.las`.
     ReadersLas(LasReaderOptions),
+
+    /// Of `filters.assign`.
+    FiltersAssign(AssignOptions),
+
+    /// Of `filters.expression`.
+    FiltersExpression(ExpressionOptions),
 
     /// Of `filters.head`.
     FiltersHead(HeadOptions),
@@ -37,11 +45,34 @@ pub struct LasReaderOptions {
     pub filename: SourceName,
 }
 
+/// The options of `filters.assign`.
+#[derive(Drop)]
+pub struct AssignOptions {
+    /// The assignments, in the order in which they are made.
+    pub assignments: AssignList,
+
+    /// The points at which they are made; None is all.
+    pub only: Option<Expr>,
+}
+
+/// The options of `filters.expression`.
+#[derive(Drop)]
+pub struct ExpressionOptions {
+    /// The condition of points that go on.
+    pub expression: Expr,
+
+    /// The points that are judged, the others go on; None is all.
+    pub only: Option<Expr>,
+}
+
 /// The options of `filters.head`.
 #[derive(Drop)]
 pub struct HeadOptions {
     /// How many points of a view pass.
     pub count: u32,
+
+    /// The points that are counted, the others go on; None is all.
+    pub only: Option<Expr>,
 }
 
 /// The options of `filters.merge`: it has none.
@@ -56,6 +87,9 @@ pub struct LasWriterOptions {
 
     /// What its header block says, and what is forwarded.
     pub fields: LasFields,
+
+    /// The points that are written; None is all.
+    pub only: Option<Expr>,
 }
 
 /// The options of `writers.text`.
@@ -78,6 +112,9 @@ pub struct TextOptions {
 
     /// Whether the file begins with a line of the names of the columns.
     pub write_header: bool,
+
+    /// The points that are written; None is all.
+    pub only: Option<Expr>,
 }
 
 impl Options {
@@ -87,6 +124,8 @@ impl Options {
     {
         match self {
             Options::ReadersLas(_) => KindName::ReadersLas,
+            Options::FiltersAssign(_) => KindName::FiltersAssign,
+            Options::FiltersExpression(_) => KindName::FiltersExpression,
             Options::FiltersHead(_) => KindName::FiltersHead,
             Options::FiltersMerge(_) => KindName::FiltersMerge,
             Options::WritersLas(_) => KindName::WritersLas,
@@ -100,7 +139,10 @@ impl Options {
     {
         match self {
             Options::ReadersLas(options) => Role::Reads(options.filename.as_str()),
-            Options::FiltersHead(_) | Options::FiltersMerge(_) => Role::Filters,
+            Options::FiltersAssign(_)
+            | Options::FiltersExpression(_)
+            | Options::FiltersHead(_)
+            | Options::FiltersMerge(_) => Role::Filters,
             Options::WritersLas(options) => Role::Writes(options.filename.as_str()),
             Options::WritersText(options) => Role::Writes(options.filename.as_str()),
         }

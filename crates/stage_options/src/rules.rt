@@ -21,9 +21,6 @@ pub(crate) enum Allowed {
     /// A truth value.
     Truth,
 
-    /// A text.
-    Text,
-
     /// A text of at least so many bytes and at most so many.
     Sized(usize, usize),
 
@@ -32,6 +29,12 @@ pub(crate) enum Allowed {
 
     /// The names of what is forwarded.
     Forward,
+
+    /// The text of a condition.
+    Condition,
+
+    /// The text of an assignment, or 1 to 64 such texts.
+    Assignments,
 
     /// The name of a file that is read.
     Source,
@@ -89,10 +92,19 @@ const SHORT: Allowed = Allowed::Whole(0, 65_535);
 /// The options of `readers.las`.
 const READERS_LAS: &[Rule] = &[Rule::Required("filename", Allowed::Source)];
 
+/// Which points a stage judges or writes.
+const WHERE: Rule = Rule::Optional("where", Allowed::Condition);
+
+/// The options of `filters.assign`.
+const FILTERS_ASSIGN: &[Rule] = &[Rule::Required("value", Allowed::Assignments), WHERE];
+
+/// The options of `filters.expression`.
+const FILTERS_EXPRESSION: &[Rule] = &[Rule::Required("expression", Allowed::Condition), WHERE];
+
 /// The options of `filters.head`.
 const FILTERS_HEAD: &[Rule] = &[
     Rule::Optional("count", Allowed::Whole(0, 4_294_967_295)),
-    Rule::Optional("where", Allowed::Text),
+    WHERE,
 ];
 
 /// The options of `writers.las`.
@@ -113,7 +125,7 @@ const WRITERS_LAS: &[Rule] = &[
     Rule::Optional("creation_year", SHORT),
     Rule::Optional("system_id", Allowed::Sized(0, 32)),
     Rule::Optional("software_id", Allowed::Sized(0, 32)),
-    Rule::Optional("where", Allowed::Text),
+    WHERE,
 ];
 
 /// The options of `writers.text`.
@@ -124,7 +136,7 @@ const WRITERS_TEXT: &[Rule] = &[
     Rule::Optional("delimiter", Allowed::Sized(1, 8)),
     Rule::Optional("quote_header", Allowed::Truth),
     Rule::Optional("write_header", Allowed::Truth),
-    Rule::Optional("where", Allowed::Text),
+    WHERE,
 ];
 
 /// The options of a type, in the order in which they are looked at. A merge has none, and types that aren't built have none yet.
@@ -133,6 +145,8 @@ pub(crate) fn rules(kind: KindName) -> &'static [Rule]
 {
     match kind {
         KindName::ReadersLas => READERS_LAS,
+        KindName::FiltersAssign => FILTERS_ASSIGN,
+        KindName::FiltersExpression => FILTERS_EXPRESSION,
         KindName::FiltersHead => FILTERS_HEAD,
         KindName::WritersLas => WRITERS_LAS,
         KindName::WritersText => WRITERS_TEXT,

@@ -139,7 +139,8 @@ const VALUES: &[(&str, &str)] = &[
     (r#""quote_header":0"#, "wrong 1 quote_header"),
     (r#""write_header":"false""#, "none"),
     (r#""write_header":null"#, "wrong 1 write_header"),
-    (r#""where":"""#, "none"),
+    (r#""where":"Z > 1""#, "none"),
+    (r#""where":"""#, "wrong 1 where"),
     (r#""where":true"#, "wrong 1 where"),
 ];
 

@@ -19,26 +19,19 @@ use pipeline_json::{RawStage, RawTree, StageList};
 use stage_names::{PipeErr, PipeFault};
 use std::alloc::{AllocError, Global};
 
-/// Whether a stage is built: its type, with its options.
-fn is_stage_built(raw: &RawStage) -> bool
-    ensures { result ≡ is_stage_built (stage_view raw.now) }
-{
-    is_built(raw.kind, &raw.options)
-}
-
 /// Whether all of these stages are built.
 fn are_built(list: &[RawStage]) -> bool
     ensures { result ≡ are_built (stages_view list.now) }
 {
     for raw in list {
-        if !is_stage_built(raw) {
+        if !is_built(raw.kind) {
             return false;
         }
     }
     true
 }
 
-/// Whether a tree is built: each stage's type with the options that it has.
+/// Whether a tree is built: the type of each stage.
 pub fn is_tree_built(raw: &RawTree) -> bool
     ensures { result ≡ are_built (tree_view raw.now) }
 {

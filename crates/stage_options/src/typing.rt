@@ -8,9 +8,12 @@ ghost use Rattle.stage_options.specs.Typed.{typed_of, is_built};
 ghost use Rattle.stage_options.specs.Faults.{first_fault, IsFaultOf};
 ghost use Rattle.stage_options.specs.Values.{is_source, is_target};
 
-use crate::members::{las_fields, text_options, whole_or};
+use crate::members::{assignments_in, expression_in, las_fields, text_options, where_in, whole_or};
 use crate::names::{SourceName, TargetName};
-use crate::options::{HeadOptions, LasReaderOptions, LasWriterOptions, MergeOptions, Options};
+use crate::options::{
+    AssignOptions, ExpressionOptions, HeadOptions, LasReaderOptions, LasWriterOptions,
+    MergeOptions, Options,
+};
 use crate::rules::rules;
 use crate::walks::{name_of, refuse};
 use serde_json::{Map, Value};
@@ -28,13 +31,31 @@ fn readers_las(alloc: Global, filename: Option<&str>) -> Result<Options, AllocEr
     }))
 }
 
-/// The options of a head.
-fn filters_head(options: &Map<String, Value>) -> Options
-    ensures { (filename : Option (List ℕ)) → Some result ≡ typed_of KindName.FiltersHead filename (members_view options.now.entries) }
+/// The options of assignments.
+fn filters_assign(alloc: Global, options: &Map<String, Value>) -> Result<Options, AllocError>
+    ensures { (filename : Option (List ℕ)) → IfOk result (λ o. Some o ≡ typed_of KindName.FiltersAssign filename (members_view options.now.entries)) }
 {
-    Options::FiltersHead(HeadOptions {
-        count: whole_or(options, "count", 10),
-    })
+    let assignments = assignments_in(alloc, options)?;
+    let only = where_in(alloc, options)?;
+    Ok(Options::FiltersAssign(AssignOptions { assignments, only }))
+}
+
+/// The options of a filter by a condition.
+fn filters_expression(alloc: Global, options: &Map<String, Value>) -> Result<Options, AllocError>
+    ensures { (filename : Option (List ℕ)) → IfOk result (λ o. Some o ≡ typed_of KindName.FiltersExpression filename (members_view options.now.entries)) }
+{
+    let expression = expression_in(alloc, options)?;
+    let only = where_in(alloc, options)?;
+    Ok(Options::FiltersExpression(ExpressionOptions { expression, only }))
+}
+
+/// The options of a head.
+fn filters_head(alloc: Global, options: &Map<String, Value>) -> Result<Options, AllocError>
+    ensures { (filename : Option (List ℕ)) → IfOk result (λ o. Some o ≡ typed_of KindName.FiltersHead filename (members_view options.now.entries)) }
+{
+    let count = whole_or(options, "count", 10);
+    let only = where_in(alloc, options)?;
+    Ok(Options::FiltersHead(HeadOptions { count, only }))
 }
 
 /// The options of a writer of a LAS file.
@@ -46,11 +67,13 @@ fn writers_las(
     requires { IsTrue (is_target (unwrap_or (option_map (λ s. s.now) filename) [])) }
     ensures { IfOk result (λ o. Some o ≡ typed_of KindName.WritersLas (option_map (λ s. s.now) filename.entry) (members_view options.now.entries)) }
 {
-    let name = name_of(alloc, filename.unwrap_or(""))?;
+    let filename = TargetName::new(name_of(alloc, filename.unwrap_or(""))?);
     let fields = las_fields(alloc, options)?;
+    let only = where_in(alloc, options)?;
     Ok(Options::WritersLas(LasWriterOptions {
-        filename: TargetName::new(name),
+        filename,
         fields,
+        only,
     }))
 }
 
@@ -77,7 +100,7 @@ pub(crate) fn type_options(
     options: &Map<String, Value>,
     i: u32,
 ) -> Result<Options, PipeErr>
-    requires { IsTrue (is_built kind (members_view options.now.entries)) }
+    requires { IsTrue (is_built kind) }
     ensures no_fault { OnOk result (first_fault i kind (option_map (λ s. s.now) filename.entry) (members_view options.now.entries) ≡ None) }
     ensures ok { IfOk result (λ o. Some o ≡ typed_of kind (option_map (λ s. s.now) filename.entry) (members_view options.now.entries)) }
     ensures fault { IfErr result (IsFaultOf (first_fault i kind (option_map (λ s. s.now) filename.entry) (members_view options.now.entries))) }
@@ -85,7 +108,9 @@ pub(crate) fn type_options(
     refuse(alloc, rules(kind), filename, options, i)?;
     match kind {
         KindName::ReadersLas => Ok(readers_las(alloc, filename)?),
-        KindName::FiltersHead => Ok(filters_head(options)),
+        KindName::FiltersAssign => Ok(filters_assign(alloc, options)?),
+        KindName::FiltersExpression => Ok(filters_expression(alloc, options)?),
+        KindName::FiltersHead => Ok(filters_head(alloc, options)?),
         KindName::FiltersMerge => Ok(Options::FiltersMerge(MergeOptions {})),
         KindName::WritersLas => Ok(writers_las(alloc, filename, options)?),
         KindName::WritersText => Ok(writers_text(alloc, filename, options)?),

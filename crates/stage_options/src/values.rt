@@ -1,23 +1,30 @@
 //! The values of options.
 
-ghost use Rattle.std.specs.Prelude.{◌≡◌, option_map};
+ghost use Rattle.std.specs.Prelude.{◌≡◌, ◌∷◌, [], option_map, option_and_then, IfOk};
 ghost use Rattle.serde_json.specs.Data.{number, string};
 ghost use Rattle.serde_json.specs.Find.{as_str};
-ghost use Rattle.serde_json.specs.View.{view, members_view, number_view};
+ghost use Rattle.serde_json.specs.View.{view, items_view, members_view, number_view};
+ghost use Rattle.expr_lang.specs.Said.{condition_of, assignment_of_text};
+ghost use Rattle.stage_options.specs.Expressions.{condition_with, assignment_with, all_assignments, some_and_few, assignments_with};
 ghost use Rattle.stage_options.specs.Values.{text_whole, whole_of, format_with, whole_nano, decimal_of, text_truth, truth_of, is_part, is_source, is_target};
 ghost use Rattle.stage_options.specs.Faults.{value_of};
 ghost use Rattle.stage_options.specs.Seen.{given_view};
 
 use decimal_coords::parse_decimal;
+use expr_lang::{Assign, Expr, ExprErr, parse_assign, parse_expr};
 use las_header::Format;
 use pipeline_json::member;
 use serde_json::{Map, Number, Value};
+use std::alloc::{AllocError, Global};
 
 /// The most digits of a whole number that is a text.
 const MOST_DIGITS: usize = 10;
 
 /// The greatest size of a whole number that is a decimal.
 const MOST_WHOLE: u64 = 4_000_000_000;
+
+/// The most assignments of a stage.
+const MOST_ASSIGNMENTS: usize = 64;
 
 /// Nanounits in a unit.
 const NANO: i64 = 1_000_000_000;
@@ -99,6 +106,80 @@ fn text_truth(text: &str) -> Option<bool>
     }
 }
 
+/// The condition that a text is.
+fn condition(alloc: Global, text: &str) -> Result<Option<Expr>, AllocError>
+    ensures { IfOk result (λ o. o ≡ condition_of text.now) }
+{
+    match parse_expr(alloc, text) {
+        Ok(expression) => Ok(Some(expression)),
+        Err(ExprErr::Fault(_)) => Ok(None),
+        Err(ExprErr::Memory) => Err(AllocError),
+    }
+}
+
+/// The assignment that a text is.
+fn assignment(alloc: Global, text: &str) -> Result<Option<Assign>, AllocError>
+    ensures { IfOk result (λ o. o ≡ assignment_of_text text.now) }
+{
+    match parse_assign(alloc, text) {
+        Ok(assignment) => Ok(Some(assignment)),
+        Err(ExprErr::Fault(_)) => Ok(None),
+        Err(ExprErr::Memory) => Err(AllocError),
+    }
+}
+
+/// The assignment that a value is.
+fn assignment_with(alloc: Global, value: &Value) -> Result<Option<Assign>, AllocError>
+    ensures { IfOk result (λ o. o ≡ assignment_with (view value.now)) }
+{
+    match value.as_str() {
+        Some(text) => assignment(alloc, text),
+        None => Ok(None),
+    }
+}
+
+/// The assignment that a text is, as a list.
+fn one_assignment(alloc: Global, text: Option<&str>) -> Result<Option<Vec<Assign>>, AllocError>
+    ensures { IfOk result (λ o. option_map (λ list. list.items) o
+        ≡ option_map (λ a. a ∷ []) (option_and_then assignment_of_text (option_map (λ s. s.now) text.entry))) }
+{
+    let Some(text) = text else {
+        return Ok(None);
+    };
+    let Some(assignment) = assignment(alloc, text)? else {
+        return Ok(None);
+    };
+    let mut list = Vec::new(alloc);
+    list.push(assignment)?;
+    Ok(Some(list))
+}
+
+/// The assignments that values are, where each is one.
+fn assignments(alloc: Global, values: &[Value]) -> Result<Option<Vec<Assign>>, AllocError>
+    ensures { IfOk result (λ o. option_map (λ list. list.items) o ≡ all_assignments (items_view values.now)) }
+{
+    let mut list = Vec::with_capacity(alloc, values.len())?;
+    for value in values {
+        match assignment_with(alloc, value)? {
+            Some(assignment) => list.push_reserved(assignment),
+            None => return Ok(None),
+        }
+    }
+    Ok(Some(list))
+}
+
+/// The assignments, where there are 1 to 64.
+fn some_and_few(list: Option<Vec<Assign>>) -> Option<Vec<Assign>>
+    ensures { option_map (λ list. list.items) result ≡ option_and_then some_and_few (option_map (λ list. list.items) list) }
+{
+    let list = list?;
+    if list.is_empty() || list.len() > MOST_ASSIGNMENTS {
+        None
+    } else {
+        Some(list)
+    }
+}
+
 impl<'a> Given<'a> {
     /// The whole number that is given.
     pub(crate) fn whole(self) -> Option<u32>
@@ -140,6 +221,28 @@ impl<'a> Given<'a> {
             Given::Json(Value::Bool(truth)) => Some(*truth),
             Given::Json(Value::String(text)) => text_truth(text.as_str()),
             Given::Json(_) => None,
+        }
+    }
+
+    /// The condition that is given. Refused only where memory is wanting.
+    pub(crate) fn condition(self, alloc: Global) -> Result<Option<Expr>, AllocError>
+        ensures { IfOk result (λ o. o ≡ condition_with (given_view self.entry)) }
+    {
+        match self.text() {
+            Some(text) => condition(alloc, text),
+            None => Ok(None),
+        }
+    }
+
+    /// The assignments that are given, by a text or by an array of 1 to 64 texts. Refused only where memory is wanting.
+    pub(crate) fn assignments(self, alloc: Global) -> Result<Option<Vec<Assign>>, AllocError>
+        ensures { IfOk result (λ o. option_map (λ list. list.items) o ≡ assignments_with (given_view self.entry)) }
+    {
+        match self {
+            Given::Json(Value::Array(values)) => {
+                Ok(some_and_few(assignments(alloc, values.as_slice())?))
+            }
+            _ => one_assignment(alloc, self.text()),
         }
     }
 

@@ -39,31 +39,38 @@ fn has_size(low: usize, high: usize, text: &str) -> bool
     low <= text.len() && text.len() <= high
 }
 
-/// Whether an option may hold a value.
-fn fits(allowed: Allowed, given: Given<'_>) -> bool
-    ensures { result ≡ fits (allowed_view allowed) (given_view given.entry) }
+/// Whether an option may hold a value. Refused only where memory is wanting.
+fn fits(alloc: Global, allowed: Allowed, given: Given<'_>) -> Result<bool, AllocError>
+    ensures { IfOk result (λ is. is ≡ fits (allowed_view allowed) (given_view given.entry)) }
 {
-    match allowed {
+    Ok(match allowed {
         Allowed::Whole(low, high) => given.whole().is_some_and(|n| is_within(low, high, n)),
         Allowed::Decimal(low, high) => given.decimal().is_some_and(|n| is_between(low, high, n)),
         Allowed::Format => given.format().is_some(),
         Allowed::Truth => given.truth().is_some(),
-        Allowed::Text => given.text().is_some(),
         Allowed::Sized(low, high) => given.text().is_some_and(|text| has_size(low, high, text)),
         Allowed::Columns => given.text().is_some_and(|text| is_columns(text)),
         Allowed::Forward => given.text().is_some_and(|text| is_forward(text)),
         Allowed::Source => given.text().is_some_and(|name| is_source(name)),
         Allowed::Target => given.text().is_some_and(|name| is_target(name)),
-    }
+        Allowed::Condition => given.condition(alloc)?.is_some(),
+        Allowed::Assignments => given.assignments(alloc)?.is_some(),
+    })
 }
 
 /// Whether an option is there with a value that it may not hold.
-fn is_wrong(rule: &Rule, filename: Option<&str>, options: &Map<String, Value>) -> bool
-    ensures { result ≡ is_wrong ((rule_view rule.now).allowed) (value_of (rule_view rule.now).name (option_map (λ s. s.now) filename.entry) (members_view options.now.entries)) }
+fn is_wrong(
+    alloc: Global,
+    rule: &Rule,
+    filename: Option<&str>,
+    options: &Map<String, Value>,
+) -> Result<bool, AllocError>
+    ensures { IfOk result (λ is. is ≡ is_wrong ((rule_view rule.now).allowed)
+        (value_of (rule_view rule.now).name (option_map (λ s. s.now) filename.entry) (members_view options.now.entries))) }
 {
     match value_of(filename, options, rule.name()) {
-        Some(value) => !fits(rule.allowed(), value),
-        None => false,
+        Some(value) => Ok(!fits(alloc, rule.allowed(), value)?),
+        None => Ok(false),
     }
 }
 
@@ -104,18 +111,20 @@ fn first_missing(
 
 /// The first option with a value that it may not hold.
 fn first_wrong(
+    alloc: Global,
     table: &[Rule],
     filename: Option<&str>,
     options: &Map<String, Value>,
-) -> Option<&'static str>
-    ensures { option_map (λ s. s.now) result ≡ first_wrong (rules_view table.now) (option_map (λ s. s.now) filename.entry) (members_view options.now.entries) }
+) -> Result<Option<&'static str>, AllocError>
+    ensures { IfOk result (λ o. option_map (λ s. s.now) o
+        ≡ first_wrong (rules_view table.now) (option_map (λ s. s.now) filename.entry) (members_view options.now.entries)) }
 {
     for rule in table {
-        if is_wrong(rule, filename, options) {
-            return Some(rule.name());
+        if is_wrong(alloc, rule, filename, options)? {
+            return Ok(Some(rule.name()));
         }
     }
-    None
+    Ok(None)
 }
 
 /// The first key that is no option's name.
@@ -189,7 +198,7 @@ pub(crate) fn refuse(
     if let Some(name) = first_missing(table, filename, options) {
         return Err(PipeErr::Fault(PipeFault::OptionMissing(i, name_of(alloc, name)?)));
     }
-    if let Some(name) = first_wrong(table, filename, options) {
+    if let Some(name) = first_wrong(alloc, table, filename, options)? {
         return Err(PipeErr::Fault(PipeFault::OptionValue(i, name_of(alloc, name)?)));
     }
     Ok(())

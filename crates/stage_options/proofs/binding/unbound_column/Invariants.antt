@@ -1,4 +1,4 @@
-use Rattle.std.proofs.Common.{◌≡◌, not, map, find, drop}
+use Rattle.std.proofs.Common.{◌≡◌, drop}
 use Rattle.cloud_points.specs.Layouts.{holds}
 use Rattle.stage_options.specs.Binding.{first_unbound}
 use Rattle.stage_options.proofs.binding.unbound_column.Given as goal

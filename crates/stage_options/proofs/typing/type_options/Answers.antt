@@ -10,8 +10,17 @@ pub returns-in_ok-readers_las-in-ReadersLas-clause-ok :
     goal.returns-in_ok-readers_las-in-ReadersLas-clause-ok
 returns-in_ok-readers_las-in-ReadersLas-clause-ok c = rw c.in-ReadersLas.is (c.in_ok-readers_las-in-ReadersLas.ensures (members_view c.args.options.now.entries))
 
-pub returns-in-FiltersHead-clause-ok : goal.returns-in-FiltersHead-clause-ok
-returns-in-FiltersHead-clause-ok c = rw c.in-FiltersHead.is (c.filters_head.ensures (option_map (λ s. s.now) c.args.filename))
+pub returns-in_ok-filters_assign-in-FiltersAssign-clause-ok :
+    goal.returns-in_ok-filters_assign-in-FiltersAssign-clause-ok
+returns-in_ok-filters_assign-in-FiltersAssign-clause-ok c = rw c.in-FiltersAssign.is (c.in_ok-filters_assign-in-FiltersAssign.ensures (option_map (λ s. s.now) c.args.filename))
+
+pub returns-in_ok-filters_expression-in-FiltersExpression-clause-ok :
+    goal.returns-in_ok-filters_expression-in-FiltersExpression-clause-ok
+returns-in_ok-filters_expression-in-FiltersExpression-clause-ok c = rw c.in-FiltersExpression.is (c.in_ok-filters_expression-in-FiltersExpression.ensures (option_map (λ s. s.now) c.args.filename))
+
+pub returns-in_ok-filters_head-in-FiltersHead-clause-ok :
+    goal.returns-in_ok-filters_head-in-FiltersHead-clause-ok
+returns-in_ok-filters_head-in-FiltersHead-clause-ok c = rw c.in-FiltersHead.is (c.in_ok-filters_head-in-FiltersHead.ensures (option_map (λ s. s.now) c.args.filename))
 
 pub writers_las-requires : goal.writers_las-requires
 writers_las-requires c =
