@@ -9,7 +9,7 @@ use Rattle.file_devices.specs.declared.devices.Source as source
 use Rattle.file_devices.specs.declared.devices.Sink as sink
 use Rattle.network_core.proofs.Opened.{some_at}
 use Rattle.run_report.specs.declared.report.StageCount.{StageCount}
-use Rattle.stage_kinds.specs.declared.file_form.FileForm.{FileForm}
+use Rattle.stage_kinds.specs.declared.file_form.StageForm.{StageForm}
 use Rattle.cloud_points.specs.declared.faults.PointFault.{PointFault}
 use Rattle.stage_kinds.specs.declared.stage_work.StageWork.{StageWork}
 use Rattle.stage_kinds.specs.declared.held.Held.{Held}
@@ -239,7 +239,7 @@ same-held faults old new later = held-same old new later.count (λ i v w e f. ap
 
 -- a run whose stages came to their end
 module _ {S K : Type 0} (s : source.Ghosts S) (k : sink.Ghosts K) (map : Option Names) (stages : List StageSpec) (works done : List (StageWork S K)) (few : length works ≡ length stages)
-    (readers : List (Option (LasReader S))) (forms : List (Option FileForm)) (begun : AreBegun s k map stages readers forms works) (come : (m : Names) → map ≡ Some m → CanBegin m stages) (faults : StageWork S K → ℕ) (later : AreLater faults works done) where
+    (readers : List (Option (LasReader S))) (forms : List StageForm) (begun : AreBegun s k map stages readers forms works) (come : (m : Names) → map ≡ Some m → CanBegin m stages) (faults : StageWork S K → ℕ) (later : AreLater faults works done) where
   pub works-tell : (m : Names) → map ≡ Some m → WorksTell s works (opened_in m stages)
   works-tell m e i w r a b = tells-there s m stages i r ((begun i w a).tells m e r b)
 

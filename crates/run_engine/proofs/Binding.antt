@@ -1,12 +1,10 @@
 -- One stage more is bound.
-use Rattle.std.proofs.Common.{◌≡◌, ℕ, ◌+◌, ◌<◌, List, [], length, Option, Some, None, refl, ap, sym, ◌∙◌, arith, inl, inr}
+use Rattle.std.proofs.Common.{◌≡◌, ℕ, ◌+◌, ◌<◌, List, [], length, Option, None, ap, sym, ◌∙◌, arith, inl, inr}
 use Rattle.std.proofs.lemmas.Bool.Decides.{eqb_tells}
 use Rattle.cloud_points.specs.Layouts.{holds}
 use Rattle.las_reader.specs.declared.reader.LasReader.{LasReader}
 use Rattle.stage_names.specs.declared.faults.PipeFault.{PipeFault}
 use Rattle.stage_options.specs.Binding.{binding_fault}
-use Rattle.stage_options.specs.Roles.{is_writing, role_of}
-use Rattle.stage_options.specs.declared.options.Options.{Options}
 use Rattle.stage_options.specs.declared.stage.StageSpec.{StageSpec}
 use Rattle.stage_forms.specs.declared.below.Below.{Below}
 use Rattle.stage_forms.specs.Below.{HaveReaders, IsBelow}

@@ -1,6 +1,5 @@
 -- The works of stages over their readers and forms, and names that are bound.
-use Rattle.std.proofs.Common.{◌≡◌, ℕ, ◌<◌, List, length, slice_get, Option, Some, None, refl, ap, sym, subst, ◌∙◌, arith}
-use Rattle.std.specs.Prelude.{slice_index_or}
+use Rattle.std.proofs.Common.{◌≡◌, List, length, Option, Some, None, ap, sym, ◌∙◌, arith}
 use Rattle.std.proofs.lemmas.Option.{none-some, same_Some, slice_get_within, get_or_from_slice_get}
 use Rattle.network_core.proofs.Opened.{some_at}
 use Rattle.file_devices.specs.Named.{Names}
@@ -8,16 +7,17 @@ use Rattle.file_devices.specs.declared.devices.Source as source
 use Rattle.file_devices.specs.declared.devices.Sink as sink
 use Rattle.las_reader.specs.declared.reader.LasReader.{LasReader}
 use Rattle.stage_forms.specs.Below.{HaveReaders}
-use Rattle.stage_kinds.specs.declared.file_form.FileForm.{FileForm}
+use Rattle.stage_kinds.specs.declared.file_form.StageForm.{StageForm}
+use Rattle.stage_kinds.specs.declared.file_form.StageForm.TheVariants.{Reads}
 use Rattle.stage_kinds.specs.declared.stage_work.StageWork.{StageWork}
-use Rattle.stage_kinds.specs.declared.stage_work.StageWork.TheVariants.{Reader, Head, Merge, Las, Text}
+use Rattle.stage_kinds.specs.declared.stage_work.StageWork.TheVariants.{Reader, Filter, Writer}
 use Rattle.stage_options.specs.declared.stage.StageSpec.{StageSpec}
 use Rattle.run_report.specs.declared.refusal.Refusal.{Refusal}
 use Rattle.run_report.specs.declared.refusal.Refusal.TheVariants as of
-use Rattle.answer_model.specs.Values.{Opened, options_at, reads_at, unbound_at, least_from}
-use Rattle.answer_model.specs.Runs.{AreRead, opened_in, unless_unbound, run_with, run_over, run_of}
+use Rattle.answer_model.specs.Values.{reads_at}
+use Rattle.answer_model.specs.Runs.{AreRead, opened_in, unless_unbound, run_with}
 use Rattle.answer_model.specs.Values.{evaluated}
-use Rattle.stage_runs.specs.Works.{AreAtStart, HaveRead}
+use Rattle.stage_runs.specs.Works.{AreAtStart}
 use Rattle.run_engine.specs.Begun.{AreOpened, AreBegun, AreForms, AreNamesBound, IsUnbound, reader_of}
 use Rattle.run_engine.specs.Cause.{CanBegin, IsCause, IsEarly}
 use Rattle.run_engine.proofs.Answers.{all-read}
@@ -25,18 +25,16 @@ use Rattle.run_engine.proofs.Opening.{are-read, have-readers}
 
 is-reader : {S K : Type 0} (w : StageWork S K) (r : LasReader S) → reader_of w ≡ Some r → w ≡ Reader r
 is-reader (Reader q) r e = ap Reader (same_Some q r e)
-is-reader (Head h) r e = absurd (none-some r e)
-is-reader Merge r e = absurd (none-some r e)
-is-reader (Las l) r e = absurd (none-some r e)
-is-reader (Text t) r e = absurd (none-some r e)
+is-reader (Filter f) r e = absurd (none-some r e)
+is-reader (Writer v) r e = absurd (none-some r e)
 
 -- works over readers and forms are at their start
-pub are-at-start : {S K : Type 0} (s : source.Ghosts S) (k : sink.Ghosts K) (map : Option Names) (stages : List StageSpec) (readers : List (Option (LasReader S))) (forms : List (Option FileForm)) (works : List (StageWork S K))
+pub are-at-start : {S K : Type 0} (s : source.Ghosts S) (k : sink.Ghosts K) (map : Option Names) (stages : List StageSpec) (readers : List (Option (LasReader S))) (forms : List StageForm) (works : List (StageWork S K))
     → length works ≡ length stages → length readers ≡ length stages → length forms ≡ length stages → AreForms stages readers forms → AreBegun s k map stages readers forms works → AreAtStart k.bytes stages works
 are-at-start {S} {K} s k map stages readers forms works a b c are begun opened have i w e =
     let inside = slice_get_within works i w e in
     let form = some_at forms i (omega (arith, a, c, inside)) in
-    (begun i w e).start (reads_at stages opened i) (get_or_from_slice_get forms i form.0 None form.1 ∙ are opened have_readers i form.0 form.1)
+    (begun i w e).start (reads_at stages opened i) (get_or_from_slice_get forms i form.0 Reads form.1 ∙ are opened have_readers i form.0 form.1)
   where
     have_readers : HaveReaders readers opened
     have_readers j r f =

@@ -1,16 +1,19 @@
 -- One work more is finished.
-use Rattle.std.proofs.Common.{◌≡◌, ◌⊎◌, ℕ, ◌+◌, ◌≤◌, ◌<◌, true, List, length, slice_get, Option, Some, refl, ap, sym, subst, ◌∙◌, arith, inl, inr, length-set}
+use Rattle.std.proofs.Common.{◌≡◌, ◌⊎◌, ℕ, ◌+◌, ◌≤◌, ◌<◌, List, length, slice_get, Option, Some, refl, ap, sym, subst, ◌∙◌, arith, inl, inr, length-set}
 use Rattle.std.specs.Prelude.{slice_set}
 use Rattle.std.proofs.lemmas.Bool.Decides.{eqb_tells}
 use Rattle.std.proofs.lemmas.Option.{slice_get_within}
 use Rattle.circular_buffer.proofs.Places.{slice_get-set_same, slice_get-set_other}
-use Rattle.network_core.proofs.Opened.{some_at}
 use Rattle.file_devices.specs.Counts.{Rose}
 use Rattle.file_devices.specs.declared.devices.Op.{Op}
 use Rattle.file_devices.specs.declared.devices.Op.TheVariants.{Write, Patch}
 use Rattle.std.proofs.lemmas.Option.{none-some}
-use Rattle.stage_kinds.specs.declared.stage_work.StageWork.TheVariants.{Reader, Head, Merge, Text, Las}
-use Rattle.stage_kinds.specs.Files.{finishing_op}
+use Rattle.stage_kinds.specs.declared.stage_work.StageWork.TheVariants.{Reader, Filter, Writer}
+use Rattle.std.specs.Prelude.{option_map}
+use Rattle.stage_kinds.specs.declared.file_form.FileForm.{FileForm}
+use Rattle.stage_kinds.specs.declared.file_form.FileForm.TheVariants as file
+use Rattle.stage_kinds.specs.Files.{file_form, finishing_op}
+use Rattle.stage_kinds.specs.Stages.{writing_of}
 use Rattle.stage_kinds.specs.declared.stage_work.StageWork.{StageWork}
 use Rattle.stage_kinds.specs.Held.{op_of}
 use Rattle.run_engine.specs.Turns.{AreLater, UnfinishedAt}
@@ -57,9 +60,11 @@ module _ {S K : Type 0} (bytes : K → Option (List ℕ)) (faults : StageWork S 
   left-more k lt before x le = slice_get-set_other now i x w (λ e. absurd (omega (arith, lt, le, e))) ∙ before x (omega (arith, lt, le))
 
 -- a work whose file is finished by some operation writes, and that is an appending or a patch
-pub finishing-writes : {S K : Type 0} (w : StageWork S K) (o : Op) → finishing_op w ≡ Some o → (op_of w ≡ Some Write) × ((o ≡ Write) ⊎ (o ≡ Patch))
+pub finishing-writes : {S K : Type 0} (w : StageWork S K) (o : Op) → option_map (λ x. finishing_op x.form) (writing_of w) ≡ Some o → (op_of w ≡ Some Write) × ((o ≡ Write) ⊎ (o ≡ Patch))
 finishing-writes (Reader r) o e = absurd (none-some o e)
-finishing-writes (Head h) o e = absurd (none-some o e)
-finishing-writes Merge o e = absurd (none-some o e)
-finishing-writes (Text t) o e = (refl, inl (sym (same_some Write o e)))
-finishing-writes (Las l) o e = (refl, inr (sym (same_some Patch o e)))
+finishing-writes (Filter f) o e = absurd (none-some o e)
+finishing-writes (Writer v) o e = (refl, by_form (file_form v.file) e)
+  where
+    by_form : (form : FileForm) → Some (finishing_op form) ≡ Some o → (o ≡ Write) ⊎ (o ≡ Patch)
+    by_form (file.Text t) e = inl (sym (same_some Write o e))
+    by_form (file.Las l) e = inr (sym (same_some Patch o e))

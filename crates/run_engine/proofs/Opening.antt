@@ -11,9 +11,9 @@ use Rattle.file_devices.specs.declared.devices.Sink as sink
 use Rattle.las_reader.specs.declared.reader.LasReader.{LasReader}
 use Rattle.forward_rules.specs.Forwarded.{ReadFile}
 use Rattle.stage_forms.specs.Below.{AreReaders, HaveReaders}
-use Rattle.stage_kinds.specs.declared.file_form.FileForm.{FileForm}
+use Rattle.stage_kinds.specs.declared.file_form.StageForm.{StageForm}
 use Rattle.stage_kinds.specs.declared.stage_work.StageWork.{StageWork}
-use Rattle.stage_kinds.specs.declared.stage_work.StageWork.TheVariants.{Reader, Head, Merge, Las, Text}
+use Rattle.stage_kinds.specs.declared.stage_work.StageWork.TheVariants.{Reader, Filter, Writer}
 use Rattle.stage_kinds.specs.Held.{op_of}
 use Rattle.stage_options.specs.Roles.{Role, Reads, Filters, Writes, role_of, is_reading, is_writing}
 use Rattle.stage_options.specs.declared.options.Options.{Options}
@@ -107,7 +107,7 @@ module _ {S : Type 0} (s : source.Ghosts S) (map : Option Names) (i : ℕ) where
   reader-there (Writes name) None h = refl
 
 -- an opened reader is the work of its stage
-pub reader-work : {S K : Type 0} (s : source.Ghosts S) (k : sink.Ghosts K) (map : Option Names) (i : ℕ) (o : Options) (r : LasReader S) (form : Option FileForm) → IsOpened s map i (role_of o) (Some r) → IsWork s k map i o (Some r) form (Reader r)
+pub reader-work : {S K : Type 0} (s : source.Ghosts S) (k : sink.Ghosts K) (map : Option Names) (i : ℕ) (o : Options) (r : LasReader S) (form : StageForm) → IsOpened s map i (role_of o) (Some r) → IsWork s k map i o (Some r) form (Reader r)
 reader-work {S} {K} s k map i o r form is = record {
   same = refl;
   start = λ reads e. reader-start s k.bytes o reads r (opened.0) (opened.1.start);
@@ -119,7 +119,7 @@ reader-work {S} {K} s k map i o r form is = record {
     opened = by-reader s map i (role_of o) r is
 
 -- a work that is no reader's is that of a stage that doesn't read
-pub other-work : {S K : Type 0} (s : source.Ghosts S) (k : sink.Ghosts K) (map : Option Names) (i : ℕ) (o : Options) (form : Option FileForm) (w : StageWork S K) → is_reading (role_of o) ≡ false
+pub other-work : {S K : Type 0} (s : source.Ghosts S) (k : sink.Ghosts K) (map : Option Names) (i : ℕ) (o : Options) (form : StageForm) (w : StageWork S K) → is_reading (role_of o) ≡ false
     → op_of w ≡ op_for (role_of o) → ((reads : List ReadFile) → form ≡ form_for o reads → IsAtStart k.bytes o reads w) → IsWork s k map i o None form w
 other-work {S} {K} s k map i o form w inner device start = record {
   same = no_reader w device;
@@ -135,10 +135,8 @@ other-work {S} {K} s k map i o form w inner device start = record {
 
     no_reader : (w : StageWork S K) → op_of w ≡ op_for (role_of o) → reader_of w ≡ None
     no_reader (Reader r) e = absurd (reads_not (role_of o) inner e)
-    no_reader (Head h) e = refl
-    no_reader Merge e = refl
-    no_reader (Las l) e = refl
-    no_reader (Text t) e = refl
+    no_reader (Filter f) e = refl
+    no_reader (Writer v) e = refl
 
 module _ {S : Type 0} (s : source.Ghosts S) (map : Option Names) (stages : List StageSpec) (readers : List (Option (LasReader S))) (are : AreOpened s map stages readers) where
   pub are-readers : AreReaders stages readers

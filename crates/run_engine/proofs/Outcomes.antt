@@ -5,6 +5,7 @@ use Rattle.std.proofs.lemmas.Option.{slice_get_within}
 use Rattle.cloud_points.specs.declared.faults.StageFault.{StageFault}
 use Rattle.cloud_points.specs.declared.faults.StageFault.TheVariants as stage
 use Rattle.network_core.specs.declared.node.Node.{Node}
+use Rattle.stage_kinds.specs.declared.stage_work.StageWork.{StageWork}
 use Rattle.stage_options.specs.declared.stage.StageSpec.{StageSpec}
 use Rattle.run_report.specs.declared.report.StageCount.{StageCount}
 use Rattle.run_engine.specs.Outcomes.{device_op, point_fault, NoneHas, NoFault, node_count, AreCounted}
@@ -31,7 +32,7 @@ no-faults nodes device point k n e =
     neither n.fault (device k n lt e) (point k n lt e)
 
 -- one count more
-pub counted-more : {W : Type 0} (stages : List StageSpec) (nodes : List (Node W)) (counts : List StageCount) (i : ℕ) (s : StageSpec) (n : Node W) → i ≡ length counts → slice_get stages i ≡ Some s → slice_get nodes i ≡ Some n
+pub counted-more : {S K : Type 0} (stages : List StageSpec) (nodes : List (Node (StageWork S K))) (counts : List StageCount) (i : ℕ) (s : StageSpec) (n : Node (StageWork S K)) → i ≡ length counts → slice_get stages i ≡ Some s → slice_get nodes i ≡ Some n
     → AreCounted stages nodes counts → AreCounted stages nodes (counts ++ node_count i s n ∷ [])
 counted-more stages nodes counts i s n here at node before k t m lt e f = go counts k here lt
   where
@@ -51,7 +52,7 @@ counted-more stages nodes counts i s n here at node before k t m lt e f = go cou
       | inl p ↦ last counts (node_count i s n) k (p.1 ∙ here)
           ∙ ap (λ x. Some (node_count x s n)) (sym p.1)
           ∙ ap (λ x. Some (node_count k x n)) (same_some s t (sym at ∙ ap (slice_get stages) (sym p.1) ∙ e))
-          ∙ ap (λ (x : Node _). Some (node_count k t x)) (same_some n m (sym node ∙ ap (slice_get nodes) (sym p.1) ∙ f))
+          ∙ ap (λ (x : Node (StageWork _ _)). Some (node_count k t x)) (same_some n m (sym node ∙ ap (slice_get nodes) (sym p.1) ∙ f))
       | inr p ↦ (let ne = p.1 in let size = length-push counts (node_count i s n) in let inside : k < length counts = omega (arith, ne, lt, here, size) in
           pushed counts (node_count i s n) k inside ∙ before k t m inside e f)
     ]

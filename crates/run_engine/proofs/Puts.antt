@@ -9,12 +9,11 @@ use Rattle.std.proofs.lemmas.List.Elements.{filter-append}
 use Rattle.network_core.proofs.Opened.{some_at}
 use Rattle.file_devices.specs.Named.{Names, put, kept}
 use Rattle.file_devices.specs.Told.{IsAsTold}
-use Rattle.cloud_points.specs.Flows.{points}
 use Rattle.stage_kinds.specs.declared.stage_work.StageWork.{StageWork}
 use Rattle.stage_kinds.specs.Held.{told_by}
 use Rattle.stage_options.specs.Roles.{Role, Reads, Filters, Writes, is_writing}
 use Rattle.stage_options.specs.declared.stage.StageSpec.{StageSpec}
-use Rattle.answer_model.specs.Values.{Opened, Output, role_at, row_at, written, output_at, stage_input}
+use Rattle.answer_model.specs.Values.{Opened, Output, role_at, row_at, written, written_at, output_at}
 use Rattle.answer_model.specs.Runs.{put_all}
 use Rattle.run_engine.specs.Cause.{WerePut, outputs_before}
 use Rattle.run_engine.specs.Keeping.{kept_one, kept_if, kept_first}
@@ -71,7 +70,7 @@ module _ (stages : List StageSpec) (opened : Opened) where
       ap (outputs_before i) (below-more stages opened n)
       ∙ before_append i (outputs_below stages opened n) (output_at stages opened n)
       ∙ ap (λ xs. xs ++ outputs_before i (output_at stages opened n)) (before-all i n (omega (arith, h)))
-      ∙ ap (λ xs. outputs_below stages opened n ++ xs) (before-one i n (role_at stages n) ((row_at stages opened n).bytes (points (stage_input stages opened n))) (omega (arith, h)))
+      ∙ ap (λ xs. outputs_below stages opened n ++ xs) (before-one i n (role_at stages n) ((row_at stages opened n).bytes (written_at stages opened n)) (omega (arith, h)))
       ∙ sym (below-more stages opened n)
 
   pub before-below : (i n : ℕ) → i ≤ n → outputs_before i (outputs_below stages opened n) ≡ outputs_below stages opened i
@@ -90,20 +89,20 @@ module _ (stages : List StageSpec) (opened : Opened) where
       by_place less (inl p) =
           ap (outputs_before i) (below-more stages opened n)
           ∙ before_append i (outputs_below stages opened n) (output_at stages opened n)
-          ∙ ap (λ xs. outputs_before i (outputs_below stages opened n) ++ xs) (before-none i n (role_at stages n) ((row_at stages opened n).bytes (points (stage_input stages opened n))) p)
+          ∙ ap (λ xs. outputs_before i (outputs_below stages opened n) ++ xs) (before-none i n (role_at stages n) ((row_at stages opened n).bytes (written_at stages opened n)) p)
           ∙ append-nil (outputs_before i (outputs_below stages opened n))
           ∙ less p
       by_place less (inr p) = before-all i (suc n) (omega (arith, p)) ∙ ap (outputs_below stages opened) (sym p)
 
   module _ {S K : Type 0} (bytes : K → Option (List ℕ)) (works : List (StageWork S K))
-      (told : (i : ℕ) (w : StageWork S K) → slice_get works i ≡ Some w → is_writing (role_at stages i) ≡ true → IsAsTold (told_by bytes w) (Some ((row_at stages opened i).bytes (points (stage_input stages opened i))))) where
+      (told : (i : ℕ) (w : StageWork S K) → slice_get works i ≡ Some w → is_writing (role_at stages i) ≡ true → IsAsTold (told_by bytes w) (Some ((row_at stages opened i).bytes (written_at stages opened i)))) where
     one-put : (i : ℕ) (w : StageWork S K) (m : Names) (now : Option Names) → slice_get works i ≡ Some w → IsAsTold now (Some m) → IsAsTold (kept_one bytes now (role_at stages i) w) (Some (put_all m (output_at stages opened i)))
     one-put i w m now e before = by_role (role_at stages i) refl
       where
-        by_role : (role : Role) → role_at stages i ≡ role → IsAsTold (kept_one bytes now role w) (Some (put_all m (written i role ((row_at stages opened i).bytes (points (stage_input stages opened i))))))
+        by_role : (role : Role) → role_at stages i ≡ role → IsAsTold (kept_one bytes now role w) (Some (put_all m (written i role ((row_at stages opened i).bytes (written_at stages opened i)))))
         by_role (Reads name) is = before
         by_role Filters is = before
-        by_role (Writes name) is = kept_told m name ((row_at stages opened i).bytes (points (stage_input stages opened i))) now (told_by bytes w) before (told i w e (ap is_writing is))
+        by_role (Writes name) is = kept_told m name ((row_at stages opened i).bytes (written_at stages opened i)) now (told_by bytes w) before (told i w e (ap is_writing is))
 
     pub first-put : (count : ℕ) (m : Names) (old : Option Names) → count ≤ length works → IsAsTold old (Some m) → IsAsTold (kept_first bytes count old stages works) (Some (put_all m (outputs_below stages opened count)))
     first-put zero m old le before = before

@@ -1,5 +1,5 @@
 -- What the nodes of a tree's stages came to, as what its stages come to.
-use Rattle.std.proofs.Common.{◌≡◌, ℕ, ◌+◌, ◌<◌, Bool, true, false, cond, List, length, map, slice_get, Option, Some, None, refl, ap, sym, subst, ◌∙◌, arith}
+use Rattle.std.proofs.Common.{◌≡◌, ℕ, ◌+◌, ◌<◌, false, List, length, map, slice_get, Option, Some, None, refl, ap, sym, subst, ◌∙◌, arith}
 use Rattle.std.specs.Prelude.{is_some, option_map}
 use Rattle.std.proofs.lemmas.Option.{slice_get_within}
 use Rattle.std.proofs.lemmas.List.FromFn.{length-map-range_with_len}
@@ -19,21 +19,18 @@ use Rattle.network_solo.specs.Trees.{NoneCame}
 use Rattle.stage_kinds.specs.declared.stage_work.StageWork.{StageWork}
 use Rattle.stage_kinds.specs.Held.{op_of, faults_of, told_by}
 use Rattle.file_devices.specs.Told.{IsAsTold}
-use Rattle.answer_model.specs.Rows as rows
-use Rattle.las_reader.specs.Flows.{las_fault}
-use Rattle.stage_options.specs.Roles.{role_of, target_of, is_reading}
 use Rattle.stage_options.specs.declared.stage.StageSpec.{StageSpec}
 use Rattle.run_report.specs.declared.report.StageCount.{StageCount}
 use Rattle.run_report.specs.declared.refusal.Refusal.{Refusal}
 use Rattle.run_report.specs.declared.refusal.Refusal.TheVariants as of
 use Rattle.run_report.specs.declared.refusal.Place.TheVariants as at
 use Rattle.run_report.specs.declared.refusal.Fault.TheVariants as fault
-use Rattle.answer_model.specs.Values.{Opened, IsDown, stage_at, options_at, role_at, row_at, reads_at, stage_input, stage_fault, count_at, counts_of, least_fault}
-use Rattle.answer_model.proofs.Values.{value-input}
+use Rattle.answer_model.specs.Values.{Opened, IsDown, stage_at, options_at, row_at, reads_at, stage_input, stage_fault, count_at, counts_of, least_fault}
 use Rattle.answer_model.proofs.Least.{least-at, least-nowhere}
 use Rattle.stage_runs.specs.Works.{as_works, AreNewStages, ReadersTell}
 use Rattle.stage_runs.proofs.Places.{mapped-at, map-at}
-use Rattle.stage_runs.proofs.Works.{writes-form, bytes-are, reader-sound, written-count}
+use Rattle.stage_kinds.specs.Files.{chosen}
+use Rattle.stage_runs.proofs.Works.{writes-form, writer-row, wrote-is}
 use Rattle.stage_runs.specs.Ran.{HoldsAll, EndsAsStage, AreRanStages}
 use Rattle.run_engine.specs.Outcomes.{device_op, point_fault, HasFirst, NoFault, node_count, AreCounted, IsOutcome}
 use Rattle.run_engine.specs.Turns.{WorksTell, AreLater, AreFinished, FailedAt, CameToEnd, AreDone, IsTurnsCause, IsUnfinished}
@@ -124,28 +121,17 @@ module _ {S K : Type 0} (s : source.Ghosts S) (k : sink.Ghosts K) (stages : List
       came sound counts size counted = record {
         sound = least-nowhere (stage_fault stages opened) (length stages) (λ j lt. let m = after j lt in sound-at j m.0 m.1 (sound j m.0 m.1));
         counted = same-lists counts (counts_of stages opened) (size ∙ sym (length-map-range_with_len (count_at stages opened) 0 (length stages))) count-is;
-        held = λ i w e form is. let m = mapped-at work_of new i w e in
-            subst (HoldsAll k.bytes form (points (stage_input stages opened i))) m.2 ((ends i m.0 m.1).holds (sound i m.0 m.1) form is);
+        held = λ i w e x is. let m = mapped-at work_of new i w e in
+            subst (HoldsAll k.bytes x (points (stage_input stages opened i))) m.2 ((ends i m.0 m.1).holds (sound i m.0 m.1) x is);
       }
         where
-          -- a stage without a fault has none on what it takes
-          no-row-fault : (i : ℕ) → stage_fault stages opened i ≡ None → rows.fault_on (row_at stages opened i) (stage_input stages opened i) ≡ None
-          no-row-fault i e = by_role (is_reading (role_at stages i)) refl
-            where
-              by_role : (b : Bool) → is_reading (role_at stages i) ≡ b → rows.fault_on (row_at stages opened i) (stage_input stages opened i) ≡ None
-              by_role true reads = reader-sound (options_at stages i) (reads_at stages opened i) (stage_input stages opened i) reads
-              by_role false inner = sym (ap (λ b. cond b (las_fault (opened i).las) (rows.fault_on (row_at stages opened i) (stage_input stages opened i))) inner) ∙ e
-
           one-count : (i : ℕ) (t : StageSpec) (m : Node (StageWork S K)) → slice_get stages i ≡ Some t → slice_get new i ≡ Some m → node_count i t m ≡ count_at stages opened i
           one-count i t m e f =
               let g = (ends i m f).gave in
               let is = stage-is stages i t e in
               same-count i t.kind ((stage_at stages i).kind) (up_to_limit m.views) _ (up_to_limit m.points) _ _ _
               (ap (λ (x : StageSpec). x.kind) (sym is)) g.views g.points
-              (ap (λ (x : StageSpec). option_map (λ (name : List ℕ). up_to_limit m.points) (target_of (role_of x.options))) (sym is)
-              ∙ ap (λ p. option_map (λ (name : List ℕ). p) (target_of (role_at stages i))) g.points
-              ∙ ap (λ flow. option_map (λ (name : List ℕ). up_to_limit (length (points flow))) (target_of (role_at stages i))) (value-input stages opened down i)
-              ∙ written-count (options_at stages i) (reads_at stages opened i) (opened i).las (stage_input stages opened i) (no-row-fault i (sound-at i m f (sound i m f))))
+              ((ends i m f).wrote (sound i m f) ∙ wrote-is (options_at stages i) (reads_at stages opened i) (points (stage_input stages opened i)))
 
           count-is : (i : ℕ) → i < length counts → slice_get counts i ≡ slice_get (counts_of stages opened) i
           count-is i lt =
@@ -221,10 +207,11 @@ module _ {S K : Type 0} (faults : StageWork S K → ℕ) (old now new : List (St
     told = λ i w e writes.
         let v = some_at now i (let a = slice_get_within new i w e in let b = second.count in omega (arith, a, b)) in
         let reads = reads_at stages opened i in
-        let (form, is) = writes-form (options_at stages i) reads writes in
+        let (x, is) = writes-form (options_at stages i) reads writes in
         let ps = points (stage_input stages opened i) in
-        subst (λ bs. IsAsTold (told_by bytes w) (Some bs)) (bytes-are (options_at stages i) reads form ps is)
-        (finished i v.0 w v.1 e form ps (c.held i v.0 v.1 form is));
+        let row = writer-row (options_at stages i) reads x is in
+        subst (λ bs. IsAsTold (told_by bytes w) (Some bs)) (row.bytes (chosen x.only ps) ∙ ap ((row_at stages opened i).bytes) (row.chooses ps))
+        (finished i v.0 w v.1 e x ps (c.held i v.0 v.1 x is));
   }
 
   pub unfinished-on : (r : Refusal) → IsUnfinished faults now new r → IsUnfinished faults old new r

@@ -1,5 +1,5 @@
 -- The stages of a tree before their first turn.
-use Rattle.std.specs.Prelude.{◌≡◌, ℕ, ◌<◌, List, length, slice_get, slice_index_or, sum_by, cond, is_some, Option, Some, None, ⊤}
+use Rattle.std.specs.Prelude.{◌≡◌, ℕ, ◌<◌, List, length, slice_get, slice_index_or, sum_by, cond, is_some, true, Option, Some, None, ⊤}
 use Rattle.file_devices.specs.Named.{Names}
 use Rattle.file_devices.specs.declared.devices.Source as source
 use Rattle.file_devices.specs.declared.devices.Sink as sink
@@ -8,13 +8,14 @@ use Rattle.las_reader.specs.declared.reader.Progress.TheVariants.{Records}
 use Rattle.stage_kinds.specs.declared.stage_work.StageWork.{StageWork}
 use Rattle.stage_kinds.specs.declared.stage_work.StageWork.TheVariants.{Reader}
 use Rattle.forward_rules.specs.Forwarded.{ReadFile}
-use Rattle.stage_kinds.specs.declared.file_form.FileForm.{FileForm}
+use Rattle.stage_kinds.specs.declared.file_form.StageForm.{StageForm}
+use Rattle.stage_kinds.specs.declared.file_form.StageForm.TheVariants as form
 use Rattle.stage_kinds.specs.Files.{IsFileForm}
 use Rattle.stage_kinds.specs.Held.{op_of}
 use Rattle.run_report.specs.declared.refusal.Refusal.{Refusal}
 use Rattle.run_report.specs.declared.refusal.Refusal.TheVariants.{Memory, Pipeline}
 use Rattle.stage_forms.specs.Below.{HaveReaders}
-use Rattle.stage_options.specs.Roles.{Role, Reads, role_of, is_writing}
+use Rattle.stage_options.specs.Roles.{Role, Reads, Filters, role_of, is_reading, is_writing}
 use Rattle.stage_options.specs.declared.options.Options.{Options}
 use Rattle.stage_options.specs.declared.stage.StageSpec.{StageSpec}
 use Rattle.answer_model.specs.Values.{Opened, options_at, role_at, reads_at, unbound_at, least_from}
@@ -42,17 +43,18 @@ AreOpened {S} s map stages readers = (i : ℕ) (o : Option (LasReader S)) → sl
 
 -- ---- forms
 
--- the forms of the files of the first stages, as many as there are, by their options and the files of these readers
-abbrev pub AreForms : {S : Type 0} → List StageSpec → List (Option (LasReader S)) → List (Option FileForm) → Type 0
-AreForms {S} stages readers forms = (opened : Opened) → HaveReaders readers opened → (i : ℕ) (o : Option FileForm) → slice_get forms i ≡ Some o → o ≡ form_for (options_at stages i) (reads_at stages opened i)
+-- what the works of the first stages are made of, as many as there are, by their options and the files of these readers
+abbrev pub AreForms : {S : Type 0} → List StageSpec → List (Option (LasReader S)) → List StageForm → Type 0
+AreForms {S} stages readers forms = (opened : Opened) → HaveReaders readers opened → (i : ℕ) (f : StageForm) → slice_get forms i ≡ Some f → f ≡ form_for (options_at stages i) (reads_at stages opened i)
 
--- a file has a form exactly where a stage writes one, and it can be written
-pub record IsForm (role : Role) (form : Option FileForm) : Type 0 where
-  pub writes : is_some form ≡ is_writing role
-  pub good : (f : FileForm) → form ≡ Some f → IsFileForm f
+-- a work made of this does what its stage does, and can write its file
+abbrev pub IsForm : Role → StageForm → Type 0
+IsForm role form.Reads = is_reading role ≡ true
+IsForm role (form.Filters f) = role ≡ Filters
+IsForm role (form.Writes x) = (is_writing role ≡ true) × IsFileForm x.form
 
-abbrev pub FitRoles : List StageSpec → List (Option FileForm) → Type 0
-FitRoles stages forms = (i : ℕ) (o : Option FileForm) → slice_get forms i ≡ Some o → IsForm (role_at stages i) o
+abbrev pub FitRoles : List StageSpec → List StageForm → Type 0
+FitRoles stages forms = (i : ℕ) (f : StageForm) → slice_get forms i ≡ Some f → IsForm (role_at stages i) f
 
 -- the names of dimensions in the options of the first so many stages are bound
 abbrev pub AreNamesBound : {S : Type 0} → List StageSpec → List (Option (LasReader S)) → ℕ → Type 0
@@ -71,18 +73,17 @@ abbrev pub reader_of : {S K : Type 0} → StageWork S K → Option (LasReader S)
 reader_of (Reader r) = Some r
 reader_of _ = None
 
--- the work of stage i, which has these options, at its start: over its reader, or with its file in this form; a reader's source
--- tells its file
-pub record IsWork {S K : Type 0} (s : source.Ghosts S) (k : sink.Ghosts K) (map : Option Names) (i : ℕ) (o : Options) (reader : Option (LasReader S)) (form : Option FileForm) (w : StageWork S K) : Type 0 where
+-- the work of stage i, which has these options, at its start: over its reader, or made of this; a reader's source tells its file
+pub record IsWork {S K : Type 0} (s : source.Ghosts S) (k : sink.Ghosts K) (map : Option Names) (i : ℕ) (o : Options) (reader : Option (LasReader S)) (form : StageForm) (w : StageWork S K) : Type 0 where
   pub same : reader_of w ≡ reader
   pub start : (reads : List ReadFile) → form ≡ form_for o reads → IsAtStart k.bytes o reads w
   pub device : op_of w ≡ op_for (role_of o)
   pub tells : (m : Names) → map ≡ Some m → (r : LasReader S) → w ≡ Reader r → Tells s (λ j. holds m j (role_of o)) i r
 
 -- so it is at the first stages, as many as there are
-abbrev pub AreBegun : {S K : Type 0} → source.Ghosts S → sink.Ghosts K → Option Names → List StageSpec → List (Option (LasReader S)) → List (Option FileForm) → List (StageWork S K) → Type 0
+abbrev pub AreBegun : {S K : Type 0} → source.Ghosts S → sink.Ghosts K → Option Names → List StageSpec → List (Option (LasReader S)) → List StageForm → List (StageWork S K) → Type 0
 AreBegun {S} {K} s k map stages readers forms works = (i : ℕ) (w : StageWork S K) → slice_get works i ≡ Some w
-    → IsWork s k map i (options_at stages i) (slice_index_or readers i None) (slice_index_or forms i None) w
+    → IsWork s k map i (options_at stages i) (slice_index_or readers i None) (slice_index_or forms i form.Reads) w
 
 -- ---- what they hold
 

@@ -1,12 +1,13 @@
 -- What the nodes of a run came to.
-use Rattle.std.specs.Prelude.{◌≡◌, ℕ, ◌<◌, List, length, Option, Some, None, slice_get, option_map}
+use Rattle.std.specs.Prelude.{◌≡◌, ℕ, ◌<◌, List, length, Option, Some, None, slice_get}
 use Rattle.file_devices.specs.declared.devices.Op.{Op}
 use Rattle.cloud_points.specs.declared.faults.PointFault.{PointFault}
 use Rattle.cloud_points.specs.declared.faults.StageFault.{StageFault}
 use Rattle.cloud_points.specs.declared.faults.StageFault.TheVariants as stage
 use Rattle.cloud_points.specs.Queue.{up_to_limit}
 use Rattle.network_core.specs.declared.node.Node.{Node}
-use Rattle.stage_options.specs.Roles.{role_of, target_of}
+use Rattle.stage_kinds.specs.declared.stage_work.StageWork.{StageWork}
+use Rattle.stage_kinds.specs.Stages.{written_by}
 use Rattle.stage_options.specs.declared.stage.StageSpec.{StageSpec}
 use Rattle.run_report.specs.declared.report.StageCount.{StageCount}
 use Rattle.run_report.specs.declared.refusal.Place.TheVariants.{Stage}
@@ -40,19 +41,19 @@ pub record HasFirst {W A : Type 0} (f : Option StageFault → Option A) (nodes :
 abbrev pub NoFault : {W : Type 0} → List (Node W) → Type 0
 NoFault {W} nodes = (k : ℕ) (n : Node W) → slice_get nodes k ≡ Some n → n.fault ≡ None
 
--- what a stage's node gave on
-abbrev pub node_count : {W : Type 0} → ℕ → StageSpec → Node W → StageCount
+-- what a stage's node gave on, and how many points it wrote
+abbrev pub node_count : {S K : Type 0} → ℕ → StageSpec → Node (StageWork S K) → StageCount
 node_count i s n = record {
   stage = i;
   kind = s.kind;
   views = up_to_limit n.views;
   points = up_to_limit n.points;
-  wrote = option_map (λ name. up_to_limit n.points) (target_of (role_of s.options));
+  wrote = written_by n.work;
 }
 
 -- what the nodes of these stages gave on, as many as are counted
-abbrev pub AreCounted : {W : Type 0} → List StageSpec → List (Node W) → List StageCount → Type 0
-AreCounted {W} stages nodes counts = (i : ℕ) (s : StageSpec) (n : Node W) → i < length counts → slice_get stages i ≡ Some s → slice_get nodes i ≡ Some n → slice_get counts i ≡ Some (node_count i s n)
+abbrev pub AreCounted : {S K : Type 0} → List StageSpec → List (Node (StageWork S K)) → List StageCount → Type 0
+AreCounted {S} {K} stages nodes counts = (i : ℕ) (s : StageSpec) (n : Node (StageWork S K)) → i < length counts → slice_get stages i ≡ Some s → slice_get nodes i ≡ Some n → slice_get counts i ≡ Some (node_count i s n)
 
 -- why a run has no outcome: a device failed, at this stage first; or none did, and this is the first whose points have a fault
 abbrev pub IsOutcome : {W : Type 0} → List (Node W) → Refusal → Type 0

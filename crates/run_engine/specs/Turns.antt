@@ -1,5 +1,5 @@
 -- What turns, and the finishing of writers, make of the works of a tree's stages.
-use Rattle.std.specs.Prelude.{◌≡◌, ◌⊎◌, ℕ, ◌≤◌, true, false, List, length, slice_get, Option, Some, None, ⊤}
+use Rattle.std.specs.Prelude.{◌≡◌, ◌⊎◌, ℕ, ◌≤◌, true, List, length, slice_get, Option, Some, None, ⊤}
 use Rattle.file_devices.specs.Counts.{Rose}
 use Rattle.file_devices.specs.Told.{IsAsTold}
 use Rattle.file_devices.specs.declared.devices.Op.{Op}
@@ -10,8 +10,9 @@ use Rattle.cloud_points.specs.Flows.{points}
 use Rattle.las_reader.specs.declared.reader.LasReader.{LasReader}
 use Rattle.stage_kinds.specs.declared.stage_work.StageWork.{StageWork}
 use Rattle.stage_kinds.specs.declared.stage_work.StageWork.TheVariants.{Reader}
-use Rattle.stage_kinds.specs.declared.file_form.FileForm.{FileForm}
-use Rattle.stage_kinds.specs.Files.{file_bytes}
+use Rattle.stage_kinds.specs.declared.file_form.StageForm.TheVariants.{Writes}
+use Rattle.stage_kinds.specs.declared.file_form.Writing.{Writing}
+use Rattle.stage_kinds.specs.Files.{chosen, file_bytes}
 use Rattle.stage_kinds.specs.Held.{op_of, told_by}
 use Rattle.stage_options.specs.Roles.{is_writing}
 use Rattle.stage_options.specs.declared.stage.StageSpec.{StageSpec}
@@ -20,7 +21,7 @@ use Rattle.run_report.specs.declared.refusal.Fault.TheVariants as fault
 use Rattle.run_report.specs.declared.refusal.Place.TheVariants as at
 use Rattle.run_report.specs.declared.refusal.Refusal.{Refusal}
 use Rattle.run_report.specs.declared.refusal.Refusal.TheVariants as of
-use Rattle.answer_model.specs.Values.{Opened, options_at, role_at, row_at, reads_at, stage_input, least_fault, counts_of}
+use Rattle.answer_model.specs.Values.{Opened, options_at, role_at, row_at, reads_at, stage_input, written_at, least_fault, counts_of}
 use Rattle.stage_runs.specs.Ran.{HoldsAll}
 use Rattle.stage_runs.specs.Works.{form_for, Tells}
 
@@ -34,9 +35,9 @@ pub record AreLater {S K : Type 0} (faults : StageWork S K → ℕ) (old new : L
   pub op : (i : ℕ) (v w : StageWork S K) → slice_get old i ≡ Some v → slice_get new i ≡ Some w → op_of w ≡ op_of v
   pub later : (i : ℕ) (v w : StageWork S K) → slice_get old i ≡ Some v → slice_get new i ≡ Some w → faults v ≤ faults w
 
--- a writer of a file of some form that held points tells the whole file of these, once it is finished
+-- a writer that held points tells the whole file of those that it chose, once it is finished
 abbrev pub IsFinished : {S K : Type 0} → (K → Option (List ℕ)) → StageWork S K → StageWork S K → Type 0
-IsFinished bytes v w = (form : FileForm) (ps : List Point) → HoldsAll bytes form ps v → IsAsTold (told_by bytes w) (Some (file_bytes form ps))
+IsFinished bytes v w = (x : Writing) (ps : List Point) → HoldsAll bytes x ps v → IsAsTold (told_by bytes w) (Some (file_bytes x.form (chosen x.only ps)))
 
 abbrev pub AreFinished : {S K : Type 0} → (K → Option (List ℕ)) → List (StageWork S K) → List (StageWork S K) → Type 0
 AreFinished {S} {K} bytes old new = (i : ℕ) (v w : StageWork S K) → slice_get old i ≡ Some v → slice_get new i ≡ Some w → IsFinished bytes v w
@@ -64,15 +65,15 @@ pub record UnfinishedAt {S K : Type 0} (faults : StageWork S K → ℕ) (old new
 pub record CameToEnd {S K : Type 0} (bytes : K → Option (List ℕ)) (stages : List StageSpec) (opened : Opened) (works : List (StageWork S K)) (counts : List StageCount) : Type 0 where
   pub sound : least_fault stages opened ≡ None
   pub counted : counts ≡ counts_of stages opened
-  pub held : (i : ℕ) (w : StageWork S K) → slice_get works i ≡ Some w → (form : FileForm) → form_for (options_at stages i) (reads_at stages opened i) ≡ Some form
-      → HoldsAll bytes form (points (stage_input stages opened i)) w
+  pub held : (i : ℕ) (w : StageWork S K) → slice_get works i ≡ Some w → (x : Writing) → form_for (options_at stages i) (reads_at stages opened i) ≡ Writes x
+      → HoldsAll bytes x (points (stage_input stages opened i)) w
 
 -- the same once the writers are finished: their sinks tell the bytes of their files
 pub record AreDone {S K : Type 0} (bytes : K → Option (List ℕ)) (stages : List StageSpec) (opened : Opened) (works : List (StageWork S K)) (counts : List StageCount) : Type 0 where
   pub sound : least_fault stages opened ≡ None
   pub counted : counts ≡ counts_of stages opened
   pub told : (i : ℕ) (w : StageWork S K) → slice_get works i ≡ Some w → is_writing (role_at stages i) ≡ true
-      → IsAsTold (told_by bytes w) (Some ((row_at stages opened i).bytes (points (stage_input stages opened i))))
+      → IsAsTold (told_by bytes w) (Some ((row_at stages opened i).bytes (written_at stages opened i)))
 
 -- why they didn't come to their end: memory was wanting, a device failed, or this is the fault of the least stage that has one
 abbrev pub IsTurnsCause : {S K : Type 0} → source.Ghosts S → (StageWork S K → ℕ) → List StageSpec → List (StageWork S K) → List (StageWork S K) → Refusal → Type 0

@@ -14,22 +14,22 @@ use crate::release::{give_back, release_works};
 use file_devices::{DeviceErr, Files, Op};
 use las_reader::LasReader;
 use run_report::{Place, Refusal};
-use stage_kinds::{BeginErr, FileForm, StageWork, begin_file};
+use stage_kinds::{BeginErr, StageForm, StageWork, Writing, begin_file};
 use stage_options::{Role, StageSpec};
-use stage_runs::filter_work;
 use std::alloc::Global;
+use std::mem::replace;
 
-/// The work of a writer, the stage with this number, on a new file of this form. Where the file can't be created or begun, it
+/// The work of a writer, the stage with this number, on a new file. Where the file can't be created or begun, it
 /// is given back.
 fn open_writer<F: Files>(
     alloc: Global,
     files: &mut F,
-    form: FileForm,
+    writing: Writing,
     name: &str,
     number: u32,
 ) -> Result<StageWork<F::In, F::Out>, Refusal>
-    requires { IsFileForm form }
-    ensures ok { IfOk result (IsBegun F.Out.bytes form) }
+    requires { IsFileForm writing.form }
+    ensures ok { IfOk result (IsBegun F.Out.bytes writing) }
     ensures writes { IfOk result (λ work. op_of work ≡ Some Op.Write) }
     ensures err { IfErr result (IsUncreated (Rose (F.faults files.old) (F.faults files.new)) number) }
     ensures early { IfErr result IsEarly }
@@ -43,7 +43,7 @@ fn open_writer<F: Files>(
         Err(DeviceErr::Memory) => return Err(Refusal::Memory),
         Err(_) => return Err(Refusal::Device(Place::Stage(number), Op::Create)),
     };
-    match begin_file(alloc, sink, form) {
+    match begin_file(alloc, sink, writing) {
         Ok(work) => Ok(work),
         Err((sink, BeginErr::Failed)) => {
             files.done_out(sink);
@@ -56,12 +56,12 @@ fn open_writer<F: Files>(
     }
 }
 
-/// The work of a stage: its opened reader, or that of a writer on a new file of its form, or else that of a filter.
+/// The work of a stage: its opened reader, or that of a writer on a new file, or else that of a filter.
 fn begin_work<F: Files>(
     alloc: Global,
     files: &mut F,
     reader: Option<LasReader<F::In>>,
-    form: Option<FileForm>,
+    form: StageForm,
     stage: &StageSpec,
     number: u32,
 ) -> Result<StageWork<F::In, F::Out>, Refusal>
@@ -78,12 +78,13 @@ fn begin_work<F: Files>(
     ensures later { F.faults files.old ≤ F.faults files.new }
 {
     let Some(reader) = reader else {
-        let Some(form) = form else {
-            return Ok(filter_work(&stage.options));
-        };
-        return match stage.options.role() {
-            Role::Writes(name) => open_writer(alloc, files, form, name, number),
-            Role::Reads(_) | Role::Filters => unreachable!(),
+        return match form {
+            StageForm::Reads => unreachable!(),
+            StageForm::Filters(filter) => Ok(StageWork::Filter(filter)),
+            StageForm::Writes(writing) => match stage.options.role() {
+                Role::Writes(name) => open_writer(alloc, files, writing, name, number),
+                Role::Reads(_) | Role::Filters => unreachable!(),
+            },
         };
     };
     Ok(StageWork::Reader(reader))
@@ -95,7 +96,7 @@ pub(crate) fn begin_works<F: Files>(
     alloc: Global,
     files: &mut F,
     readers: Vec<Option<LasReader<F::In>>>,
-    forms: Vec<Option<FileForm>>,
+    forms: Vec<StageForm>,
     stages: &[StageSpec],
 ) -> Result<Vec<StageWork<F::In, F::Out>>, Refusal>
     requires opened { AreOpened F.In.Source (F.map files.old) stages.now readers.items }
@@ -123,7 +124,7 @@ pub(crate) fn begin_works<F: Files>(
     readers.reverse();
     let mut at = 0;
     while let Some(reader) = readers.pop() {
-        let form = forms[at].take();
+        let form = replace(&mut forms[at], StageForm::Reads);
         match begin_work(alloc, files, reader, form, &stages[at], at as u32) {
             Ok(work) => works.push_reserved(work),
             Err(refusal) => {

@@ -1,8 +1,9 @@
-//! The names of dimensions are bound, and the forms of the files that are written are decided.
+//! The names of dimensions are bound, and what the works of stages are made of is decided.
 
-ghost use Rattle.std.specs.Prelude.{◌≡◌, ◌≤◌, ◌<◌, ⊤, length, All, Option, Some, None, is_some, IfOk, IfErr, OnOk};
+ghost use Rattle.std.specs.Prelude.{◌≡◌, ◌≤◌, ◌<◌, length, All, None, IfOk, IfErr, OnOk};
 ghost use Rattle.cloud_points.specs.Layouts.{holds};
 ghost use Rattle.pipeline_json.specs.Trees.{IsTree};
+ghost use Rattle.answer_model.specs.Forms.{extra_names};
 ghost use Rattle.stage_options.specs.Binding.{binding_fault};
 ghost use Rattle.stage_options.specs.Roles.{role_of};
 ghost use Rattle.stage_options.specs.Shapes.{shapes};
@@ -16,14 +17,14 @@ use file_devices::Source;
 use las_reader::LasReader;
 use run_report::Refusal;
 use stage_forms::{Below, below_all};
-use stage_kinds::FileForm;
+use stage_kinds::StageForm;
 use stage_names::PipeErr;
 use stage_options::{StageSpec, bind};
-use stage_runs::file_form;
+use stage_runs::stage_form;
 use std::alloc::Global;
 
-/// Binds the names of dimensions in a stage's options, the stage with this number, and answers the form of its file, where it
-/// writes one. Beside a name that isn't bound it is refused only where memory is wanting.
+/// Binds the names of dimensions in a stage's options, the stage with this number, and answers what its work is made of. Beside a
+/// name that isn't bound it is refused only where memory is wanting.
 fn bind_stage<S: Source>(
     alloc: Global,
     stage: &StageSpec,
@@ -31,32 +32,39 @@ fn bind_stage<S: Source>(
     below: &Below,
     names: &ExtraNames,
     readers: &[Option<LasReader<S>>],
-) -> Result<Option<FileForm>, Refusal>
+) -> Result<StageForm, Refusal>
+    requires names { names.now ≡ extra_names }
     requires inside { All (λ j. j < length readers.now) below.now.readers.items }
     ensures form { IfOk result (λ o. o ≡ form_for stage.now.options (reads_in readers.now below.now.readers.items)) }
     ensures fits { IfOk result (IsForm (role_of stage.now.options)) }
     ensures bound { OnOk result (binding_fault number names.now (holds below.now.layout) stage.now.options ≡ None) }
     ensures err { IfErr result (IsUnboundAt (binding_fault number names.now (holds below.now.layout) stage.now.options)) }
 {
-    match bind(alloc, &stage.options, number, &below.layout, names) {
-        Ok(()) => {}
+    let bound = match bind(alloc, &stage.options, number, &below.layout, names) {
+        Ok(bound) => bound,
         Err(PipeErr::Fault(fault)) => return Err(Refusal::Pipeline(fault)),
         Err(PipeErr::Memory) => return Err(Refusal::Memory),
-    }
-    match file_form(alloc, &stage.options, readers, below.readers.as_slice()) {
+    };
+    match stage_form(
+        alloc,
+        &stage.options,
+        bound,
+        readers,
+        below.readers.as_slice(),
+    ) {
         Ok(form) => Ok(form),
         Err(_) => Err(Refusal::Memory),
     }
 }
 
 /// Binds the names of dimensions in the options of a tree's stages, in their order, over their opened readers, and answers the
-/// forms of the files that are written, a place for each stage. It is refused with the fault of the first stage that names a
+/// what each stage's work is made of. It is refused with the fault of the first stage that names a
 /// dimension which its points haven't, and else only where memory is wanting.
 pub(crate) fn bind_stages<S: Source>(
     alloc: Global,
     stages: &[StageSpec],
     readers: &[Option<LasReader<S>>],
-) -> Result<Vec<Option<FileForm>>, Refusal>
+) -> Result<Vec<StageForm>, Refusal>
     requires tree { IsTree (shapes stages.now) }
     requires few { length stages.now ≤ 64 }
     requires count { length readers.now ≡ length stages.now }

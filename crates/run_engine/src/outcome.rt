@@ -4,9 +4,10 @@ ghost use Rattle.std.specs.Prelude.{◌≡◌, ◌<◌, ◌≤◌, ℕ, length, 
 ghost use Rattle.run_engine.specs.Outcomes.{device_op, point_fault, NoneHas, HasFirst, NoFault, IsOutcome, node_count, AreCounted};
 
 use cloud_points::{PointFault, StageFault, Work};
-use file_devices::Op;
+use file_devices::{FileSink, Op, Source};
 use network_core::Node;
 use run_report::{Fault, Place, Refusal, Report, StageCount};
+use stage_kinds::StageWork;
 use stage_options::StageSpec;
 
 /// The operation in which a device failed.
@@ -55,22 +56,25 @@ fn faulty_stage<W: Work>(nodes: &[Node<W>]) -> Option<(usize, PointFault)>
     None
 }
 
-/// What the node of stage i gave on.
-fn node_count<W: Work>(i: u32, stage: &StageSpec, node: &Node<W>) -> StageCount
+/// What the node of stage i gave on, and how many points it wrote.
+fn node_count<S: Source, K: FileSink>(
+    i: u32,
+    stage: &StageSpec,
+    node: &Node<StageWork<S, K>>,
+) -> StageCount
     ensures { result ≡ node_count i stage.now node.now }
 {
-    let points = node.points();
     StageCount {
         stage: i,
         kind: stage.kind,
         views: node.views(),
-        points,
-        wrote: stage.options.role().target().map(|_| points),
+        points: node.points(),
+        wrote: node.work().written(),
     }
 }
 
 /// What the node of each stage gave on.
-fn counts<W: Work>(stages: &[StageSpec], nodes: &[Node<W>]) -> Report
+fn counts<S: Source, K: FileSink>(stages: &[StageSpec], nodes: &[Node<StageWork<S, K>>]) -> Report
     requires fit { length nodes.now ≡ length stages.now }
     requires few { length stages.now ≤ 64 }
     ensures count { length result.items ≡ length stages.now }
@@ -85,7 +89,10 @@ fn counts<W: Work>(stages: &[StageSpec], nodes: &[Node<W>]) -> Report
 
 /// What a run came to whose nodes are done: the first stage whose device failed, or else the first stage whose points have a
 /// fault, or else what each stage gave on.
-pub(crate) fn outcome<W: Work>(stages: &[StageSpec], nodes: &[Node<W>]) -> Result<Report, Refusal>
+pub(crate) fn outcome<S: Source, K: FileSink>(
+    stages: &[StageSpec],
+    nodes: &[Node<StageWork<S, K>>],
+) -> Result<Report, Refusal>
     requires fit { length nodes.now ≡ length stages.now }
     requires few { length stages.now ≤ 64 }
     ensures sound { IfOk result (λ _. NoFault nodes.now) }

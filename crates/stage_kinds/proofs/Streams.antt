@@ -1,93 +1,94 @@
--- What the stages give for a flow.
-use Rattle.std.proofs.Common.{◌≡◌, ℕ, Bool, true, false, if◌then◌else◌, List, [], ◌∷◌, ◌++◌, map, take, None, refl, sym, ap, ◌∙◌, append_assoc}
-use Rattle.std.proofs.lemmas.List.{map-append, append-nil}
+-- What the works of filters and writers make of a flow.
+use Rattle.std.proofs.Common.{◌≡◌, ℕ, Bool, true, false, not, ◌||◌, ◌&&◌, List, [], ◌∷◌, length, Option, Some, None, is_some, refl, ap, sym, ◌∙◌, true≢false, inl, inr}
+use Rattle.std.specs.Prelude.{◌==◌, option_map, ◌+◌}
+use Rattle.std.specs.List.{list_any}
+use Rattle.std.proofs.lemmas.Bool.Decides.{eqb_tells}
 use Rattle.cloud_points.specs.declared.point.Point.{Point}
-use Rattle.cloud_points.specs.declared.faults.StageFault.{StageFault}
-use Rattle.cloud_points.specs.Meaning.{Meaning, KeepsCutting}
-use Rattle.cloud_points.specs.Flows.{Flow, all_of, points, map_views}
-use Rattle.cloud_points.specs.Marks.{Mark, At, View_end, End, view_marks, flow_marks}
-use Rattle.network_theory.specs.Machine.{next, output, after_all}
-use Rattle.network_theory.proofs.MachineLaws.{after_all-append, output-append, chunked, after-chunk, output-chunk}
-use Rattle.text_writer.specs.declared.form.TextForm.{TextForm}
-use Rattle.stage_kinds.specs.declared.stage_work.StageState.{StageState}
-use Rattle.stage_kinds.specs.declared.stage_work.StageState.TheVariants.{Heading, Merging, Writing, Recording}
-use Rattle.stage_kinds.specs.Stages.{head_work, merge_work, text_work, las_work, recording, fresh}
-use Rattle.std.specs.Prelude.{option_map}
 use Rattle.cloud_points.specs.declared.faults.StageFault.TheVariants as stage
-use Rattle.forward_rules.specs.declared.form.LasForm.{LasForm}
-use Rattle.las_writer.specs.Stops.{stop_of}
-use Rattle.stage_kinds.proofs.LasStreams.{las_gives as lifted_gives, las_faults as lifted_faults}
-use Rattle.stage_kinds.proofs.ViewByView.{before_stop, stream_gives, stream_sound, views_same}
-use Rattle.stage_kinds.specs.Keeps.{head_keeps, text_keeps}
+use Rattle.cloud_points.specs.Flows.{Flow, points}
+use Rattle.cloud_points.specs.Marks.{flow_marks}
+use Rattle.cloud_points.specs.Queue.{up_to_limit}
+use Rattle.network_theory.specs.Machine.{made_of, fault_on}
+use Rattle.stage_meanings.specs.ByRule.{spot_at}
+use Rattle.stage_meanings.specs.ByView.{rule_streams}
+use Rattle.stage_meanings.specs.Conditions.{passes}
+use Rattle.stage_meanings.specs.Filtering.{Filtering, filtered, filtered_stop, filter_meaning, same_fault}
+use Rattle.stage_meanings.specs.Filters.{first_from, found, on_view, told_stop, why}
+use Rattle.stage_meanings.specs.FiltersStream.{filters_give, filters_fault}
+use Rattle.stage_meanings.specs.Streams.{StreamsBy, streams_give, streams_fault}
+use Rattle.stage_meanings.specs.Through.{lifted_gives, lifted_faults}
+use Rattle.stage_meanings.specs.declared.spot.Spot.{Spot}
+use Rattle.stage_kinds.specs.declared.file_form.Writing.{Writing as Writes}
+use Rattle.stage_kinds.specs.declared.stage_work.StageState.TheVariants.{Filtering as At, Writing}
+use Rattle.stage_kinds.specs.declared.writer_stage.WriterStage.{WriterStage}
+use Rattle.stage_kinds.specs.Files.{chosen, file_holds}
+use Rattle.stage_kinds.specs.Keeps.{writing_keeps}
+use Rattle.stage_kinds.specs.Stages.{begun, filter_work, filtering_in, holds_chosen, stops_at, stops_nowhere, only_of, writer_work, writes_of, writing_filter, writing_in, writing_meaning, writing_rule}
 
--- a head gives the first points of each view, and has no fault
-pub head_gives : (n : ℕ) (f : Flow Point) → output (head_work n) (fresh (Heading n)) (flow_marks f) ≡ flow_marks (map_views (take n) f)
-head_gives n f = stream_gives (head_work n) (head_keeps n) (Heading n) (take n) (λ v. refl) (λ v. refl) (λ v. refl) (λ v cut. refl) f
+-- ---- filters
 
-pub head_sound : (n : ℕ) (f : Flow Point) → (after_all (head_work n) (fresh (Heading n)) (flow_marks f)).fault ≡ None
-head_sound n f = stream_sound (head_work n) (head_keeps n) (Heading n) (take n) (λ v. refl) (λ v. refl) (λ v. refl) (λ v cut. refl) f
+pub filter_gives : (f : Filtering) (flow : Flow Point) → made_of (filter_work f) (At (spot_at 0)) flow ≡ flow_marks (filtered f flow)
+filter_gives f flow = lifted_gives (filter_meaning f) filtering_in At (λ s. refl) (spot_at 0) (flow_marks flow) ∙ filters_give f flow
 
--- a text writer gives the flow itself, and has no fault
-pub text_gives : (form : TextForm) (f : Flow Point) → output text_work (fresh (Writing form)) (flow_marks f) ≡ flow_marks f
-text_gives form f = stream_gives text_work text_keeps (Writing form) (λ v. v) (λ v. refl) (λ v. refl) (λ v. refl) (λ v cut. refl) f
-    ∙ ap flow_marks (views_same f)
+pub filter_fault : (f : Filtering) (flow : Flow Point) → fault_on (filter_work f) (At (spot_at 0)) flow ≡ option_map stage.Point (filtered_stop f flow)
+filter_fault f flow = lifted_faults (filter_meaning f) filtering_in At (λ s. refl) (spot_at 0) (flow_marks flow) ∙ filters_fault f flow ∙ same_fault f flow
 
-pub text_sound : (form : TextForm) (f : Flow Point) → (after_all text_work (fresh (Writing form)) (flow_marks f)).fault ≡ None
-text_sound form f = stream_sound text_work text_keeps (Writing form) (λ v. v) (λ v. refl) (λ v. refl) (λ v. refl) (λ v cut. refl) f
+-- ---- writers
 
--- a LAS writer gives what stands before the first point without a record, and has the fault there
-pub las_gives : (form : LasForm) (f : Flow Point) → output las_work (fresh (Recording form 0)) (flow_marks f) ≡ flow_marks (before_stop (stop_of form (points f)) f)
-las_gives form f = lifted_gives recording (λ s. Recording s.0 s.1) (λ s. refl) form f
+abbrev at : Writes → ℕ → Writes × Spot
+at x n = (x, spot_at n)
 
-pub las_faults : (form : LasForm) (f : Flow Point) → (after_all las_work (fresh (Recording form 0)) (flow_marks f)).fault ≡ option_map (λ s. stage.Point s.1) (stop_of form (points f))
-las_faults form f = lifted_faults recording (λ s. Recording s.0 s.1) (λ s. refl) form f
+-- it does the same with each view as its filter
+writing_streams : (x : Writes) → StreamsBy writing_meaning (why (writing_rule x) (passes x.only)) told_stop (at x) (on_view (writing_rule x) (passes x.only))
+writing_streams x =
+    let by = rule_streams (writing_rule x) (passes x.only) in
+    record {
+      fault = by.fault;
+      gives = by.gives;
+      stops = by.stops;
+      anew = λ n v e. ap (λ t. ((x, t.0), t.1)) (by.anew n v e);
+      ends = λ n v cut. refl;
+    }
 
--- ---- a merge
+pub writer_gives : (x : Writes) (flow : Flow Point) → made_of writer_work (begun x) flow ≡ flow_marks (filtered (writing_filter x) flow)
+writer_gives x flow = lifted_gives writing_meaning writing_in (λ s. Writing s.0 s.1) (λ s. refl) (at x 0) (flow_marks flow)
+    ∙ streams_give writing_meaning writing_keeps (why (writing_rule x) (passes x.only)) told_stop (at x) (on_view (writing_rule x) (passes x.only)) (writing_streams x) flow
 
-abbrev merge_run : List (Mark Point) → List (Mark Point)
-merge_run ms = output merge_work (fresh Merging) ms
+pub writer_fault : (x : Writes) (flow : Flow Point) → fault_on writer_work (begun x) flow ≡ option_map stage.Point (filtered_stop (writing_filter x) flow)
+writer_fault x flow = lifted_faults writing_meaning writing_in (λ s. Writing s.0 s.1) (λ s. refl) (at x 0) (flow_marks flow)
+    ∙ streams_fault writing_meaning writing_keeps (why (writing_rule x) (passes x.only)) told_stop (at x) (on_view (writing_rule x) (passes x.only)) (writing_streams x) flow
+    ∙ same_fault (writing_filter x) flow
 
-merge_points : (v : List Point) (ms : List (Mark Point)) → merge_run (map At v ++ ms) ≡ map At v ++ merge_run ms
-merge_points [] ms = refl
-merge_points (p ∷ v) ms = ap (λ z. At p ∷ z) (merge_points v ms)
+-- ---- where a writer stops
 
-merge_views : (vs : List (List Point)) (ms : List (Mark Point)) → merge_run (view_marks vs ++ ms) ≡ map At (all_of vs) ++ merge_run ms
-merge_views [] ms = refl
-merge_views (v ∷ vs) ms = ap merge_run (append_assoc (map At v) (View_end ∷ view_marks vs) ms) ∙ merge_points v (View_end ∷ (view_marks vs ++ ms))
-    ∙ ap (λ z. map At v ++ z) (merge_views vs ms) ∙ sym (append_assoc (map At v) (map At (all_of vs)) (merge_run ms)) ∙ ap (λ z. z ++ merge_run ms) (sym (map-append At v (all_of vs)))
+never : {P R : Type 0} (f : P → Option R) (n : ℕ) (ps : List P) → first_from f n ps ≡ None → list_any (λ p. is_some (f p)) ps ≡ false
+never f n [] e = refl
+never {P} {R} f n (p ∷ ps) e = go (f p) refl (never f (n + 1) ps) e
+  where
+    go : (o : Option R) → f p ≡ o → (first_from f (n + 1) ps ≡ None → list_any (λ p. is_some (f p)) ps ≡ false) → found n o (first_from f (n + 1) ps) ≡ None → is_some (f p) || list_any (λ p. is_some (f p)) ps ≡ false
+    go (Some r) is ih e = absurd cc
+    go None is ih e = ap (λ o. is_some o || list_any (λ p. is_some (f p)) ps) is ∙ ih e
 
--- one view of these points; of a cut flow an open one
-abbrev one_view : Bool → List Point → Flow Point
-one_view cut ps = if cut then record { views = []; open_view = ps; cut = true } else record { views = ps ∷ []; open_view = []; cut = false }
+no_stop : {A B : Type 0} (f : A → B) (o : Option A) → option_map f o ≡ None → o ≡ None
+no_stop f None e = refl
+no_stop f (Some s) e = absurd cc
 
-merge_ends : (cut : Bool) (ps : List Point) → map At ps ++ merge_run (End cut ∷ []) ≡ flow_marks (one_view cut ps)
-merge_ends true ps = refl
-merge_ends false ps = sym (append_assoc (map At ps) (View_end ∷ []) (End false ∷ [])) ∙ ap (λ z. z ++ End false ∷ []) (sym (append-nil (map At ps ++ View_end ∷ [])))
+-- a flow on which it has no fault
+pub sound_nowhere : (x : Writes) (flow : Flow Point) → filtered_stop (writing_filter x) flow ≡ None → stops_nowhere x (points flow) ≡ true
+sound_nowhere x flow e = ap not (never (why (writing_rule x) (passes x.only)) 0 (points flow) (no_stop _ (first_from (why (writing_rule x) (passes x.only)) 0 (points flow)) e))
 
--- a merge makes one view of all points, and has no fault
-pub merge_gives : (f : Flow Point) → output merge_work (fresh Merging) (flow_marks f) ≡ flow_marks (one_view f.cut (points f))
-merge_gives f = ap merge_run (append_assoc (view_marks f.views) (map At f.open_view) (End f.cut ∷ []))
-    ∙ merge_views f.views (map At f.open_view ++ End f.cut ∷ [])
-    ∙ ap (λ z. map At (all_of f.views) ++ z) (merge_points f.open_view (End f.cut ∷ []))
-    ∙ sym (append_assoc (map At (all_of f.views)) (map At f.open_view) (merge_run (End f.cut ∷ [])))
-    ∙ ap (λ z. z ++ merge_run (End f.cut ∷ [])) (sym (map-append At (all_of f.views) f.open_view))
-    ∙ merge_ends f.cut (points f)
+-- where it stops nowhere, it counted those that are chosen
+pub written-count : {K : Type 0} (w : WriterStage K) (bytes : K → Option (List ℕ)) (ps : List Point) → holds_chosen bytes w ps ≡ true → stops_nowhere (writes_of w) ps ≡ true
+    → w.written ≡ up_to_limit (length (chosen (only_of w) ps))
+written-count w bytes ps holds nowhere = go (list_any (stops_at (writes_of w)) ps) nowhere holds
+  where
+    first : (a b : Bool) → a && b ≡ true → a ≡ true
+    first true b e = refl
+    first false b e = e
 
-pub merge_whole : (f : Flow Point) → f.cut ≡ false → output merge_work (fresh Merging) (flow_marks f) ≡ flow_marks (record { views = points f ∷ []; open_view = []; cut = false })
-merge_whole f h = merge_gives f ∙ ap (λ cut. flow_marks (one_view cut (points f))) h
+    same : (a b : ℕ) → a == b ≡ true → a ≡ b
+    same a b e = elim (eqb_tells a b) [ inl p ↦ p.1 | inr p ↦ absurd (true≢false (sym e ∙ p.0)) ]
 
-pub merge_cut : (f : Flow Point) → f.cut ≡ true → output merge_work (fresh Merging) (flow_marks f) ≡ flow_marks (record { views = []; open_view = points f; cut = true })
-merge_cut f h = merge_gives f ∙ ap (λ cut. flow_marks (one_view cut (points f))) h
-
-after_points_sound : (v : List Point) (ms : List (Mark Point)) → (after_all merge_work (fresh Merging) (map At v ++ ms)).fault ≡ (after_all merge_work (fresh Merging) ms).fault
-after_points_sound [] ms = refl
-after_points_sound (p ∷ v) ms = after_points_sound v ms
-
-after_views_sound : (vs : List (List Point)) (ms : List (Mark Point)) → (after_all merge_work (fresh Merging) (view_marks vs ++ ms)).fault ≡ (after_all merge_work (fresh Merging) ms).fault
-after_views_sound [] ms = refl
-after_views_sound (v ∷ vs) ms = ap (λ ts. (after_all merge_work (fresh Merging) ts).fault) (append_assoc (map At v) (View_end ∷ view_marks vs) ms)
-    ∙ after_points_sound v (View_end ∷ (view_marks vs ++ ms)) ∙ after_views_sound vs ms
-
-pub merge_sound : (f : Flow Point) → (after_all merge_work (fresh Merging) (flow_marks f)).fault ≡ None
-merge_sound f = ap (λ ts. (after_all merge_work (fresh Merging) ts).fault) (append_assoc (view_marks f.views) (map At f.open_view) (End f.cut ∷ []))
-    ∙ after_views_sound f.views (map At f.open_view ++ End f.cut ∷ []) ∙ after_points_sound f.open_view (End f.cut ∷ [])
+    go : (b : Bool) → not b ≡ true → b || ((w.written == up_to_limit (length (chosen (only_of w) ps))) && file_holds bytes w.file (chosen (only_of w) ps)) ≡ true → w.written ≡ up_to_limit (length (chosen (only_of w) ps))
+    go true n h = absurd cc
+    go false n h = same w.written (up_to_limit (length (chosen (only_of w) ps))) (first _ _ h)

@@ -1,62 +1,74 @@
 -- The files that stages write.
-use Rattle.std.specs.Prelude.{◌≡◌, ℕ, List, Option, Some, None, ⊤}
+use Rattle.std.specs.Prelude.{◌≡◌, ℕ, List, Bool, filter, Option, Some, None}
+use Rattle.cloud_points.specs.declared.dims.Dim.{Dim}
 use Rattle.cloud_points.specs.declared.point.Point.{Point}
+use Rattle.expr_lang.specs.Formula.{Formula}
 use Rattle.file_devices.specs.declared.devices.Op.{Op}
 use Rattle.file_devices.specs.declared.devices.Op.TheVariants.{Write, Patch}
-use Rattle.las_writer.specs.Records.{refusal}
+use Rattle.las_writer.specs.Holding.{holds_las}
 use Rattle.las_writer.specs.LasOutput.{IsForm, las_output}
-use Rattle.las_writer.specs.declared.faults.BeginErr.{BeginErr as LasBeginErr}
-use Rattle.las_writer.specs.declared.faults.BeginErr.TheVariants as las
-use Rattle.text_writer.specs.TextOutput.{IsTextForm, text_output}
-use Rattle.text_writer.specs.declared.form.BeginErr.{BeginErr as TextBeginErr}
-use Rattle.text_writer.specs.declared.form.BeginErr.TheVariants as text
-use Rattle.stage_kinds.specs.declared.beginning.BeginErr.{BeginErr}
-use Rattle.stage_kinds.specs.declared.beginning.BeginErr.TheVariants.{Failed, Memory}
+use Rattle.las_writer.specs.Records.{written}
+use Rattle.stage_meanings.specs.Conditions.{passes}
+use Rattle.stage_meanings.specs.Filters.{first_from, is_true}
+use Rattle.stage_meanings.specs.Records.{unrecorded}
+use Rattle.stage_meanings.specs.declared.reason.Reason.{Reason}
+use Rattle.text_writer.specs.TextOutput.{IsTextForm, text_output, holds_text}
 use Rattle.stage_kinds.specs.declared.file_form.FileForm.{FileForm}
 use Rattle.stage_kinds.specs.declared.file_form.FileForm.TheVariants as form
-use Rattle.stage_kinds.specs.declared.stage_work.StageState.{StageState}
-use Rattle.stage_kinds.specs.declared.stage_work.StageState.TheVariants.{Writing, Recording}
-use Rattle.stage_kinds.specs.declared.stage_work.StageWork.{StageWork}
-use Rattle.stage_kinds.specs.declared.stage_work.StageWork.TheVariants.{Text, Las}
+use Rattle.stage_kinds.specs.declared.file_writer.FileWriter.{FileWriter}
+use Rattle.stage_kinds.specs.declared.file_writer.FileWriter.TheVariants.{Text, Las}
+use Rattle.stage_kinds.specs.declared.file_writer.PutErr.{PutErr}
+use Rattle.stage_kinds.specs.declared.file_writer.PutErr.TheVariants.{Refused, Failed}
+
+-- ---- forms
 
 -- a form that can be written
 abbrev pub IsFileForm : FileForm → Type 0
 IsFileForm (form.Text f) = IsTextForm f
 IsFileForm (form.Las f) = IsForm f
 
--- the state of its writer before all points
-abbrev pub begun : FileForm → StageState
-begun (form.Text f) = Writing f
-begun (form.Las f) = Recording f 0
+-- why a point has no place in a file: in one of text each has one
+abbrev pub unwritten : FileForm → Point → Option Reason
+unwritten (form.Text f) p = None
+unwritten (form.Las f) p = unrecorded (written f p)
+
+-- the first of these points without a place, by its number among them
+abbrev pub first_unwritten : FileForm → List Point → Option (ℕ × Reason)
+first_unwritten f points = first_from (unwritten f) 0 points
 
 -- the whole file of these points
 abbrev pub file_bytes : FileForm → List Point → List ℕ
 file_bytes (form.Text f) points = text_output f points
 file_bytes (form.Las f) points = las_output f points
 
--- each point has a place in the file
-abbrev pub HasPlaces : FileForm → List Point → Type 0
-HasPlaces (form.Text f) points = ⊤
-HasPlaces (form.Las f) points = refusal f points ≡ None
+-- what is being done with a sink when its file is made whole
+abbrev pub finishing_op : FileForm → Op
+finishing_op (form.Text f) = Write
+finishing_op (form.Las f) = Patch
 
-module _ {S K : Type 0} where
-  -- the form of the file that a stage writes
-  abbrev pub form_of : StageWork S K → Option FileForm
-  form_of (Text w) = Some (form.Text w.form)
-  form_of (Las s) = Some (form.Las s.writer.form)
-  form_of _ = None
+-- ---- the points that are written
 
-  -- what is being done with its sink when its file is made whole
-  abbrev pub finishing_op : StageWork S K → Option Op
-  finishing_op (Text w) = Some Write
-  finishing_op (Las s) = Some Patch
-  finishing_op _ = None
+-- those for which the condition holds
+abbrev pub chosen : Option (Formula Dim) → List Point → List Point
+chosen only points = filter (λ p. is_true (passes only p)) points
 
--- why a writer doesn't begin, as a stage says it
-abbrev pub begin_err_of_text : TextBeginErr → BeginErr
-begin_err_of_text text.Failed = Failed
-begin_err_of_text text.Memory = Memory
+-- ---- files that are being written
 
-abbrev pub begin_err_of_las : LasBeginErr → BeginErr
-begin_err_of_las las.Failed = Failed
-begin_err_of_las las.Memory = Memory
+module _ {K : Type 0} where
+  abbrev pub file_form : FileWriter K → FileForm
+  file_form (Text w) = form.Text w.form
+  file_form (Las w) = form.Las w.form
+
+  abbrev pub sink_of : FileWriter K → K
+  sink_of (Text w) = w.sink
+  sink_of (Las w) = w.sink
+
+  -- its sink holds the beginning of the file of these points, by the bytes that a sink tells
+  abbrev pub file_holds : (K → Option (List ℕ)) → FileWriter K → List Point → Bool
+  file_holds bytes (Text w) points = holds_text (bytes w.sink) w.form points
+  file_holds bytes (Las w) points = holds_las (bytes w.sink) w.form w.totals points
+
+-- points are refused for the first one without a place; where the sink failed each has one
+abbrev pub IsUnwritten : Option (ℕ × Reason) → PutErr → Type 0
+IsUnwritten found (Refused at why) = found ≡ Some (at, why)
+IsUnwritten found Failed = found ≡ None

@@ -2,19 +2,18 @@
 use Rattle.std.specs.Prelude.{ℕ, List, Option, Some, None}
 use Rattle.file_devices.specs.declared.devices.Op.{Op}
 use Rattle.file_devices.specs.declared.devices.Op.TheVariants.{Read, Write}
+use Rattle.stage_kinds.specs.Files.{sink_of}
 use Rattle.stage_kinds.specs.declared.held.Held.{Held}
 use Rattle.stage_kinds.specs.declared.held.Held.TheVariants.{Nothing, Source, Sink}
 use Rattle.stage_kinds.specs.declared.stage_work.StageWork.{StageWork}
-use Rattle.stage_kinds.specs.declared.stage_work.StageWork.TheVariants.{Reader, Head, Merge, Text, Las}
+use Rattle.stage_kinds.specs.declared.stage_work.StageWork.TheVariants.{Reader, Filter, Writer}
 
 module _ {S K : Type 0} where
-  -- the device that a stage's work holds: one row for each kind
+  -- the device that a stage's work holds
   abbrev pub held_by : StageWork S K → Held S K
   held_by (Reader r) = Source r.source
-  held_by (Head h) = Nothing
-  held_by Merge = Nothing
-  held_by (Text w) = Sink w.sink
-  held_by (Las s) = Sink s.writer.sink
+  held_by (Filter f) = Nothing
+  held_by (Writer w) = Sink (sink_of w.file)
 
   -- what is done with a device while the stages take turns
   abbrev pub op_on : Held S K → Option Op

@@ -1,6 +1,6 @@
-pub mod Stages
-pub mod Reads
-pub mod Recording
-pub mod Keeps
-pub mod Held
 pub mod Files
+pub mod Begins
+pub mod Stages
+pub mod Held
+pub mod Reads
+pub mod Keeps

@@ -1,102 +1,91 @@
 -- What the work of each stage means.
-use Rattle.std.specs.Prelude.{ℕ, ◌+◌, ◌-◌, max, Bool, true, false, not, List, [], length, take, Option, Some, None, option_map}
+use Rattle.std.specs.Prelude.{ℕ, ◌==◌, Bool, true, false, not, ◌&&◌, ◌||◌, List, [], length, Option, Some, None, is_some}
+use Rattle.std.specs.List.{list_any}
+use Rattle.cloud_points.specs.declared.dims.Dim.{Dim}
 use Rattle.cloud_points.specs.declared.point.Point.{Point}
 use Rattle.cloud_points.specs.declared.faults.StageFault.{StageFault}
-use Rattle.cloud_points.specs.declared.faults.StageFault.TheVariants as stage
+use Rattle.cloud_points.specs.Lifted.{lifted}
 use Rattle.cloud_points.specs.Meaning.{Meaning}
 use Rattle.cloud_points.specs.Queue.{up_to_limit}
-use Rattle.cloud_points.specs.Lifted.{lifted}
+use Rattle.expr_lang.specs.Formula.{Formula}
 use Rattle.network_theory.specs.Machine.{Machine}
-use Rattle.forward_rules.specs.declared.form.LasForm.{LasForm}
-use Rattle.las_writer.specs.Records.{refusal}
-use Rattle.las_writer.specs.Stops.{before_refused, point_fault}
-use Rattle.las_writer.specs.Holding.{holds_las}
-use Rattle.text_writer.specs.declared.form.TextForm.{TextForm}
-use Rattle.text_writer.specs.TextOutput.{holds_text}
+use Rattle.stage_meanings.specs.ByRule.{steps_of, spot_at}
+use Rattle.stage_meanings.specs.Conditions.{passes}
+use Rattle.stage_meanings.specs.Filtering.{Filtering, By, filter_meaning}
+use Rattle.stage_meanings.specs.Filters.{Rule, why}
+use Rattle.stage_meanings.specs.Rules.{admitted}
+use Rattle.stage_meanings.specs.Steps.{Steps, given, reached, stopped}
+use Rattle.stage_meanings.specs.declared.reason.Reason.{Reason}
+use Rattle.stage_meanings.specs.declared.spot.Spot.{Spot}
+use Rattle.stream_filters.specs.Kinds.{filtering_of, spot_of}
+use Rattle.stage_kinds.specs.declared.file_form.Writing.{Writing as Writes}
 use Rattle.stage_kinds.specs.declared.stage_work.StageState.{StageState}
-use Rattle.stage_kinds.specs.declared.stage_work.StageState.TheVariants.{Reading, Heading, Merging, Writing, Recording}
+use Rattle.stage_kinds.specs.declared.stage_work.StageState.TheVariants.{Reading, Filtering as At, Writing}
 use Rattle.stage_kinds.specs.declared.stage_work.StageWork.{StageWork}
-use Rattle.stage_kinds.specs.declared.stage_work.StageWork.TheVariants.{Reader, Head, Merge, Text, Las}
+use Rattle.stage_kinds.specs.declared.stage_work.StageWork.TheVariants.{Reader, Filter, Writer}
+use Rattle.stage_kinds.specs.declared.writer_stage.WriterStage.{WriterStage}
+use Rattle.stage_kinds.specs.Files.{chosen, file_form, file_holds, unwritten}
 
--- the first points of each view go on, so many; the state counts those that still may
-abbrev pub head_meaning : ℕ → Meaning ℕ Point StageFault
-head_meaning limit = record {
-  emit = λ left points. take left points;
-  after = λ left points. left - length points;
-  fault = λ left points. None;
-  at_view = λ left. (limit, true);
-  at_end = λ left cut. (left, false);
-}
+-- ---- writers
 
--- all points and ends of views go on
-abbrev pub passing : {A : Type 0} → Meaning A Point StageFault
-passing = record {
-  emit = λ s points. points;
-  after = λ s points. s;
-  fault = λ s points. None;
-  at_view = λ s. (s, true);
+-- the rule of a writer: each point goes on as it is, where it has a place in the file
+abbrev pub writing_rule : Writes → Rule Point Reason
+writing_rule x = admitted (unwritten x.form)
+
+-- as a filter
+abbrev pub writing_filter : Writes → Filtering
+writing_filter x = By (writing_rule x) x.only
+
+abbrev pub writing_steps : Writes → Steps Spot Point StageFault
+writing_steps x = steps_of (writing_rule x) (passes x.only)
+
+-- it stops at this point
+abbrev pub stops_at : Writes → Point → Bool
+stops_at x p = is_some (why (writing_rule x) (passes x.only) p)
+
+-- what the writer writes stands in its state, beside where its next point stands
+abbrev pub writing_meaning : Meaning (Writes × Spot) Point StageFault
+writing_meaning = record {
+  emit = λ s points. given (writing_steps s.0) s.1 points;
+  after = λ s points. (s.0, reached (writing_steps s.0) s.1 points);
+  fault = λ s points. stopped (writing_steps s.0) s.1 points;
+  at_view = λ s. ((s.0, (writing_steps s.0).anew s.1), true);
   at_end = λ s cut. (s, false);
 }
 
--- all points go on and no end of a view does; one goes before an end that isn't cut
-abbrev pub merging_views : Meaning (Unit {0}) Point StageFault
-merging_views = record {
-  emit = λ s points. points;
-  after = λ s points. s;
-  fault = λ s points. None;
-  at_view = λ s. (s, false);
-  at_end = λ s cut. (s, not cut);
-}
+-- it stops at none of these
+abbrev pub stops_nowhere : Writes → List Point → Bool
+stops_nowhere x points = not (list_any (stops_at x) points)
 
--- a count with so many more, which stands at the greatest u64; one above that stays
-abbrev pub counted_on : ℕ → ℕ → ℕ
-counted_on count more = max count (up_to_limit (count + more))
+module _ {K : Type 0} where
+  abbrev pub only_of : WriterStage K → Option (Formula Dim)
+  only_of w = w.taken.only
 
--- how many points came up to the first one without a record, where so many came before
-abbrev pub recorded : LasForm → ℕ → List Point → ℕ
-recorded form position points = counted_on position (length (before_refused form points))
+  abbrev pub writes_of : WriterStage K → Writes
+  writes_of w = record { form = file_form w.file; only = only_of w }
 
--- the fault of the first point without a record
-abbrev pub recording_fault : LasForm → ℕ → List Point → Option StageFault
-recording_fault form position points = option_map (λ r. stage.Point (point_fault (up_to_limit (position + r.0)) r.1)) (refusal form points)
+  -- it wrote those of these points that are chosen, and its sink holds them, by the bytes that a sink tells; nothing is said where it
+  -- stops at one of them
+  abbrev pub holds_chosen : (K → Option (List ℕ)) → WriterStage K → List Point → Bool
+  holds_chosen bytes w points =
+      list_any (stops_at (writes_of w)) points
+      || ((w.written == up_to_limit (length (chosen (only_of w) points))) && file_holds bytes w.file (chosen (only_of w) points))
 
--- points go on up to the first one without a record; the state is the form of the file and how many points came before
-abbrev pub recording_meaning : Meaning (LasForm × ℕ) Point StageFault
-recording_meaning = record {
-  emit = λ s points. before_refused s.0 points;
-  after = λ s points. (s.0, recorded s.0 s.1 points);
-  fault = λ s points. recording_fault s.0 s.1 points;
-  at_view = λ s. (s, true);
-  at_end = λ s cut. (s, false);
-}
+-- ---- all
 
-abbrev pub heading : StageState → Option ℕ
-heading (Heading left) = Some left
-heading _ = None
+abbrev pub filtering_in : StageState → Option Spot
+filtering_in (At spot) = Some spot
+filtering_in _ = None
 
-abbrev pub merging : StageState → Option (Unit {0})
-merging Merging = Some tt
-merging _ = None
+abbrev pub writing_in : StageState → Option (Writes × Spot)
+writing_in (Writing x spot) = Some (x, spot)
+writing_in _ = None
 
-abbrev pub writing : StageState → Option TextForm
-writing (Writing form) = Some form
-writing _ = None
+abbrev pub filter_work : Filtering → Meaning StageState Point StageFault
+filter_work f = lifted (filter_meaning f) filtering_in At
 
-abbrev pub recording : StageState → Option (LasForm × ℕ)
-recording (Recording form position) = Some (form, position)
-recording _ = None
-
-abbrev pub head_work : ℕ → Meaning StageState Point StageFault
-head_work limit = lifted (head_meaning limit) heading Heading
-
-abbrev pub merge_work : Meaning StageState Point StageFault
-merge_work = lifted merging_views merging (λ _. Merging)
-
-abbrev pub text_work : Meaning StageState Point StageFault
-text_work = lifted passing writing Writing
-
-abbrev pub las_work : Meaning StageState Point StageFault
-las_work = lifted recording_meaning recording (λ s. Recording s.0 s.1)
+abbrev pub writer_work : Meaning StageState Point StageFault
+writer_work = lifted writing_meaning writing_in (λ s. Writing s.0 s.1)
 
 -- a reader has no inputs, and gives nothing for what it would take
 abbrev pub reader_work : Meaning StageState Point StageFault
@@ -111,17 +100,13 @@ reader_work = record {
 module _ {S K : Type 0} where
   abbrev pub meaning_of : StageWork S K → Meaning StageState Point StageFault
   meaning_of (Reader r) = reader_work
-  meaning_of (Head h) = head_work h.limit
-  meaning_of Merge = merge_work
-  meaning_of (Text w) = text_work
-  meaning_of (Las s) = las_work
+  meaning_of (Filter f) = filter_work (filtering_of f)
+  meaning_of (Writer w) = writer_work
 
   abbrev pub state_of : StageWork S K → StageState
   state_of (Reader r) = Reading
-  state_of (Head h) = Heading h.left
-  state_of Merge = Merging
-  state_of (Text w) = Writing w.form
-  state_of (Las s) = Recording s.writer.form s.position
+  state_of (Filter f) = At (spot_of f)
+  state_of (Writer w) = Writing (writes_of w) w.taken.spot
 
   abbrev pub is_reader : StageWork S K → Bool
   is_reader (Reader r) = true
@@ -129,10 +114,23 @@ module _ {S K : Type 0} where
 
   -- what its sink holds, by the bytes that a sink tells
   abbrev pub holds_of : (K → Option (List ℕ)) → StageWork S K → List Point → Bool
-  holds_of bytes (Text w) points = holds_text (bytes w.sink) w.form points
-  holds_of bytes (Las s) points = holds_las (bytes s.writer.sink) s.writer.form s.writer.totals points
+  holds_of bytes (Writer w) points = holds_chosen bytes w points
   holds_of bytes _ points = true
+
+  -- what a stage writes
+  abbrev pub writing_of : StageWork S K → Option Writes
+  writing_of (Writer w) = Some (writes_of w)
+  writing_of _ = None
+
+  -- how many points it wrote
+  abbrev pub written_by : StageWork S K → Option ℕ
+  written_by (Writer w) = Some w.written
+  written_by _ = None
 
 -- a work with one input, before its first mark
 abbrev pub fresh : StageState → Machine StageState StageFault
 fresh state = record { state = state; fault = None; cut = false; inputs = 1; ended = 0 }
+
+-- the state of a writer before all points
+abbrev pub begun : Writes → StageState
+begun x = Writing x (spot_at 0)

@@ -5,14 +5,17 @@ ghost use Rattle.file_devices.specs.Counts.{Rose};
 ghost use Rattle.file_devices.specs.Told.{IsAsTold};
 ghost use Rattle.file_devices.specs.declared.devices.Op as op_type;
 ghost use Rattle.stage_kinds.specs.declared.beginning.BeginErr.TheVariants.{Failed as BeginFailed, Memory as BeginMemory};
-ghost use Rattle.stage_kinds.specs.Files.{IsFileForm, begin_err_of_text, begin_err_of_las, begun, form_of};
+ghost use Rattle.stage_kinds.specs.Files.{IsFileForm, file_form, file_holds, sink_of};
 ghost use Rattle.stage_kinds.specs.Held.{op_of, faults_of};
-ghost use Rattle.stage_kinds.specs.Stages.{state_of, holds_of};
+ghost use Rattle.stage_kinds.specs.Begins.{begin_err_of_text, begin_err_of_las};
+ghost use Rattle.stage_kinds.specs.Stages.{begun, state_of, holds_of, writing_of};
 
-use crate::{FileForm, LasStage, StageWork};
+use crate::{FileForm, FileWriter, StageWork, WriterStage, Writing};
+use cloud_points::Spread;
 use file_devices::{FileSink, Source};
 use las_writer::LasWriter;
 use std::alloc::Global;
+use stream_filters::Written;
 use text_writer::TextWriter;
 
 /// Why a writer's work doesn't begin.
@@ -47,6 +50,31 @@ impl From<las_writer::BeginErr> for BeginErr {
     }
 }
 
+/// A file of this form onto a sink to which nothing was appended; what stands in front of the points is appended.
+fn begin_form<K: FileSink>(
+    alloc: Global,
+    sink: K,
+    form: FileForm,
+) -> Result<FileWriter<K>, (K, BeginErr)>
+    requires { IsFileForm form }
+    ensures form { IfOk result (λ w. file_form w ≡ form) }
+    ensures holds { IfOk result (λ w. IsAsTold (K.bytes sink) (Some []) → file_holds K.bytes w [] ≡ true) }
+    ensures later { IfOk result (λ w. K.faults sink ≤ K.faults (sink_of w)) }
+    ensures failed { IfErr result (λ e. e.1 ≡ BeginErr.Failed → Rose (K.faults sink) (K.faults e.0)) }
+    ensures count { IfErr result (λ e. K.faults sink ≤ K.faults e.0) }
+{
+    match form {
+        FileForm::Text(form) => match TextWriter::begin(alloc, sink, form) {
+            Ok(writer) => Ok(FileWriter::Text(writer)),
+            Err((sink, e)) => Err((sink, e.into())),
+        },
+        FileForm::Las(form) => match LasWriter::begin(alloc, sink, form) {
+            Ok(writer) => Ok(FileWriter::Las(writer)),
+            Err((sink, e)) => Err((sink, e.into())),
+        },
+    }
+}
+
 /// The work of a writer onto a sink to which nothing was appended; what stands in front of the points is appended.
 ///
 /// A refusal gives the sink back. It is `Failed` only where the sink failed, and `Memory` only where there is none for what
@@ -54,28 +82,28 @@ impl From<las_writer::BeginErr> for BeginErr {
 pub fn begin_file<S: Source, K: FileSink>(
     alloc: Global,
     sink: K,
-    form: FileForm,
+    writing: Writing,
 ) -> Result<StageWork<S, K>, (K, BeginErr)>
-    requires { IsFileForm form }
-    ensures form { IfOk result (λ w. form_of w ≡ Some form) }
-    ensures state { IfOk result (λ w. state_of w ≡ begun form) }
+    requires { IsFileForm writing.form }
+    ensures form { IfOk result (λ w. writing_of w ≡ Some writing) }
+    ensures state { IfOk result (λ w. state_of w ≡ begun writing) }
     ensures holds { IfOk result (λ w. IsAsTold (K.bytes sink) (Some []) → holds_of K.bytes w [] ≡ true) }
     ensures writes { IfOk result (λ w. op_of w ≡ Some op_type.Op.Write) }
     ensures later { IfOk result (λ w. K.faults sink ≤ faults_of S.faults K.faults w) }
     ensures failed { IfErr result (λ e. e.1 ≡ BeginErr.Failed → Rose (K.faults sink) (K.faults e.0)) }
     ensures count { IfErr result (λ e. K.faults sink ≤ K.faults e.0) }
 {
-    match form {
-        FileForm::Text(form) => match TextWriter::begin(alloc, sink, form) {
-            Ok(writer) => Ok(StageWork::Text(writer)),
-            Err((sink, e)) => Err((sink, e.into())),
-        },
-        FileForm::Las(form) => match LasWriter::begin(alloc, sink, form) {
-            Ok(writer) => Ok(StageWork::Las(LasStage {
-                writer,
-                position: 0,
-            })),
-            Err((sink, e)) => Err((sink, e.into())),
-        },
+    let Writing { form, only } = writing;
+    let Ok(chosen) = Box::new(alloc, Spread::new()) else {
+        return Err((sink, BeginErr::Memory));
+    };
+    match begin_form(alloc, sink, form) {
+        Ok(file) => Ok(StageWork::Writer(WriterStage {
+            file,
+            taken: Written::new(only),
+            chosen,
+            written: 0,
+        })),
+        Err(refused) => Err(refused),
     }
 }

@@ -1,6 +1,8 @@
-//! The forms of the files that stages write.
+//! The files that stages write, and what a stage is made of.
 
+use expr_eval::Bound;
 use forward_rules::LasForm;
+use stream_filters::Filter;
 use text_writer::TextForm;
 
 /// The form of a file that a stage writes.
@@ -11,4 +13,27 @@ pub enum FileForm {
 
     /// A LAS file.
     Las(LasForm),
+}
+
+/// What a stage writes.
+#[derive(Drop)]
+pub struct Writing {
+    /// The form of the file.
+    pub form: FileForm,
+
+    /// The points that stand in it are those for which this condition holds; None is all.
+    pub only: Option<Bound>,
+}
+
+/// What a stage does, beside its device: its work is made of it.
+#[derive(Drop)]
+pub enum StageForm {
+    /// It reads a file.
+    Reads,
+
+    /// It is a filter.
+    Filters(Filter),
+
+    /// It writes a file.
+    Writes(Writing),
 }

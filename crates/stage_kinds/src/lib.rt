@@ -3,16 +3,16 @@
 
 mod beginning;
 mod file_form;
-mod head;
+mod file_writer;
 mod held;
-mod las_stage;
 mod laws;
 mod stage_work;
+mod writer_stage;
 
 pub use beginning::{BeginErr, begin_file};
-pub use file_form::FileForm;
-pub use head::Head;
+pub use file_form::{FileForm, StageForm, Writing};
+pub use file_writer::FileWriter;
 pub use held::Held;
-pub use las_stage::LasStage;
 pub use laws::stages_stream;
 pub use stage_work::{StageState, StageWork};
+pub use writer_stage::WriterStage;

@@ -1,11 +1,11 @@
 //! The works of the stages.
 
-use crate::{Head, Held, LasStage};
+use crate::{Held, WriterStage, Writing};
 use cloud_points::{Make, Spread, StageFault, Work};
 use file_devices::{FileSink, Op, Source};
-use forward_rules::LasForm;
 use las_reader::LasReader;
-use text_writer::{TextForm, TextWriter};
+use stage_meanings::Spot;
+use stream_filters::Filter;
 
 /// What a stage remembers while it runs.
 #[derive(Drop)]
@@ -13,17 +13,11 @@ pub enum StageState {
     /// A reader takes no points, and remembers nothing of them.
     Reading,
 
-    /// A head still lets so many points of this view pass.
-    Heading(u32),
+    /// A filter remembers where its next point stands.
+    Filtering(Spot),
 
-    /// A merge remembers nothing.
-    Merging,
-
-    /// A text writer remembers the form of its file, and of its points nothing but what its sink holds.
-    Writing(TextForm),
-
-    /// A LAS writer remembers the form of its file, and how many points came before, over all views.
-    Recording(LasForm, u64),
+    /// A writer remembers what it writes, and where its next point stands; of its points nothing but what its sink holds.
+    Writing(Writing, Spot),
 }
 
 /// The work of a stage.
@@ -31,17 +25,11 @@ pub enum StageWork<S, K: FileSink> {
     /// Reads the points of a LAS file.
     Reader(LasReader<S>),
 
-    /// Lets the first points of each view pass.
-    Head(Head),
+    /// Judges its points.
+    Filter(Filter),
 
-    /// Makes one view of all points: no end of a view goes on, and one comes before an end that isn't cut.
-    Merge,
-
-    /// Writes each point as a line of text, and lets it pass.
-    Text(TextWriter<K>),
-
-    /// Writes a record for each point, and lets it pass, up to the first one that has none.
-    Las(LasStage<K>),
+    /// Writes a file of its points, and lets them pass.
+    Writer(WriterStage<K>),
 }
 
 impl<S: Source, K: FileSink> Work for StageWork<S, K> {
@@ -93,48 +81,40 @@ impl<S: Source, K: FileSink> Work for StageWork<S, K> {
     fn on_chunk(&mut self, points: &mut Spread) -> Option<StageFault> {
         match self {
             StageWork::Reader(_) => unreachable!(),
-            StageWork::Head(head) => {
-                head.pass(points);
-                None
-            }
-            StageWork::Merge => None,
-            StageWork::Text(writer) => match writer.put(points) {
-                Ok(()) => None,
-                Err(_) => {
-                    points.clear();
-                    Some(StageFault::Device(Op::Write))
-                }
-            },
-            StageWork::Las(stage) => stage.record(points),
+            StageWork::Filter(filter) => filter.on_chunk(points),
+            StageWork::Writer(writer) => writer.on_chunk(points),
         }
     }
 
     fn on_end_view(&mut self) -> bool {
         match self {
             StageWork::Reader(_) => unreachable!(),
-            StageWork::Head(head) => {
-                head.begin_view();
+            StageWork::Filter(filter) => filter.on_end_view(),
+            StageWork::Writer(writer) => {
+                writer.begin_view();
                 true
             }
-            StageWork::Merge => false,
-            StageWork::Text(_) | StageWork::Las(_) => true,
         }
     }
 
     fn on_end(&mut self, cut: bool) -> bool {
-        matches!(self, StageWork::Merge) && !cut
+        match self {
+            StageWork::Filter(filter) => filter.on_end(cut),
+            _ => false,
+        }
     }
 }
 
 impl<S: Source, K: FileSink> StageWork<S, K> {
-    ghost use Rattle.std.specs.Prelude.{◌≡◌, List, Some, true, IfErr, OnOk};
+    ghost use Rattle.std.specs.Prelude.{◌≡◌, List, Some, None, true, length, option_map, IfErr, OnOk};
+    ghost use Rattle.cloud_points.specs.Queue.{up_to_limit};
     ghost use Rattle.cloud_points.specs.declared.point.Point as point_type;
     ghost use Rattle.file_devices.specs.Counts.{HasCause};
     ghost use Rattle.file_devices.specs.Told.{IsAsTold};
-    ghost use Rattle.stage_kinds.specs.declared.file_form.FileForm as form_type;
+    ghost use Rattle.stage_kinds.specs.declared.file_form.Writing as writing_type;
     ghost use Rattle.stage_kinds.specs.Held.{held_by, op_of, faults_of, told_by};
-    ghost use Rattle.stage_kinds.specs.Files.{HasPlaces, file_bytes, finishing_op, form_of};
-    ghost use Rattle.stage_kinds.specs.Stages.{holds_of};
+    ghost use Rattle.stage_kinds.specs.Files.{chosen, file_bytes, finishing_op};
+    ghost use Rattle.stage_kinds.specs.Stages.{holds_of, stops_nowhere, written_by, writing_of};
 
     /// Makes a writer's file whole: a text writer's sink writes what it holds back, and a LAS writer appends its EVLRs and
     /// puts the totals of its points into the header. Any other stage does nothing.
@@ -143,22 +123,25 @@ impl<S: Source, K: FileSink> StageWork<S, K> {
     /// sink holds then is no file.
     pub fn finish(&mut self) -> Result<(), Op>
         ensures op { op_of self.new ≡ op_of self.old }
-        ensures file { OnOk result ((form : form_type.FileForm) (points : List point_type.Point)
-            → form_of self.old ≡ Some form → holds_of K.bytes self.old points ≡ true → HasPlaces form points
-            → IsAsTold (told_by K.bytes self.new) (Some (file_bytes form points))) }
-        ensures named { IfErr result (λ op. finishing_op self.old ≡ Some op) }
+        ensures file { OnOk result ((writing : writing_type.Writing) (points : List point_type.Point)
+            → writing_of self.old ≡ Some writing → holds_of K.bytes self.old points ≡ true → stops_nowhere writing points ≡ true
+            → IsAsTold (told_by K.bytes self.new) (Some (file_bytes writing.form (chosen writing.only points)))) }
+        ensures named { IfErr result (λ op. option_map (λ w. finishing_op w.form) (writing_of self.old) ≡ Some op) }
         ensures cause { HasCause (faults_of S.faults K.faults self.old) (faults_of S.faults K.faults self.new) result }
     {
         match self {
-            StageWork::Text(writer) => match writer.finish() {
-                Ok(()) => Ok(()),
-                Err(_) => Err(Op::Write),
-            },
-            StageWork::Las(stage) => match stage.writer.finish() {
-                Ok(()) => Ok(()),
-                Err(_) => Err(Op::Patch),
-            },
-            StageWork::Reader(_) | StageWork::Head(_) | StageWork::Merge => Ok(()),
+            StageWork::Writer(writer) => writer.file.finish(),
+            StageWork::Reader(_) | StageWork::Filter(_) => Ok(()),
+        }
+    }
+
+    /// How many points a writer wrote; None exactly where it is none.
+    pub fn written(&self) -> Option<u64>
+        ensures { result ≡ written_by self.now }
+    {
+        match self {
+            StageWork::Writer(writer) => Some(writer.written),
+            StageWork::Reader(_) | StageWork::Filter(_) => None,
         }
     }
 
@@ -168,15 +151,8 @@ impl<S: Source, K: FileSink> StageWork<S, K> {
     {
         match self {
             StageWork::Reader(reader) => Held::Source(reader.release()),
-            StageWork::Head(_) | StageWork::Merge => Held::Nothing,
-            StageWork::Text(writer) => Held::Sink(writer.release()),
-            StageWork::Las(stage) => {
-                let LasStage {
-                    writer,
-                    position: _,
-                } = stage;
-                Held::Sink(writer.release())
-            }
+            StageWork::Filter(_) => Held::Nothing,
+            StageWork::Writer(writer) => Held::Sink(writer.release()),
         }
     }
 }

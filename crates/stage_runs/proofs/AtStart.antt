@@ -1,7 +1,6 @@
 -- Works at their start, whatever the readers among them read.
-use Rattle.std.proofs.Common.{◌≡◌, ℕ, List, [], slice_get, Option, Some, None, ap}
+use Rattle.std.proofs.Common.{◌≡◌, ℕ, List, slice_get, Option, Some, ap}
 use Rattle.forward_rules.specs.Forwarded.{ReadFile}
-use Rattle.las_reader.specs.declared.reader.LasReader.{LasReader}
 use Rattle.stage_forms.specs.Below.{read_of}
 use Rattle.stage_kinds.specs.declared.stage_work.StageWork.{StageWork}
 use Rattle.stage_kinds.specs.declared.stage_work.StageWork.TheVariants.{Reader}

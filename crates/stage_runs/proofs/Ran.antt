@@ -1,7 +1,7 @@
 -- The stages of a tree stream their values.
 use Rattle.std.proofs.Common.{◌≡◌, ◌⊎◌, ℕ, Bool, true, false, true≢false, cond, List, map, Option, Some, None, refl, ap, sym, subst, ◌∙◌, inl, inr, arith}
-use Rattle.std.specs.Prelude.{slice_get, option_map}
-use Rattle.std.proofs.lemmas.Option.{slice_get_within}
+use Rattle.std.specs.Prelude.{slice_get, option_map, length}
+use Rattle.std.proofs.lemmas.Option.{none-some, same_Some, slice_get_within}
 use Rattle.file_devices.specs.declared.devices.Source as source
 use Rattle.file_devices.specs.declared.devices.Sink as sink
 use Rattle.cloud_points.specs.declared.faults.StageFault.TheVariants as stage
@@ -15,31 +15,54 @@ use Rattle.network_core.specs.Shown.{shown, work_of}
 use Rattle.network_core.proofs.Opened.{some_at}
 use Rattle.network_solo.specs.Trees.{input_at, makes_of, fault_of, Streams, NoneCame, LeavesTell, EndsOver, IsRanTree}
 use Rattle.stage_kinds.specs.declared.stage_work.StageWork.{StageWork}
-use Rattle.stage_kinds.specs.declared.file_form.FileForm.{FileForm}
-use Rattle.stage_kinds.specs.Stages.{is_reader, holds_of}
-use Rattle.las_reader.specs.declared.reader.LasReader.{LasReader}
-use Rattle.stage_options.specs.Roles.{Role, Reads, Filters, Writes, is_reading, is_writing}
+use Rattle.stage_kinds.specs.declared.file_form.StageForm.{StageForm}
+use Rattle.stage_kinds.specs.declared.file_form.StageForm.TheVariants.{Reads, Filters, Writes as Makes}
+use Rattle.stage_kinds.specs.declared.file_form.Writing.{Writing}
+use Rattle.stage_kinds.specs.Files.{chosen}
+use Rattle.stage_kinds.specs.Held.{op_of}
+use Rattle.stage_kinds.specs.Stages.{is_reader, holds_of, stops_nowhere, writes_of, writing_of, written_by}
+use Rattle.stage_kinds.proofs.Streams.{written-count}
+use Rattle.file_devices.specs.declared.devices.Op.{Op}
+use Rattle.file_devices.specs.declared.devices.Op.TheVariants.{Write}
+use Rattle.cloud_points.specs.declared.point.Point.{Point}
+use Rattle.cloud_points.specs.Queue.{up_to_limit}
+use Rattle.stage_options.specs.Roles.{Role, is_reading, is_writing}
+use Rattle.stage_options.specs.Roles as role
 use Rattle.cloud_points.specs.declared.faults.PointFault.{PointFault}
-use Rattle.stage_kinds.specs.declared.stage_work.StageWork.TheVariants.{Reader}
+use Rattle.stage_kinds.specs.declared.stage_work.StageWork.TheVariants.{Reader, Filter, Writer}
 use Rattle.stage_options.specs.declared.stage.StageSpec.{StageSpec}
 use Rattle.answer_model.specs.Values.{LasFile, Opened, IsDown, options_at, role_at, row_at, reads_at, stage_value, stage_input, stage_fault}
 use Rattle.answer_model.specs.Rows as rows
 use Rattle.answer_model.proofs.Values.{value-input}
-use Rattle.stage_runs.specs.Works.{as_works, form_for, ins_of, HaveRead, IsAtStart, AreNewStages, ReadersTell}
-use Rattle.stage_runs.specs.Ran.{HoldsAll, EndsAsStage, AreRanStages}
+use Rattle.stage_runs.specs.Works.{as_works, form_for, ins_of, op_for, HaveRead, IsAtStart, AreNewStages, ReadersTell}
+use Rattle.stage_runs.specs.Ran.{HoldsAll, wrote_of, EndsAsStage, AreRanStages}
 use Rattle.stage_runs.proofs.Forests.{children-are}
-use Rattle.stage_runs.proofs.Kept.{form-kept}
+use Rattle.stage_runs.proofs.Kept.{writing-kept}
 use Rattle.stage_runs.proofs.Places.{mapped-at, map-at}
-use Rattle.stage_runs.proofs.Works.{IsLeaf, IsInner, leaf-is, inner-is, holds-nothing, form-at-start, form-writes, places-are}
+use Rattle.stage_runs.proofs.Works.{IsLeaf, IsInner, leaf-is, inner-is, holds-nothing, IsRow, row-is, op-at-start, writing-at-start, writer-row, nowhere-is}
+
+-- a work that doesn't write wrote nothing
+wrote-none : {S K : Type 0} (w : StageWork S K) {o : Option Op} → op_of w ≡ o → (o ≡ Some Write → ⊥) → written_by w ≡ None
+wrote-none (Reader r) e reads = refl
+wrote-none (Filter f) e reads = refl
+wrote-none (Writer v) e reads = absurd (reads (sym e))
+
+-- a writer that holds points and stops at none of them wrote those that it chose
+wrote-all : {S K : Type 0} (w : StageWork S K) (bytes : K → Option (List ℕ)) (x : Writing) (ps : List Point) → writing_of w ≡ Some x → holds_of bytes w ps ≡ true → stops_nowhere x ps ≡ true
+    → written_by w ≡ Some (up_to_limit (length (chosen x.only ps)))
+wrote-all (Reader r) bytes x ps is holds nowhere = absurd (none-some x is)
+wrote-all (Filter f) bytes x ps is holds nowhere = absurd (none-some x is)
+wrote-all (Writer v) bytes x ps is holds nowhere = ap (λ n. Some n) (written-count v bytes ps holds (ap (λ y. stops_nowhere y ps) (same_Some (writes_of v) x is) ∙ nowhere))
+    ∙ ap (λ (y : Writing). Some (up_to_limit (length (chosen y.only ps)))) (same_Some (writes_of v) x is)
 
 no-point : (o : Option PointFault) → None ≡ option_map stage.Point o → o ≡ None
 no-point None e = refl
 no-point (Some f) e = cc
 
-not-both : (role : Role) → is_reading role ≡ true → is_writing role ≡ true → ⊥
-not-both (Reads name) r w = absurd (true≢false (sym w))
-not-both Filters r w = absurd (true≢false (sym w))
-not-both (Writes name) r w = absurd (true≢false (sym r))
+not-both : (r : Role) → is_reading r ≡ true → is_writing r ≡ true → ⊥
+not-both (role.Reads name) r w = absurd (true≢false (sym w))
+not-both role.Filters r w = absurd (true≢false (sym w))
+not-both (role.Writes name) r w = absurd (true≢false (sym r))
 
 module _ {S K : Type 0} (s : source.Ghosts S) (k : sink.Ghosts K) (stages : List StageSpec) (old : List (Node (StageWork S K))) (new : AreNewStages s k stages old) where
   pub fresh-in : (i : ℕ) (n : Node (StageWork S K)) → slice_get old i ≡ Some n → IsFresh (shown (as_works s k) (children (ins_of stages) i) n)
@@ -83,7 +106,7 @@ module _ {S K : Type 0} (s : source.Ghosts S) (k : sink.Ghosts K) (stages : List
       over = ran.ends quiet leaves-tell (stage_value stages opened) streams
 
       pub ends-as : (i : ℕ) (m : Node (StageWork S K)) → slice_get now i ≡ Some m → EndsAsStage s k stages opened i m
-      ends-as i m f = record { gave = over.gave i m f; fault = fault-is; holds = holds-so }
+      ends-as i m f = record { gave = over.gave i m f; fault = fault-is; holds = holds-so; wrote = wrote-so }
         where
           was : (n : Node (StageWork S K)) × (slice_get old i ≡ Some n)
           was = some_at old i (let a = slice_get_within now i m f in let c = ran.count in omega (arith, a, c))
@@ -108,27 +131,41 @@ module _ {S K : Type 0} (s : source.Ghosts S) (k : sink.Ghosts K) (stages : List
               by_role true e = inr e
               by_role false e = inl (no-point _ (sym sound ∙ fault-is ∙ ap (λ b. option_map stage.Point (cond b (las_fault (opened i).las) (rows.fault_on (row_at stages opened i) (stage_input stages opened i)))) e))
 
-          holds-so : m.fault ≡ None → (form : FileForm) → form_for (options_at stages i) (reads_at stages opened i) ≡ Some form → HoldsAll k.bytes form (points (stage_input stages opened i)) m.work
-          holds-so sound form is = by_kind (is_reader was.0.work) refl
+          holds-so : m.fault ≡ None → (writing : Writing) → form_for (options_at stages i) (reads_at stages opened i) ≡ Makes writing → HoldsAll k.bytes writing (points (stage_input stages opened i)) m.work
+          holds-so sound writing is = by_kind (is_reader was.0.work) refl
             where
               writes : is_writing (role_at stages i) ≡ true
-              writes = form-writes (options_at stages i) (reads_at stages opened i) form is
+              writes = ap is_writing ((writer-row (options_at stages i) (reads_at stages opened i) writing is).does)
 
               start : IsAtStart k.bytes (options_at stages i) (reads_at stages opened i) was.0.work
               start = start-at i was.0 was.1
 
-              by_kind : (b : Bool) → is_reader was.0.work ≡ b → HoldsAll k.bytes form (points (stage_input stages opened i)) m.work
+              by_kind : (b : Bool) → is_reader was.0.work ≡ b → HoldsAll k.bytes writing (points (stage_input stages opened i)) m.work
               by_kind true l = absurd (not-both (role_at stages i) (leaf-at i was.0 was.1 l).reads writes)
               by_kind false l =
                   let took = over.took i was.0 m was.1 f l in
                   record {
-                    is = form-kept was.0.work m.work (input_at (ins_of stages) (stage_value stages opened) i) took.state
-                        ∙ form-at-start s k.bytes (options_at stages i) (reads_at stages opened i) was.0.work start form is;
+                    is = writing-kept was.0.work m.work (input_at (ins_of stages) (stage_value stages opened) i) took.state
+                        ∙ writing-at-start s k.bytes (options_at stages i) (reads_at stages opened i) was.0.work start writing is;
                     holds = ap (λ flow. holds_of k.bytes m.work (points flow)) (sym (input-is i))
                         ∙ took.holds sound (holds-nothing s k.bytes (options_at stages i) (reads_at stages opened i) was.0.work start);
-                    places = places-are (options_at stages i) (reads_at stages opened i) form (stage_input stages opened i) is
+                    nowhere = nowhere-is (options_at stages i) (reads_at stages opened i) writing (stage_input stages opened i) is
                         (elim (sound-so sound) [ inl e ↦ e | inr e ↦ absurd (not-both (role_at stages i) e writes) ]);
                   }
+
+          wrote-so : m.fault ≡ None → written_by m.work ≡ wrote_of (form_for (options_at stages i) (reads_at stages opened i)) (points (stage_input stages opened i))
+          wrote-so sound = by_form (form_for (options_at stages i) (reads_at stages opened i)) refl
+            where
+              device : op_of m.work ≡ op_for (role_at stages i)
+              device = (ran.calm i was.0 m was.1 f).op ∙ op-at-start s k.bytes (options_at stages i) (reads_at stages opened i) was.0.work (start-at i was.0 was.1)
+
+              row : (form : StageForm) → form_for (options_at stages i) (reads_at stages opened i) ≡ form → IsRow form (options_at stages i) (reads_at stages opened i)
+              row form is = subst (λ g. IsRow g (options_at stages i) (reads_at stages opened i)) is (row-is (options_at stages i) (reads_at stages opened i))
+
+              by_form : (form : StageForm) → form_for (options_at stages i) (reads_at stages opened i) ≡ form → written_by m.work ≡ wrote_of form (points (stage_input stages opened i))
+              by_form (Makes x) is = let all = holds-so sound x is in wrote-all m.work k.bytes x (points (stage_input stages opened i)) all.is all.holds all.nowhere
+              by_form Reads is = wrote-none m.work (device ∙ (row Reads is).1) (λ e. absurd cc)
+              by_form (Filters g) is = wrote-none m.work (device ∙ ap op_for (row (Filters g) is).does) (λ e. absurd cc)
 
   pub ran-stages : (now : List (Node (StageWork S K))) → IsDown stages → IsRanTree (as_works s k) (ins_of stages) old now → AreRanStages s k stages old now
   ran-stages now down ran = record { tree = ran; ends = λ quiet opened tell i m f. ends-as down opened tell now ran quiet i m f }

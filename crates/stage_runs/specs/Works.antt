@@ -4,7 +4,6 @@ use Rattle.file_devices.specs.declared.devices.Op.{Op}
 use Rattle.file_devices.specs.declared.devices.Op.TheVariants.{Read, Write}
 use Rattle.file_devices.specs.declared.devices.Source as source
 use Rattle.file_devices.specs.declared.devices.Sink as sink
-use Rattle.cloud_points.specs.declared.point.Point.{Point}
 use Rattle.cloud_points.specs.declared.work.Work.{Ghosts}
 use Rattle.forward_rules.specs.Forwarded.{ReadFile, form_of}
 use Rattle.las_reader.specs.Files.{las_with}
@@ -12,22 +11,34 @@ use Rattle.las_reader.specs.declared.reader.LasReader.{LasReader}
 use Rattle.las_reader.specs.declared.reader.Progress.TheVariants.{Records}
 use Rattle.stage_kinds.specs.declared.file_form.FileForm.{FileForm}
 use Rattle.stage_kinds.specs.declared.file_form.FileForm.TheVariants as file
+use Rattle.stage_kinds.specs.declared.file_form.StageForm.{StageForm}
+use Rattle.stage_kinds.specs.declared.file_form.StageForm.TheVariants.{Reads, Filters, Writes}
+use Rattle.stage_kinds.specs.declared.file_form.Writing.{Writing}
 use Rattle.stage_kinds.specs.declared.stage_work.StageWork.{StageWork}
-use Rattle.stage_kinds.specs.declared.stage_work.StageWork.TheVariants.{Reader, Head, Merge, Text, Las}
+use Rattle.stage_kinds.specs.declared.stage_work.StageWork.TheVariants.{Reader, Filter, Writer}
 use Rattle.stage_kinds.specs.declared.stage_work.StageState.{StageState}
-use Rattle.stage_kinds.specs.Files.{begun, form_of as form_in}
+use Rattle.stage_kinds.specs.Files.{IsFileForm}
 use Rattle.stage_kinds.specs.Held.{op_of, faults_of}
-use Rattle.stage_kinds.specs.Stages.{state_of, meaning_of, is_reader, holds_of}
+use Rattle.stage_kinds.specs.Stages.{begun, state_of, meaning_of, is_reader, holds_of, writing_of}
 use Rattle.stage_kinds.specs.Reads.{tells_of, told_of, told_fault_of, points_left_of, views_left_of}
-use Rattle.stage_options.specs.Roles.{Role, Reads, Filters, Writes}
+use Rattle.stage_options.specs.Roles.{Role}
+use Rattle.stage_options.specs.Roles as role
 use Rattle.stage_options.specs.declared.options.Options.{Options}
-use Rattle.stage_options.specs.declared.options.Options.TheVariants.{ReadersLas, FiltersHead, FiltersMerge, WritersLas, WritersText}
+use Rattle.stage_options.specs.declared.options.Options.TheVariants.{WritersLas, WritersText}
+use Rattle.stage_options.specs.declared.binding.BoundFilter.{BoundFilter}
+use Rattle.stage_options.specs.declared.binding.BoundFilter.TheVariants as bound
+use Rattle.stage_options.specs.declared.binding.BoundStage.{BoundStage}
+use Rattle.stage_options.specs.declared.binding.BoundStage.TheVariants as does
+use Rattle.stage_options.specs.Binding.{bound_stage}
+use Rattle.stage_meanings.specs.ByRule.{spot_at}
+use Rattle.stream_filters.specs.declared.filter.Filter.{Filter as Filtering}
+use Rattle.stream_filters.specs.declared.filter.Filter.TheVariants as filter
 use Rattle.stage_options.specs.declared.stage.StageSpec.{StageSpec}
 use Rattle.network_theory.specs.Opening.{IsFresh}
 use Rattle.network_core.specs.declared.node.Node.{Node}
 use Rattle.network_core.specs.Shown.{shown, work_of}
 use Rattle.stage_forms.specs.Below.{read_of}
-use Rattle.answer_model.specs.Forms.{text_form}
+use Rattle.answer_model.specs.Forms.{extra_names, text_form}
 use Rattle.answer_model.specs.Values.{Opened, stage_at, options_at, reads_at}
 
 -- what the stages are as works, by what their sources and sinks tell
@@ -47,32 +58,60 @@ as_works source sink = record {
   holds = λ k points. holds_of sink.bytes k points;
 }
 
--- the form of the file that a stage writes, by its options and the files that are read below it
-abbrev pub form_for : Options → List ReadFile → Option FileForm
-form_for (WritersLas o) reads = Some (file.Las (form_of o.fields reads))
-form_for (WritersText o) reads = Some (file.Text (text_form o))
-form_for _ reads = None
+-- ---- what the work of a stage is made of, beside its device
 
--- a writer of a file of this form that had no point yet; `bytes` is what a sink tells
-pub record IsBegun {S K : Type 0} (bytes : K → Option (List ℕ)) (form : FileForm) (w : StageWork S K) : Type 0 where
-  pub is : form_in w ≡ Some form
-  pub state : state_of w ≡ begun form
+-- a filter before all points
+abbrev pub started : BoundFilter → Filtering
+started (bound.Assign list only) = filter.Assign (record { rule = list; only = only; spot = spot_at 0 })
+started (bound.Expression condition only) = filter.Expression (record { rule = record { 0 = condition }; only = only; spot = spot_at 0 })
+started (bound.Head count only) = filter.Head (record { rule = record { count = count }; only = only; spot = spot_at 0 })
+started bound.Merge = filter.Merge
+
+-- the form of a writer's file, by its options and the files that are read below it
+abbrev pub file_for : Options → List ReadFile → Option FileForm
+file_for (WritersLas o) reads = Some (file.Las (form_of o.fields reads))
+file_for (WritersText o) reads = Some (file.Text (text_form o))
+file_for _ reads = None
+
+-- by what a stage does; each that writes has a file
+abbrev pub does_with : BoundStage → Option FileForm → StageForm
+does_with (does.Filters f) form = Filters (started f)
+does_with (does.Writes only) (Some form) = Writes (record { form = form; only = only })
+does_with _ form = Reads
+
+-- by its options, and the files that are read below it
+abbrev pub form_for : Options → List ReadFile → StageForm
+form_for o reads = does_with (bound_stage extra_names o) (file_for o reads)
+
+-- a file that it writes can be written
+abbrev pub IsGood : StageForm → Type 0
+IsGood (Writes writing) = IsFileForm writing.form
+IsGood _ = ⊤
+
+-- ---- works at their start
+
+-- a writer that had no point yet; `bytes` is what a sink tells
+pub record IsBegun {S K : Type 0} (bytes : K → Option (List ℕ)) (writing : Writing) (w : StageWork S K) : Type 0 where
+  pub is : writing_of w ≡ Some writing
+  pub state : state_of w ≡ begun writing
   pub holds : holds_of bytes w [] ≡ true
+
+-- a work made of this that had no turn yet
+abbrev pub IsStarted : {S K : Type 0} → (K → Option (List ℕ)) → StageForm → StageWork S K → Type 0
+IsStarted bytes Reads (Reader r) = r.progress ≡ Records 0
+IsStarted bytes (Filters f) (Filter g) = g ≡ f
+IsStarted {S} {K} bytes (Writes writing) (Writer w) = IsBegun {S = S} {K = K} bytes writing (Writer w)
+IsStarted bytes _ _ = ⊥
 
 -- a work does what a stage with these options does behind these files, and had no turn yet
 abbrev pub IsAtStart : {S K : Type 0} → (K → Option (List ℕ)) → Options → List ReadFile → StageWork S K → Type 0
-IsAtStart {S} {K} bytes (ReadersLas o) reads (Reader r) = r.progress ≡ Records 0
-IsAtStart {S} {K} bytes (FiltersHead o) reads (Head h) = h ≡ record { limit = o.count; left = o.count }
-IsAtStart {S} {K} bytes (FiltersMerge o) reads Merge = ⊤
-IsAtStart {S} {K} bytes (WritersLas o) reads (Las l) = IsBegun {S = S} {K = K} bytes (file.Las (form_of o.fields reads)) (Las l)
-IsAtStart {S} {K} bytes (WritersText o) reads (Text w) = IsBegun {S = S} {K = K} bytes (file.Text (text_form o)) (Text w)
-IsAtStart {S} {K} bytes _ reads _ = ⊥
+IsAtStart bytes o reads w = IsStarted bytes (form_for o reads) w
 
 -- what a stage that does this does with its device while the stages take turns
 abbrev pub op_for : Role → Option Op
-op_for (Reads name) = Some Read
-op_for Filters = None
-op_for (Writes name) = Some Write
+op_for (role.Reads name) = Some Read
+op_for role.Filters = None
+op_for (role.Writes name) = Some Write
 
 -- the numbers of the stages that each stage takes
 abbrev pub ins_of : List StageSpec → List (List ℕ)

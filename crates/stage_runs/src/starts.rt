@@ -1,51 +1,82 @@
-//! The works of stages at their start, by the options of the stage.
+//! What the works of stages are made of, by the options of the stage.
 
-ghost use Rattle.std.specs.Prelude.{◌≡◌, ◌<◌, List, All, length, IfOk, IfSome};
-ghost use Rattle.forward_rules.specs.Forwarded.{ReadFile};
+ghost use Rattle.std.specs.Prelude.{◌≡◌, ◌<◌, All, Some, true, length, IfOk};
+ghost use Rattle.answer_model.specs.Forms.{extra_names};
 ghost use Rattle.stage_forms.specs.Below.{reads_in};
 ghost use Rattle.stage_kinds.specs.Files.{IsFileForm};
-ghost use Rattle.stage_options.specs.Roles.{Filters, role_of};
-ghost use Rattle.stage_runs.specs.Works.{IsAtStart, form_for};
+ghost use Rattle.stage_options.specs.Binding.{bound_stage};
+ghost use Rattle.stage_options.specs.Roles.{is_writing, role_of};
+ghost use Rattle.stage_runs.specs.Works.{IsGood, file_for, form_for, started};
 
-use file_devices::{FileSink, Source};
+use file_devices::Source;
 use las_reader::LasReader;
 use stage_forms::{las_form, text_form};
-use stage_kinds::{FileForm, Head, StageWork};
-use stage_options::Options;
+use stage_kinds::{FileForm, StageForm, Writing};
+use stage_options::{BoundFilter, BoundStage, Options};
 use std::alloc::{AllocError, Global};
+use stream_filters::{Condition, Filter, Head, PointFilter};
 
-/// The work of a filter with these options.
-pub fn filter_work<S: Source, K: FileSink>(options: &Options) -> StageWork<S, K>
-    requires { role_of options.now ≡ Filters }
-    ensures { (reads : List ReadFile) → IsAtStart K.bytes options.now reads result }
+/// A filter with these options, before all points.
+fn filter_of(bound: BoundFilter) -> Filter
+    ensures { result ≡ started bound }
 {
-    match options {
-        Options::FiltersHead(options) => StageWork::Head(Head::new(options.count)),
-        Options::FiltersMerge(_) => StageWork::Merge,
-        Options::ReadersLas(_) | Options::WritersLas(_) | Options::WritersText(_) => {
-            unreachable!()
+    match bound {
+        BoundFilter::Assign(assignments, only) => {
+            Filter::Assign(PointFilter::new(assignments, only))
         }
+        BoundFilter::Expression(condition, only) => {
+            Filter::Expression(PointFilter::new(Condition(condition), only))
+        }
+        BoundFilter::Head(count, only) => Filter::Head(PointFilter::new(Head { count }, only)),
+        BoundFilter::Merge => Filter::Merge,
     }
 }
 
-/// The form of the file that a stage with these options writes, behind the readers of these numbers; None exactly where it
-/// writes none. Refused only where memory is wanting.
-pub fn file_form<S: Source>(
+/// The form of the file that a writer with these options writes, behind the readers of these numbers. Refused only where memory is
+/// wanting.
+fn file_form<S: Source>(
     alloc: Global,
     options: &Options,
     readers: &[Option<LasReader<S>>],
     below: &[u32],
-) -> Result<Option<FileForm>, AllocError>
-    requires { All (λ j. j < length readers.now) below.now }
-    ensures form { IfOk result (λ o. o ≡ form_for options.now (reads_in readers.now below.now)) }
-    ensures good { IfOk result (λ o. IfSome o IsFileForm) }
+) -> Result<FileForm, AllocError>
+    requires writes { is_writing (role_of options.now) ≡ true }
+    requires inside { All (λ j. j < length readers.now) below.now }
+    ensures form { IfOk result (λ form. file_for options.now (reads_in readers.now below.now) ≡ Some form) }
+    ensures good { IfOk result IsFileForm }
 {
     match options {
-        Options::WritersLas(las) => {
-            let form = las_form(alloc, &las.fields, readers, below)?;
-            Ok(Some(FileForm::Las(form)))
+        Options::WritersLas(las) => Ok(FileForm::Las(las_form(
+            alloc,
+            &las.fields,
+            readers,
+            below,
+        )?)),
+        Options::WritersText(text) => Ok(FileForm::Text(text_form(alloc, text)?)),
+        _ => unreachable!(),
+    }
+}
+
+/// What the work of a stage is made of, by its options and by these with dimensions in place of names, behind the readers of these
+/// numbers. Refused only where memory is wanting.
+pub fn stage_form<S: Source>(
+    alloc: Global,
+    options: &Options,
+    bound: BoundStage,
+    readers: &[Option<LasReader<S>>],
+    below: &[u32],
+) -> Result<StageForm, AllocError>
+    requires bound { bound ≡ bound_stage extra_names options.now }
+    requires inside { All (λ j. j < length readers.now) below.now }
+    ensures form { IfOk result (λ form. form ≡ form_for options.now (reads_in readers.now below.now)) }
+    ensures good { IfOk result IsGood }
+{
+    match bound {
+        BoundStage::Reads => Ok(StageForm::Reads),
+        BoundStage::Filters(filter) => Ok(StageForm::Filters(filter_of(filter))),
+        BoundStage::Writes(only) => {
+            let form = file_form(alloc, options, readers, below)?;
+            Ok(StageForm::Writes(Writing { form, only }))
         }
-        Options::WritersText(text) => Ok(Some(FileForm::Text(text_form(alloc, text)?))),
-        Options::ReadersLas(_) | Options::FiltersHead(_) | Options::FiltersMerge(_) => Ok(None),
     }
 }

@@ -8,7 +8,7 @@ use cloud_points::{Dim, Make, Point, PointFault, Spread, StageFault, Work, put_p
 use file_devices::{MemIn, MemOut, Name, Op};
 use las_reader::LasReader;
 use recorded_files::two_points;
-use stage_kinds::{FileForm, Head, Held, StageWork, begin_file};
+use stage_kinds::{FileForm, Held, StageWork, Writing, begin_file};
 use std::alloc::{AllocError, Global};
 use text_writer::{Column, ColumnList, TextForm};
 
@@ -63,46 +63,6 @@ fn drop_stage(stage: Stage) {
         Held::Sink(sink) => drop(sink),
         Held::Nothing => {}
     }
-}
-
-/// What passes of three times three points in a view that a head of five cuts, and of six in the next one; and whether the end
-/// of the view passes and one before the end of all.
-fn headed() -> ([(Option<StageFault>, usize); 4], bool, bool) {
-    let mut stage: Stage = StageWork::Head(Head::new(5));
-    let first = hand(&mut stage, 3);
-    let second = hand(&mut stage, 3);
-    let third = hand(&mut stage, 3);
-    let view = stage.on_end_view();
-    let fourth = hand(&mut stage, 6);
-    let end = stage.on_end(false);
-    drop_stage(stage);
-    ([first, second, third, fourth], view, end)
-}
-
-#[test]
-fn a_head_counts_over_chunks_and_begins_anew_with_a_view(rt: HostRuntime) {
-    assert_eq!(rt;
-        headed(),
-        ([(None, 3), (None, 2), (None, 0), (None, 5)], true, false)
-    );
-}
-
-/// What passes a merge of three points in a view and of two behind it; and whether the end of the view passes, one before an
-/// end that is cut, and one before an end that isn't.
-fn merged() -> ([(Option<StageFault>, usize); 2], bool, bool, bool) {
-    let mut stage: Stage = StageWork::Merge;
-    let first = hand(&mut stage, 3);
-    let view = stage.on_end_view();
-    let second = hand(&mut stage, 2);
-    let cut = stage.on_end(true);
-    let whole = stage.on_end(false);
-    drop_stage(stage);
-    ([first, second], view, cut, whole)
-}
-
-#[test]
-fn a_merge_ends_its_view_with_an_end_that_is_not_cut(rt: HostRuntime) {
-    assert_eq!(rt; merged(), ([(None, 3), (None, 2)], false, false, true));
 }
 
 /// Whether the reader of so many first bytes of a file of two points is a leaf, and what it makes up to its end.
@@ -165,7 +125,7 @@ fn writer(alloc: Global, sink: MemOut) -> Option<Stage>
     ensures { IfSome result (λ w. is_reader w ≡ false) }
 {
     let form = FileForm::Text(text_form(alloc).ok()?);
-    match begin_file(alloc, sink, form) {
+    match begin_file(alloc, sink, Writing { form, only: None }) {
         Ok(stage) => Some(stage),
         Err(_) => None,
     }

@@ -4,6 +4,7 @@ use Rattle.std.proofs.lemmas.List.{reverse-reverse}
 use Rattle.std.proofs.lemmas.Option.{slice_get_read, get_or_from_slice_get}
 use Rattle.std.specs.Prelude.{slice_get, slice_index_or, None}
 use Rattle.file_devices.specs.Counts.{Rose}
+use Rattle.stage_kinds.specs.declared.file_form.StageForm.TheVariants.{Reads}
 use Rattle.stage_kinds.specs.Held.{op_of}
 use Rattle.stage_options.specs.Roles.{role_of, is_writing}
 use Rattle.stage_options.specs.declared.stage.StageSpec.{StageSpec}
@@ -81,19 +82,19 @@ loop-reader-preserved g c =
     let reader-here = get_or_from_slice_get c.args.readers.items c.loop-reader.at c.in-Some.reader None p.0 in
     let form-there = sym (now.left_forms c.loop-reader.at (omega arith)) ∙ slice_get_read c.loop-reader.forms.items (length c.loop-reader.forms.items) c.loop-reader.at c.index_mut.result.now refl
     (let a = n.0 in let b = c.requires.count in let d = now.forms in omega (arith, a, b, d)) c.index_mut.ensures.value in
-    let form-here = c.take-form.ensures.value ∙ sym (get_or_from_slice_get c.args.forms.items c.loop-reader.at c.index_mut.result.now None form-there) in
+    let form-here = c.replace-form.ensures.value ∙ sym (get_or_from_slice_get c.args.forms.items c.loop-reader.at c.index_mut.result.now Reads form-there) in
     let one = subst (λ f. IsWork g.F.In.Source g.F.Out.Sink (files.map c.args.files.now) c.loop-reader.at o (slice_index_or c.args.readers.items c.loop-reader.at None) f c.in-Ok-begin_work.work) form-here
-    (subst (λ r. IsWork g.F.In.Source g.F.Out.Sink (files.map c.args.files.now) c.loop-reader.at o r c.take-form.result c.in-Ok-begin_work.work) (sym reader-here)
-    (subst (λ x. IsWork g.F.In.Source g.F.Out.Sink (files.map c.args.files.now) c.loop-reader.at x c.in-Some.reader c.take-form.result c.in-Ok-begin_work.work) (ap (λ (s : StageSpec). s.options) (sym (stage-is c.args.stages.now c.loop-reader.at c.index-stages-at.result at)))
-    (subst (λ map. IsWork g.F.In.Source g.F.Out.Sink map c.loop-reader.at c.index-stages-at.result.options c.in-Some.reader c.take-form.result c.in-Ok-begin_work.work) now.map c.in-Ok-begin_work.ensures.ok))) in
+    (subst (λ r. IsWork g.F.In.Source g.F.Out.Sink (files.map c.args.files.now) c.loop-reader.at o r c.replace-form.result c.in-Ok-begin_work.work) (sym reader-here)
+    (subst (λ x. IsWork g.F.In.Source g.F.Out.Sink (files.map c.args.files.now) c.loop-reader.at x c.in-Some.reader c.replace-form.result c.in-Ok-begin_work.work) (ap (λ (s : StageSpec). s.options) (sym (stage-is c.args.stages.now c.loop-reader.at c.index-stages-at.result at)))
+    (subst (λ map. IsWork g.F.In.Source g.F.Out.Sink map c.loop-reader.at c.index-stages-at.result.options c.in-Some.reader c.replace-form.result c.in-Ok-begin_work.work) now.map c.in-Ok-begin_work.ensures.ok))) in
     let less = sum-pop there c.loop-reader.readers.items c.pop.new.self.items c.in-Some.reader c.in-Some.ensures.items in
     let more = ap all_held pushed ∙ sum-push (λ w. there (op_of w)) c.loop-reader.works.items c.in-Ok-begin_work.work in
     record {
       left = p.1;
       count = n.1;
-      begun = λ i w e. each-push (λ j v. IsWork g.F.In.Source g.F.Out.Sink (files.map c.args.files.now) j (options_at c.args.stages.now j) (slice_index_or c.args.readers.items j None) (slice_index_or c.args.forms.items j None) v) c.loop-reader.works.items c.in-Ok-begin_work.work c.loop-reader.at size now.begun one i w (ap (λ xs. slice_get xs i) (sym pushed) ∙ e);
-      forms = length-set c.loop-reader.forms.items c.loop-reader.at c.take-form.new.self ∙ now.forms;
-      left_forms = λ j le. slice_get-set_other c.loop-reader.forms.items c.loop-reader.at j c.take-form.new.self (λ e. absurd (omega (arith, le, e))) ∙ now.left_forms j (omega (arith, le));
+      begun = λ i w e. each-push (λ j v. IsWork g.F.In.Source g.F.Out.Sink (files.map c.args.files.now) j (options_at c.args.stages.now j) (slice_index_or c.args.readers.items j None) (slice_index_or c.args.forms.items j Reads) v) c.loop-reader.works.items c.in-Ok-begin_work.work c.loop-reader.at size now.begun one i w (ap (λ xs. slice_get xs i) (sym pushed) ∙ e);
+      forms = length-set c.loop-reader.forms.items c.loop-reader.at c.replace-form.new.dest ∙ now.forms;
+      left_forms = λ j le. slice_get-set_other c.loop-reader.forms.items c.loop-reader.at j c.replace-form.new.dest (λ e. absurd (omega (arith, le, e))) ∙ now.left_forms j (omega (arith, le));
       works = (let a = c.push_reserved.ensures.len in let b = now.works in omega (arith, a, b));
       room = (let a = c.push_reserved.ensures.capacity in let b = now.room in omega (arith, a, b));
       map = c.begin_work.ensures.map ∙ now.map;
@@ -115,5 +116,5 @@ begin_work-requires-clause-form g c =
     let at = slice_get_read c.args.stages.now (length c.args.stages.now) c.loop-reader.at c.index-stages-at.result refl (let a = n.0 in let b = c.requires.count in omega (arith, a, b)) c.index-stages-at.is in
     let form-there = sym (now.left_forms c.loop-reader.at (omega arith)) ∙ slice_get_read c.loop-reader.forms.items (length c.loop-reader.forms.items) c.loop-reader.at c.index_mut.result.now refl
     (let a = n.0 in let b = c.requires.count in let d = now.forms in omega (arith, a, b, d)) c.index_mut.ensures.value in
-    subst (IsForm (role_of c.index-stages-at.result.options)) (sym c.take-form.ensures.value)
+    subst (IsForm (role_of c.index-stages-at.result.options)) (sym c.replace-form.ensures.value)
     (subst (λ r. IsForm r c.index_mut.result.now) (sym (role-is c.args.stages.now c.loop-reader.at c.index-stages-at.result at)) (c.requires.fits c.loop-reader.at c.index_mut.result.now form-there))

@@ -1,13 +1,12 @@
 use Rattle.std.proofs.Common.{◌≡◌, ◌<◌, length, refl, ap, sym, subst, ◌∙◌, arith}
-use Rattle.std.specs.Prelude.{slice_get, Option}
+use Rattle.std.specs.Prelude.{slice_get}
 use Rattle.std.proofs.lemmas.Option.{slice_get_read}
-use Rattle.forward_rules.specs.Forwarded.{ReadFile}
-use Rattle.stage_kinds.specs.declared.file_form.FileForm.{FileForm}
+use Rattle.stage_kinds.specs.declared.file_form.StageForm.{StageForm}
 use Rattle.stage_options.specs.Binding.{binding_fault}
 use Rattle.stage_options.specs.declared.stage.StageSpec.{StageSpec}
-use Rattle.stage_forms.specs.Below.{HaveReaders, reads_in}
+use Rattle.stage_forms.specs.Below.{reads_in}
 use Rattle.cloud_points.specs.Layouts.{holds}
-use Rattle.answer_model.specs.Values.{Opened, options_at, role_at, reads_at}
+use Rattle.answer_model.specs.Values.{options_at, role_at, reads_at}
 use Rattle.stage_runs.specs.Works.{form_for}
 use Rattle.run_engine.specs.Begun.{IsForm}
 use Rattle.run_engine.proofs.Lists.{each-push}
@@ -41,7 +40,7 @@ loop-i-preserved g c =
     let pushed = c.push_reserved.ensures.items in
     let done = c.in-Ok-bind_stage.ensures in
     record {
-      forms = λ opened have k x e. each-push (λ j (y : Option FileForm). y ≡ form_for (options_at stages j) (reads_at stages opened j)) c.loop-i.forms.items c.in-Ok-bind_stage.form i size
+      forms = λ opened have k x e. each-push (λ j (y : StageForm). y ≡ form_for (options_at stages j) (reads_at stages opened j)) c.loop-i.forms.items c.in-Ok-bind_stage.form i size
           (now.forms opened have) (done.form ∙ ap (λ p. form_for p (reads_in readers below.readers.items)) (sym o) ∙ ap (form_for (options_at stages i)) ((c.in-Ok.ensures.below opened have i below b).reads))
           k x (ap (λ xs. slice_get xs k) (sym pushed) ∙ e);
       fits = λ k x e. each-push (λ j y. IsForm (role_at stages j) y) c.loop-i.forms.items c.in-Ok-bind_stage.form i size now.fits

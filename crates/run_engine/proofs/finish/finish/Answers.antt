@@ -1,4 +1,4 @@
-use Rattle.std.proofs.Common.{◌≡◌, ◌<◌, ◌≤◌, ◌+◌, ◌∙◌, length, refl, sym, subst, arith, Some}
+use Rattle.std.proofs.Common.{◌<◌, ◌+◌, ◌∙◌, length, refl, sym, subst, arith}
 use Rattle.std.proofs.lemmas.Option.{slice_get_read, slice_get_within}
 use Rattle.stage_kinds.specs.Held.{faults_of}
 use Rattle.run_engine.specs.Turns.{IsFinished}
@@ -19,7 +19,7 @@ loop-i-preserved g c =
       later = later-more bytes faults c.args.works.items c.loop-i.works.items c.loop-i.i v c.finish.new.self now.later here c.finish.ensures.op c.finish.ensures.cause.later;
       finished = finished-more bytes faults c.args.works.items c.loop-i.works.items c.loop-i.i v c.finish.new.self now.later here c.finish.ensures.op c.finish.ensures.cause.later
           (IsFinished bytes) 0 now.finished (λ a e. subst (λ x. IsFinished bytes x c.finish.new.self) (same_some v a (sym was ∙ e))
-          (λ form ps h. c.in-Ok.ensures.file form ps h.is h.holds h.places));
+          (λ form ps h. c.in-Ok.ensures.file form ps h.is h.holds h.nowhere));
       left = left-more bytes faults c.args.works.items c.loop-i.works.items c.loop-i.i v c.finish.new.self now.later here c.finish.ensures.op c.finish.ensures.cause.later
           (c.loop-i.i + 1) (omega arith) now.left;
     }

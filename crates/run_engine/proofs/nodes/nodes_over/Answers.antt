@@ -1,6 +1,6 @@
-use Rattle.std.proofs.Common.{◌≡◌, ◌<◌, [], ◌∷◌, ◌++◌, map, take, length, vec_len, ap, sym, subst, ◌∙◌, arith}
+use Rattle.std.proofs.Common.{◌≡◌, ◌<◌, [], ◌∷◌, ◌++◌, map, reverse, take, length, vec_len, ap, sym, subst, ◌∙◌, arith}
 use Rattle.std.proofs.Math.Seq.{take-length}
-use Rattle.std.proofs.lemmas.List.{map-append}
+use Rattle.std.proofs.lemmas.List.{map-append, reverse-reverse}
 use Rattle.std.specs.Prelude.{slice_get}
 use Rattle.network_core.specs.Shown.{work_of}
 use Rattle.answer_model.specs.Values.{stage_at}
@@ -10,6 +10,19 @@ use Rattle.run_engine.proofs.Lists.{each-push, popped, one_less, none_left, take
 use Rattle.run_engine.proofs.Inputs.{leaf-at}
 use Rattle.run_engine.proofs.NewNodes.{IsNew}
 use Rattle.run_engine.proofs.nodes.nodes_over.Goals as goal
+
+pub loop-work-init : goal.loop-work-init
+loop-work-init g c =
+    let turned = c.reverse.ensures.items in
+    let empty = c.requires.empty in
+    record {
+      left = ap reverse turned ∙ reverse-reverse c.args.works.items;
+      count = (let a = c.reverse.ensures.len in let k = c.args.works.ok in omega (arith, a, k));
+      moved = ap (map work_of) empty;
+      nodes = (let k = c.args.room.ok in let z = ap (λ xs. length xs) empty in omega (arith, k, z));
+      room = c.requires.room;
+      new = λ i n e. (let none = sym (ap (λ xs. slice_get xs i) empty) ∙ e in cc);
+    }
 
 pub inputs_of-requires-clause-inside : goal.inputs_of-requires-clause-inside
 inputs_of-requires-clause-inside g c =
@@ -59,6 +72,12 @@ returns-clause-new g c =
       works = subst (AreAtStart g.K.Sink.bytes c.args.stages.now)
           (sym (now.moved ∙ ap (λ n. take n c.args.works.items) all ∙ take-length c.args.works.items)) c.requires.starts;
     }
+
+pub returns-clause-works : goal.returns-clause-works
+returns-clause-works g c =
+    let now = c.loop-work.invariant in
+    let all = none_left (length c.args.works.items) c.loop-work.at (vec_len c.loop-work.works) now.count c.in_default.ensures.cases.0 in
+    now.moved ∙ ap (λ n. take n c.args.works.items) all ∙ take-length c.args.works.items
 
 pub returns-clause-chunk : goal.returns-clause-chunk
 returns-clause-chunk g c = λ i n e. (c.loop-work.invariant.new i n e).chunk_is

@@ -1,13 +1,11 @@
-use Rattle.std.proofs.Common.{◌≡◌, ◌+◌, ◌≤◌, length, ap, sym, subst, ◌∙◌, arith}
-use Rattle.std.specs.Prelude.{Some}
+use Rattle.std.proofs.Common.{◌+◌, ◌≤◌, length, ap, sym, subst, ◌∙◌, arith}
 use Rattle.arrayvec.specs.ArrayVec.{ArrayVec}
 use Rattle.file_devices.specs.Counts.{Rose}
-use Rattle.file_devices.specs.Named.{Names}
 use Rattle.stage_kinds.specs.Held.{faults_of}
 use Rattle.run_report.specs.declared.report.StageCount.{StageCount}
 use Rattle.answer_model.specs.Values.{Opened}
 use Rattle.answer_model.specs.Runs.{run_of}
-use Rattle.run_engine.specs.Begun.{AreBegun, AreForms, AreNamesBound, AreOpened, IsUnbound}
+use Rattle.run_engine.specs.Begun.{AreBegun, AreForms, AreNamesBound, IsUnbound}
 use Rattle.run_engine.specs.Cause.{IsCause}
 use Rattle.run_engine.specs.Keeping.{kept_first, BrokeOff}
 use Rattle.run_engine.specs.Turns.{WorksTell, AreDone, IsRunCause}

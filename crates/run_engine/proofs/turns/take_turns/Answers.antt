@@ -1,4 +1,4 @@
-use Rattle.std.proofs.Common.{inl, inr}
+use Rattle.std.proofs.Common.{inr}
 use Rattle.run_report.specs.declared.report.StageCount.{StageCount}
 use Rattle.stage_kinds.specs.Held.{faults_of}
 use Rattle.answer_model.specs.Values.{Opened}
