@@ -163,12 +163,27 @@ def main():
     hill_data, hill_points = hill()
     coast_data, coast_points = coast()
     every, some = len(hill_points), 5
+    high = [point for point in hill_points if point[2] > Fraction(225, 2)]
+    raised = [(x, y, z + Fraction(35, 100) if x < 500003 else z) for x, y, z in hill_points]
     reader, head, writer, las_writer = "readers.las", "filters.head", "writers.text", "writers.las"
 
     # By pipeline: the exit code, what is printed, what is said on standard error, and the files that are kept.
     runs = {
         "text": (0, report((reader, every), (writer, every, every)), "", {"hill.txt": text(hill_points)}),
         "first": (0, report((reader, every), (head, some), (writer, some, some)), "", {"first.txt": text(hill_points[:some])}),
+        "high": (
+            0,
+            report((reader, every), ("filters.expression", len(high)), (writer, len(high), len(high))),
+            "",
+            {"high.txt": text(high)},
+        ),
+        "raised": (0, report((reader, every), ("filters.assign", every), (writer, every, every)), "", {"raised.txt": text(raised)}),
+        "split": (
+            0,
+            report((reader, every), (writer, every, len(high)), (writer, every, every - len(high))),
+            "",
+            {"high.txt": text(high), "low.txt": text([point for point in hill_points if point not in high])},
+        ),
         "both": (
             0,
             report((reader, every), (writer, every, every), (head, some), (writer, some, some)),

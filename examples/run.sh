@@ -23,10 +23,12 @@ for pipeline in "$here"/*.json; do
         echo $? > "$room/$name.found/code"
     )
     for file in "$room/$name"/*; do
-        case $(basename "$file") in
-            *.json | *.las) cmp -s "$file" "$here/$(basename "$file")" || echo changed > "$room/$name.found/$(basename "$file")" ;;
-            *) cp "$file" "$room/$name.found/" ;;
-        esac
+        given=$here/$(basename "$file")
+        if [ ! -e "$given" ]; then
+            cp "$file" "$room/$name.found/"
+        elif ! cmp -s "$file" "$given"; then
+            echo changed > "$room/$name.found/$(basename "$file")"
+        fi
     done
     if diff -r "$here/expected/$name" "$room/$name.found"; then
         echo "passed $name"
