@@ -57,9 +57,9 @@ fn bind_stage<S: Source>(
     }
 }
 
-/// Binds the names of dimensions in the options of a tree's stages, in their order, over their opened readers, and answers the
-/// what each stage's work is made of. It is refused with the fault of the first stage that names a
-/// dimension which its points haven't, and else only where memory is wanting.
+/// Binds the names of dimensions in the options of a tree's stages, in their order, over their opened readers, and answers what
+/// each stage's work is made of. It is refused with the fault of the first stage that names a dimension which its points haven't,
+/// or GPS time in an expression, and else only where memory is wanting.
 pub(crate) fn bind_stages<S: Source>(
     alloc: Global,
     stages: &[StageSpec],

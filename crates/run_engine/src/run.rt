@@ -26,8 +26,8 @@ use std::alloc::Global;
 /// in the order of the stages; lets the points go through, finishes all writers' files and then keeps them in the order of the
 /// stages, and answers what each stage gave on. Every object that was handed out is given back.
 ///
-/// `Pipeline` comes only where a name is that of no dimension of the stage's points, `Data` only where the files have that
-/// fault, `Device` only where the named device failed or the file to read isn't there, and `Memory` where there was none.
+/// `Pipeline` comes only where a name is that of no dimension of the points, or GPS time in an expression, `Data` only where the
+/// files have that fault, `Device` only where the device failed or the file to read isn't there, `Memory` where there was none.
 /// After a refusal the files are as before; only where the keeping of a file failed or found no memory are those of the
 /// writers before it kept, and that one may be.
 pub fn run_pipeline<F: Files>(
