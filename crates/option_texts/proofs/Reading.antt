@@ -1,5 +1,5 @@
 -- Parts that are read one after the other.
-use Rattle.std.proofs.Common.{◌≡◌, ℕ, suc, ◌+◌, ◌<◌, ◌≤◌, ◌==◌, ◌&&◌, Bool, true, false, not, List, [], ◌∷◌, ◌++◌, length, Option, Some, None, MatchOption, option_map, option_and_then, is_some, refl, sym, ap, ◌∙◌, arith, append_assoc, cond}
+use Rattle.std.proofs.Common.{◌≡◌, ℕ, suc, ◌+◌, ◌<◌, ◌==◌, ◌&&◌, Bool, true, false, not, List, [], ◌∷◌, ◌++◌, length, Option, Some, None, option_map, option_and_then, is_some, refl, sym, ap, ◌∙◌, arith, append_assoc, cond}
 use Rattle.std.specs.List.{slice_split, onto_first, position_or_len, before_first, after_first, list_all}
 use Rattle.std.specs.Str.{IsUtf8}
 use Rattle.std.proofs.lemmas.List.Splits.{slice_split_first}
@@ -64,47 +64,35 @@ last_read read text list more rest x cut is grown was =
     ∙ ap (λ z. Some z) (sym grown)
 
 -- all are read where each one can be
-all_read : {X : Type 0} (read : List ℕ → Option X) (o : Option X) (rest : Option (List X)) (b : Bool) → is_some rest ≡ b → is_some (option_and_then (λ x. option_map (λ xs. x ∷ xs) rest) o) ≡ (is_some o && b)
-all_read read None rest b e = refl
-all_read read (Some x) None b e = e
-all_read read (Some x) (Some xs) b e = e
+one_and_rest : {X : Type 0} (read : List ℕ → Option X) (o : Option X) (rest : Option (List X)) (b : Bool) → is_some rest ≡ b → is_some (option_and_then (λ x. option_map (λ xs. x ∷ xs) rest) o) ≡ (is_some o && b)
+one_and_rest read None rest b e = refl
+one_and_rest read (Some x) None b e = e
+one_and_rest read (Some x) (Some xs) b e = e
 
 pub each_is_read : {X : Type 0} (read : List ℕ → Option X) (parts : List (List ℕ)) → is_some (each_read read parts) ≡ list_all (λ part. is_some (read part)) parts
 each_is_read read [] = refl
-each_is_read read (part ∷ parts) = all_read read (read part) (each_read read parts) _ (each_is_read read parts)
+each_is_read read (part ∷ parts) = one_and_rest read (read part) (each_read read parts) _ (each_is_read read parts)
 
--- ---- a part that was added, or not
-
-part_none : {X : Type 0} (o : Option X) (is_added : Bool) (P : X → Type 0) → is_added ≡ false → MatchOption o (is_added ≡ false) (λ x. (is_added ≡ true) × P x) → o ≡ None
-part_none None is_added P e h = refl
-part_none (Some x) is_added P e h = absurd (let w : true ≡ false = sym h.0 ∙ e in cc)
-
-part_some : {X : Type 0} (o : Option X) (is_added : Bool) (P : X → Type 0) → is_added ≡ true → MatchOption o (is_added ≡ false) (λ x. (is_added ≡ true) × P x) → (x : X) × (o ≡ Some x) × P x
-part_some None is_added P e h = absurd (let w : true ≡ false = sym e ∙ h in cc)
-part_some (Some x) is_added P e h = (x, refl, h.1)
+-- ---- a part that is read, or not
 
 -- the text was cut at its first comma
 abbrev pub IsCut : List ℕ → List ℕ → List ℕ → Type 0
 IsCut text part behind = (part ≡ before_first (λ b. b == 44) text) × (behind ≡ after_first (λ b. b == 44) text) × (position_or_len (λ b. b == 44) text < length text)
 
-pub next_added : {X : Type 0} (read : List ℕ → Option X) (text : List ℕ) (list more : List X) (rest part behind : List ℕ) (is_added : Bool) → IsUtf8 behind → IsCut rest part behind → is_added ≡ true
-    → MatchOption (read part) (is_added ≡ false) (λ x. (is_added ≡ true) × (more ≡ list ++ x ∷ [])) → Read read text list rest → Read read text more behind
-next_added read text list more rest part behind is_added is_text (before, after, within) e added was =
-    let (x, is, grown) = part_some (read part) is_added (λ x. more ≡ list ++ x ∷ []) e added in
+pub next_read : {X : Type 0} (read : List ℕ → Option X) (text : List ℕ) (list more : List X) (rest part behind : List ℕ) (x : X) → IsUtf8 behind → IsCut rest part behind → read part ≡ Some x
+    → more ≡ list ++ x ∷ [] → Read read text list rest → Read read text more behind
+next_read read text list more rest part behind x is_text (before, after, within) is grown was =
     one_read read text list more rest part behind x is_text (first_part rest part behind within before after) is grown was
 
-pub next_refused : {X : Type 0} (read : List ℕ → Option X) (text : List ℕ) (list more : List X) (rest part behind : List ℕ) (is_added : Bool) → IsCut rest part behind → is_added ≡ false
-    → MatchOption (read part) (is_added ≡ false) (λ x. (is_added ≡ true) × (more ≡ list ++ x ∷ [])) → Read read text list rest → each_read read (parts_of text) ≡ None
-next_refused read text list more rest part behind is_added (before, after, within) e added was =
-    not_read read text list rest part (parts_of behind) (first_part rest part behind within before after) (part_none (read part) is_added (λ x. more ≡ list ++ x ∷ []) e added) was
+pub next_refused : {X : Type 0} (read : List ℕ → Option X) (text : List ℕ) (list : List X) (rest part behind : List ℕ) → IsCut rest part behind → read part ≡ None
+    → Read read text list rest → each_read read (parts_of text) ≡ None
+next_refused read text list rest part behind (before, after, within) none was =
+    not_read read text list rest part (parts_of behind) (first_part rest part behind within before after) none was
 
-pub last_added : {X : Type 0} (read : List ℕ → Option X) (text : List ℕ) (list more : List X) (rest : List ℕ) (is_added : Bool) → position_or_len (λ b. b == 44) rest ≡ length rest → is_added ≡ true
-    → MatchOption (read rest) (is_added ≡ false) (λ x. (is_added ≡ true) × (more ≡ list ++ x ∷ [])) → Read read text list rest → each_read read (parts_of text) ≡ Some more
-last_added read text list more rest is_added whole e added was =
-    let (x, is, grown) = part_some (read rest) is_added (λ x. more ≡ list ++ x ∷ []) e added in
-    last_read read text list more rest x (one_part rest whole) is grown was
+pub all_read : {X : Type 0} (read : List ℕ → Option X) (text : List ℕ) (list more : List X) (rest : List ℕ) (x : X) → position_or_len (λ b. b == 44) rest ≡ length rest → read rest ≡ Some x
+    → more ≡ list ++ x ∷ [] → Read read text list rest → each_read read (parts_of text) ≡ Some more
+all_read read text list more rest x whole is grown was = last_read read text list more rest x (one_part rest whole) is grown was
 
-pub last_refused : {X : Type 0} (read : List ℕ → Option X) (text : List ℕ) (list more : List X) (rest : List ℕ) (is_added : Bool) → position_or_len (λ b. b == 44) rest ≡ length rest → is_added ≡ false
-    → MatchOption (read rest) (is_added ≡ false) (λ x. (is_added ≡ true) × (more ≡ list ++ x ∷ [])) → Read read text list rest → each_read read (parts_of text) ≡ None
-last_refused read text list more rest is_added whole e added was =
-    not_read read text list rest rest [] (one_part rest whole) (part_none (read rest) is_added (λ x. more ≡ list ++ x ∷ []) e added) was
+pub last_refused : {X : Type 0} (read : List ℕ → Option X) (text : List ℕ) (list : List X) (rest : List ℕ) → position_or_len (λ b. b == 44) rest ≡ length rest → read rest ≡ None
+    → Read read text list rest → each_read read (parts_of text) ≡ None
+last_refused read text list rest whole none was = not_read read text list rest rest [] (one_part rest whole) none was

@@ -1,3 +1,5 @@
 pub mod Parts
 pub mod Columns
 pub mod Forward
+pub mod Ferries
+pub mod Groups

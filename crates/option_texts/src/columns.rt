@@ -6,13 +6,10 @@ ghost use Rattle.option_texts.specs.Columns.{digit_of, column_with, column_of, c
 ghost use Rattle.option_texts.specs.Parts.{parts_of};
 ghost use Rattle.option_texts.specs.declared.columns.NamedColumn.{NamedColumn as ColumnSeen};
 
-use crate::parts::{is_name, trimmed};
+use crate::parts::{Part, has_few_parts, is_name, read_all, trimmed};
 use file_devices::Name;
 use std::alloc::{AllocError, Global};
 use std::marker::Model;
-
-/// The most columns of a list.
-const MOST_COLUMNS: usize = 64;
 
 /// A column of a list.
 #[derive(Drop)]
@@ -69,7 +66,7 @@ impl NamedColumns {
 
 /// A column whose name lies in the text.
 #[derive(Clone, Copy)]
-struct Part<'a> {
+struct Cell<'a> {
     name: &'a str,
     places: Option<u32>,
 }
@@ -85,19 +82,19 @@ fn read_digit(text: &str) -> Option<u32>
 }
 
 /// A column with this name, where it is one.
-fn with_name<'a>(name: &'a str, places: Option<u32>) -> Option<Part<'a>>
+fn with_name<'a>(name: &'a str, places: Option<u32>) -> Option<Cell<'a>>
     ensures { MatchOption result (column_with name.now places ≡ None)
         (λ c. column_with name.now places ≡ Some (record { name = c.name.now; places = c.places })) }
 {
     if is_name(name) {
-        Some(Part { name, places })
+        Some(Cell { name, places })
     } else {
         None
     }
 }
 
 /// The column that a part stands for.
-fn read_part<'a>(part: &'a str) -> Option<Part<'a>>
+fn read_part<'a>(part: &'a str) -> Option<Cell<'a>>
     ensures { MatchOption result (column_of part.now ≡ None)
         (λ c. column_of part.now ≡ Some (record { name = c.name.now; places = c.places })) }
 {
@@ -114,13 +111,6 @@ fn is_column(part: &str) -> bool
     ensures { result ≡ is_some (column_of part.now) }
 {
     read_part(part).is_some()
-}
-
-/// Whether a text has no more parts than there may be columns.
-fn has_few_parts(text: &str) -> bool
-    ensures { result ≡ nat_le (length (parts_of text.now)) 64 }
-{
-    text.split(',').count() <= MOST_COLUMNS
 }
 
 /// Whether each part of a text stands for a column.
@@ -140,17 +130,16 @@ pub fn is_columns(text: &str) -> bool
     has_few_parts(text) && are_columns(text)
 }
 
-/// Adds the column that a part stands for, or answers that it stands for none.
-fn add_column(alloc: Global, part: &str, columns: &mut Vec<NamedColumn>) -> Result<bool, AllocError>
-    ensures { IfOk result (λ is_column. MatchOption (column_of part.now) (is_column ≡ false)
-        (λ c. (is_column ≡ true) × (columns.new.items ≡ columns.old.items ++ c ∷ []))) }
-{
-    let Some(Part { name, places }) = read_part(part) else {
-        return Ok(false);
-    };
-    let name = Name::new(String::from_str(alloc, name)?);
-    columns.push(NamedColumn { name, places })?;
-    Ok(true)
+impl Part for NamedColumn {
+    ghost read = { column_of };
+
+    fn read(alloc: Global, part: &str) -> Result<Option<NamedColumn>, AllocError> {
+        let Some(Cell { name, places }) = read_part(part) else {
+            return Ok(None);
+        };
+        let name = Name::new(String::from_str(alloc, name)?);
+        Ok(Some(NamedColumn { name, places }))
+    }
 }
 
 /// The columns that a text lists, or `None` where it doesn't list any, as `is_columns` says.
@@ -160,16 +149,8 @@ pub fn columns_of(alloc: Global, text: &str) -> Result<Option<NamedColumns>, All
     if !has_few_parts(text) {
         return Ok(None);
     }
-    let mut columns = Vec::new(alloc);
-    let mut rest = text;
-    while let Some((part, behind)) = rest.split_once(',') {
-        if !add_column(alloc, part, &mut columns)? {
-            return Ok(None);
-        }
-        rest = behind;
+    match read_all(alloc, text)? {
+        Some(items) => Ok(Some(NamedColumns { items })),
+        None => Ok(None),
     }
-    if !add_column(alloc, rest, &mut columns)? {
-        return Ok(None);
-    }
-    Ok(Some(NamedColumns { items: columns }))
 }

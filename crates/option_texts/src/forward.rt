@@ -3,7 +3,7 @@
 ghost use Rattle.std.specs.Prelude.{◌≡◌, ◌++◌, ◌∷◌, [], ℕ, List, false, true, MatchOption, IfOk, is_some, bytes_eq};
 ghost use Rattle.option_texts.specs.Forward.{is_field, field_of, forward_of};
 
-use crate::parts::trimmed;
+use crate::parts::{Part, read_all, trimmed};
 use file_devices::Name;
 use std::alloc::{AllocError, Global};
 use std::marker::Model;
@@ -74,33 +74,24 @@ pub fn is_forward(text: &str) -> bool
     text.split(',').all(|part| is_field(trimmed(part)))
 }
 
-/// Adds the field that a part names, or answers that it names none.
-fn add_field(alloc: Global, part: &str, names: &mut Vec<Name>) -> Result<bool, AllocError>
-    ensures { IfOk result (λ is_field. MatchOption (field_of part.now) (is_field ≡ false)
-        (λ n. (is_field ≡ true) × (names.new.items ≡ names.old.items ++ n ∷ []))) }
-{
-    let name = trimmed(part);
-    if !is_field(name) {
-        return Ok(false);
+impl Part for Name {
+    ghost read = { field_of };
+
+    fn read(alloc: Global, part: &str) -> Result<Option<Name>, AllocError> {
+        let name = trimmed(part);
+        if !is_field(name) {
+            return Ok(None);
+        }
+        Ok(Some(Name::new(String::from_str(alloc, name)?)))
     }
-    names.push(Name::new(String::from_str(alloc, name)?))?;
-    Ok(true)
 }
 
 /// The names that a text lists, without the spaces around them, or `None` where it doesn't list any, as `is_forward` says.
 pub fn forward_of(alloc: Global, text: &str) -> Result<Option<NameList>, AllocError>
     ensures { IfOk result (λ names. names ≡ forward_of text.now) }
 {
-    let mut names = Vec::new(alloc);
-    let mut rest = text;
-    while let Some((part, behind)) = rest.split_once(',') {
-        if !add_field(alloc, part, &mut names)? {
-            return Ok(None);
-        }
-        rest = behind;
+    match read_all(alloc, text)? {
+        Some(items) => Ok(Some(NameList { items })),
+        None => Ok(None),
     }
-    if !add_field(alloc, rest, &mut names)? {
-        return Ok(None);
-    }
-    Ok(Some(NameList { items: names }))
 }

@@ -1,9 +1,14 @@
 //! Parts of a list in a text.
 
-ghost use Rattle.std.specs.Prelude.{◌≡◌, ◌||◌, ◌==◌};
+ghost use Rattle.std.specs.Prelude.{◌≡◌, ◌||◌, ◌==◌, option_map, nat_le, length, IfOk};
 ghost use Rattle.std.specs.List.{list_all};
 ghost use Rattle.std.specs.Char.{is_ascii_alphanumeric};
-ghost use Rattle.option_texts.specs.Parts.{trimmed, is_name};
+ghost use Rattle.option_texts.specs.Parts.{trimmed, is_name, parts_of, each_read};
+
+use std::alloc::{AllocError, Global};
+
+/// The most parts of a list whose parts are counted.
+const MOST_PARTS: usize = 64;
 
 /// What may stand between the tokens of a list.
 const SPACES: [char; 4] = [' ', '\t', '\n', '\r'];
@@ -34,4 +39,42 @@ pub(crate) fn is_name(text: &str) -> bool
         }
         [] => false,
     }
+}
+
+/// Whether a text has at most 64 parts.
+pub(crate) fn has_few_parts(text: &str) -> bool
+    ensures { result ≡ nat_le (length (parts_of text.now)) 64 }
+{
+    text.split(',').count() <= MOST_PARTS
+}
+
+/// What a part of a list stands for.
+pub(crate) trait Part: Sized + Drop {
+    ghost use Rattle.std.specs.Prelude.{ℕ, List, Option, IfOk};
+
+    ghost read: { List ℕ → Option Self };
+
+    /// What this part stands for, where it stands for something. Refused only where memory is wanting.
+    fn read(alloc: Global, part: &str) -> Result<Option<Self>, AllocError>
+        ensures { IfOk result (λ o. o ≡ read part.now) };
+}
+
+/// What the parts of a text stand for, where each stands for something. Refused only where memory is wanting.
+pub(crate) fn read_all<P: Part>(alloc: Global, text: &str) -> Result<Option<Vec<P>>, AllocError>
+    ensures { IfOk result (λ o. option_map (λ list. list.items) o ≡ each_read P.read (parts_of text.now)) }
+{
+    let mut list = Vec::new(alloc);
+    let mut rest = text;
+    while let Some((part, behind)) = rest.split_once(',') {
+        match P::read(alloc, part)? {
+            Some(read) => list.push(read)?,
+            None => return Ok(None),
+        }
+        rest = behind;
+    }
+    match P::read(alloc, rest)? {
+        Some(read) => list.push(read)?,
+        None => return Ok(None),
+    }
+    Ok(Some(list))
 }

@@ -1,6 +1,8 @@
 //! Texts of options that are lists.
 
-use option_texts::{NamedColumn, columns_of, forward_of, is_columns, is_forward};
+use option_texts::{
+    Groups, NamedColumn, columns_of, ferries_of, forward_of, groups_of, is_columns, is_forward,
+};
 use std::alloc::{AllocError, Global};
 
 /// Texts, and the columns that they are read as, each with a bar behind it.
@@ -33,6 +35,37 @@ const FIELDS: [(&str, &str); 8] = [
     ("scales", "refused"),
     ("scale,", "refused"),
     ("", "refused"),
+];
+
+/// Texts, and the ferries that they are read as, each with a bar behind it.
+const FERRIES: [(&str, &str); 14] = [
+    ("X=>A", "X>A|"),
+    (" X => A , Y=>\t_b1\n", "X>A|Y>_b1|"),
+    ("X=>X,x=>x", "X>X|x>x|"),
+    ("X= >A", "refused"),
+    ("X=A", "refused"),
+    ("X>A", "refused"),
+    ("X=>A=>B", "refused"),
+    ("X==>A", "refused"),
+    ("=>A", "refused"),
+    ("X=>", "refused"),
+    ("X=>1A", "refused"),
+    ("X=>A,", "refused"),
+    ("X Y=>A", "refused"),
+    ("", "refused"),
+];
+
+/// Texts, and whether the first, the last, those between and single returns are named; None where the text is refused.
+const GROUPS: [(&str, Option<[bool; 4]>); 9] = [
+    ("first", Some([true, false, false, false])),
+    (" last\n", Some([false, true, false, false])),
+    ("intermediate,only", Some([false, false, true, true])),
+    ("only , first,only", Some([true, false, false, true])),
+    ("First", None),
+    ("first last", None),
+    ("first,", None),
+    ("single", None),
+    ("", None),
 ];
 
 /// Adds a column, with a bar behind it.
@@ -68,6 +101,42 @@ fn shown_fields(alloc: Global, text: &str) -> Result<String, AllocError> {
         shown.push('|')?;
     }
     Ok(shown)
+}
+
+/// The ferries of a text, each with a bar behind it.
+fn shown_ferries(alloc: Global, text: &str) -> Result<String, AllocError> {
+    let Some(ferries) = ferries_of(alloc, text)? else {
+        return String::from_str(alloc, "refused");
+    };
+    let mut shown = String::new(alloc);
+    for ferry in ferries.as_slice() {
+        shown.push_str(ferry.from.as_str())?;
+        shown.push('>')?;
+        shown.push_str(ferry.to.as_str())?;
+        shown.push('|')?;
+    }
+    Ok(shown)
+}
+
+fn shown_groups(groups: Groups) -> [bool; 4] {
+    [groups.first, groups.last, groups.intermediate, groups.only]
+}
+
+#[test]
+fn ferries_are_read(rt: HostRuntime) -> Result<(), AllocError> {
+    for (text, expected) in FERRIES {
+        let shown = shown_ferries(rt.alloc(), text)?;
+        assert_eq!(rt; shown.as_str(), expected, "{text}");
+    }
+    Ok(())
+}
+
+#[test]
+fn groups_are_read(rt: HostRuntime) {
+    for (text, expected) in GROUPS {
+        let shown = groups_of(text).map(|groups| shown_groups(groups));
+        assert_eq!(rt; shown, expected, "{text}");
+    }
 }
 
 #[test]

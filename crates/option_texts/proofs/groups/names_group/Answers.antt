@@ -1,0 +1,9 @@
+use Rattle.std.proofs.Common.{lit<, rules, bytes_eq}
+use Rattle.std.proofs.lemmas.Iterator.Search.{any_from_yields_List}
+use Rattle.std.proofs.lemmas.Iterator.Splits.{YieldsList-from_str_split}
+use Rattle.option_texts.specs.Parts.{trimmed}
+use Rattle.option_texts.proofs.groups.names_group.Goals as goal
+
+pub returns : goal.returns
+returns c = any_from_yields_List (λ part. bytes_eq (trimmed part) c.args.group.now) _ _ _ c.any.ensures.ran
+    (YieldsList-from_str_split 44 c.args.text.now (lit< tt) c.split.ensures.text c.split.ensures.has_more c.split.ensures.pattern) (λ x b q k. search rules)
