@@ -1,0 +1,4 @@
+pub mod Extents
+pub mod Limits
+pub mod Rectangles
+pub mod Tests

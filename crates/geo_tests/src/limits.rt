@@ -1,0 +1,85 @@
+//! Limits of dimensions.
+
+ghost use Rattle.std.specs.Prelude.{◌≡◌, ◌||◌};
+ghost use Rattle.std.specs.List.{list_all};
+ghost use Rattle.cloud_points.specs.Layouts.{holds};
+ghost use Rattle.cloud_points.specs.declared.dims.Dim.{Dim as Dimension};
+ghost use Rattle.geo_tests.specs.Limits.{is_within, one_holds, in_limits};
+
+use crate::intervals::in_interval;
+use cloud_points::{Dim, Layout, Point};
+use limits_text::Interval;
+use std::marker::Model;
+
+/// An interval for the values of a dimension.
+#[derive(Clone, Copy, Debug, PartialEq, Eq)]
+pub struct Limit {
+    /// The dimension.
+    pub dim: Dim,
+
+    /// The values.
+    pub interval: Interval,
+}
+
+/// Limits, which contracts see as their list.
+#[derive(Drop)]
+pub struct Limits {
+    items: Vec<Limit>,
+}
+
+impl Model for Limits {
+    ghost use Rattle.std.specs.Prelude.{List};
+    ghost use Rattle.geo_tests.specs.declared.limits.Limit.{Limit as LimitSeen};
+
+    ghost Value = { List LimitSeen };
+
+    ghost view = { λ l. l.items.items };
+}
+
+/// Puts the dimension of a limit into a set, where the limit holds at a point.
+fn add_within(within: &mut Layout, limit: &Limit, p: &Point)
+    ensures { (dim : Dimension) → holds within.new dim ≡ (is_within p.now dim limit.now || holds within.old dim) }
+{
+    if in_interval(p.get(limit.dim), &limit.interval) {
+        within.add(limit.dim);
+    }
+}
+
+/// The dimensions of which a limit holds at a point.
+fn dims_within(limits: &[Limit], p: &Point) -> Layout
+    ensures { (dim : Dimension) → holds result dim ≡ one_holds limits.now p.now dim }
+{
+    let mut within = Layout::none();
+    for limit in limits {
+        add_within(&mut within, limit, p);
+    }
+    within
+}
+
+/// Whether the dimension of each limit is in a set.
+fn has_all(limits: &[Limit], dims: &Layout) -> bool
+    ensures { result ≡ list_all (λ a. holds dims.now a.dim) limits.now }
+{
+    for limit in limits {
+        if !dims.has(limit.dim) {
+            return false;
+        }
+    }
+    true
+}
+
+impl Limits {
+    /// These limits. It takes no memory.
+    pub fn new(items: Vec<Limit>) -> Self
+        ensures { result ≡ items.items }
+    {
+        Limits { items }
+    }
+
+    /// Whether a point is within them: of each dimension that is named one of its limits holds.
+    pub fn hold(&self, p: &Point) -> bool
+        ensures { result ≡ in_limits p.now self.now }
+    {
+        has_all(&self.items, &dims_within(&self.items, p))
+    }
+}

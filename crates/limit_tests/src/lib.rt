@@ -1,0 +1,7 @@
+//! Tests of the texts of limits.
+#![tactic(auto)]
+
+#[cfg(test)]
+mod texts;
+#[cfg(test)]
+mod values;

@@ -1,0 +1,16 @@
+pub mod Held
+pub mod Words
+pub mod Follows
+pub mod Wrong
+pub mod Fronts
+pub mod Digits
+pub mod Behind
+pub mod Taken
+pub mod Pieces
+pub mod Points
+pub mod Boxes
+pub mod Rings
+pub mod Causes
+pub mod Ranges
+pub mod Texts
+pub mod Laws

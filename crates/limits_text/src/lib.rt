@@ -1,0 +1,21 @@
+//! Texts of limits: ranges, boxes, polygons and points.
+#![tactic(auto)]
+
+mod bounds;
+mod control;
+mod faults;
+mod laws;
+mod point;
+mod polygon;
+mod ranges;
+mod scan;
+mod shapes;
+mod steps;
+
+pub use bounds::parse_bounds;
+pub use faults::{TextErr, TextFault};
+pub use laws::{texts_are_read, texts_have_one_fault};
+pub use point::parse_point;
+pub use polygon::parse_polygon;
+pub use ranges::parse_ranges;
+pub use shapes::{Box3, Interval, NamedRange, Polygon, RangeList};
