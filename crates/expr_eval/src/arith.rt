@@ -1,10 +1,11 @@
 //! Sums, products and quotients of values in nanounits.
 
 ghost use Rattle.std.specs.Prelude.{◌≡◌, ◌≤◌, ◌^◌, ◌*ℤ◌, IfOk, IfErr, OnErr, unsigned_abs, pos, neg_ℤ, ◌≢◌};
-ghost use Rattle.expr_eval.specs.Values.{within_limit, product, quotient, rounded_quotient};
+ghost use Rattle.expr_eval.specs.Values.{within_limit, product, quotient, rounded_quotient, computed};
 
 use crate::nanos::rounded;
 use exact_numbers::half_away;
+use expr_lang::Op;
 
 /// Why an expression has no value at a point.
 #[derive(Clone, Copy, Debug, PartialEq, Eq, Drop)]
@@ -86,4 +87,20 @@ pub fn divide(x: i128, y: i128) -> Result<i128, ArithFault>
         return Err(ArithFault::DivideByZero);
     }
     limited(exact_quotient(x, y))
+}
+
+/// What an operation makes of two values. One that isn't of arithmetic makes 0.
+pub fn computed(op: Op, x: i128, y: i128) -> Result<i128, ArithFault>
+    requires left { unsigned_abs x ≤ 10 ^ 27 }
+    requires right { unsigned_abs y ≤ 10 ^ 27 }
+    ensures value { result ≡ computed op x y }
+    ensures small { IfOk result (λ r. unsigned_abs r ≤ 10 ^ 27) }
+{
+    match op {
+        Op::Plus => limited(x + y),
+        Op::Minus => limited(x - y),
+        Op::Times => multiply(x, y),
+        Op::Over => divide(x, y),
+        _ => Ok(0),
+    }
 }

@@ -41,14 +41,18 @@ fn boxed(alloc: Global, e: BoundTree) -> Result<Box<BoundTree>, AllocError>
     Ok(Box::new(alloc, e)?)
 }
 
-/// The dimension of a name, where it is one of the points' and its values are numbers.
-pub(crate) fn bind_name(
+/// The dimension of a name, without regard to the case of its letters.
+///
+/// Refused is one that is no dimension of the layout, which is `Unknown`, or is GpsTime, which is `NotNumeric`.
+#[tactic(auto, using(crate::proofs::Renamed::dim_bound))]
+pub fn bind_name(
     alloc: Global,
     name: &Name,
     layout: &Layout,
     names: &ExtraNames,
 ) -> Result<Dim, BindErr>
     ensures ok { IfOk result (λ d. bound_dim (holds layout.now) names.now name.now ≡ Ok d) }
+    ensures named { IfOk result (λ d. d ≡ dim_named names.now name.now) }
     ensures err { IfErr result (λ e. IsAnswered e (bound_dim (holds layout.now) names.now name.now)) }
 {
     match dim_of(name.as_str(), names) {

@@ -2,13 +2,19 @@
 
 ghost use Rattle.std.specs.Prelude.{◌≡◌, ◌≤◌, ◌^◌, IfOk, unsigned_abs};
 ghost use Rattle.expr_eval.specs.Trees.{formula_of};
-ghost use Rattle.expr_eval.specs.Values.{value_of, holds_at};
+ghost use Rattle.expr_eval.specs.Values.{value_of, holds_at, both, compares, computed, judged};
+ghost use Rattle.expr_lang.specs.Formula.{minus, not, binary};
 
-use crate::arith::{ArithFault, divide, limited, multiply};
+use crate::arith::{ArithFault, computed};
 use crate::bound::{Bound, BoundTree};
 use cloud_points::Point;
+use expr_lang::Op;
 
 /// The value of a tree at a point.
+///
+/// It is inlined where it is called, so that a leaf, as most operands are, is read without a call.
+#[inline(always)]
+#[cycle(values)]
 fn tree_value(e: &BoundTree, p: &Point) -> Result<i128, ArithFault>
     ensures value { result ≡ value_of (formula_of e.now) p.now }
     ensures small { IfOk result (λ v. unsigned_abs v ≤ 10 ^ 27) }
@@ -16,83 +22,105 @@ fn tree_value(e: &BoundTree, p: &Point) -> Result<i128, ArithFault>
     match e {
         BoundTree::Number(n) => Ok(*n as i128),
         BoundTree::Dim(dim) => Ok(p.get(*dim)),
-        BoundTree::Negative(a) => {
-            let x = tree_value(a, p)?;
-            Ok(-x)
-        }
-        BoundTree::Sum(a, b) => {
-            let x = tree_value(a, p)?;
-            let y = tree_value(b, p)?;
-            limited(x + y)
-        }
-        BoundTree::Difference(a, b) => {
-            let x = tree_value(a, p)?;
-            let y = tree_value(b, p)?;
-            limited(x - y)
-        }
-        BoundTree::Product(a, b) => {
-            let x = tree_value(a, p)?;
-            let y = tree_value(b, p)?;
-            multiply(x, y)
-        }
-        BoundTree::Quotient(a, b) => {
-            let x = tree_value(a, p)?;
-            let y = tree_value(b, p)?;
-            divide(x, y)
-        }
+        BoundTree::Negative(a) => negative_value(a, p),
+        BoundTree::Sum(a, b) => pair_value(Op::Plus, a, b, p),
+        BoundTree::Difference(a, b) => pair_value(Op::Minus, a, b, p),
+        BoundTree::Product(a, b) => pair_value(Op::Times, a, b, p),
+        BoundTree::Quotient(a, b) => pair_value(Op::Over, a, b, p),
         _ => Ok(0),
     }
 }
 
-/// Whether the condition of a tree holds at a point.
+/// The value of a negative.
+#[cycle(values)]
+fn negative_value(a: &BoundTree, p: &Point) -> Result<i128, ArithFault>
+    ensures value { result ≡ value_of (minus (formula_of a.now)) p.now }
+    ensures small { IfOk result (λ v. unsigned_abs v ≤ 10 ^ 27) }
+{
+    let x = tree_value(a, p)?;
+    Ok(-x)
+}
+
+/// The value of an operation on the values of two trees.
+#[cycle(values)]
+fn pair_value(op: Op, a: &BoundTree, b: &BoundTree, p: &Point) -> Result<i128, ArithFault>
+    ensures value { result ≡ both (value_of (formula_of a.now) p.now) (value_of (formula_of b.now) p.now) (computed op) }
+    ensures small { IfOk result (λ v. unsigned_abs v ≤ 10 ^ 27) }
+{
+    let x = tree_value(a, p)?;
+    let y = tree_value(b, p)?;
+    computed(op, x, y)
+}
+
+/// Whether a comparison holds of two values.
+fn compares(op: Op, x: i128, y: i128) -> bool
+    ensures { result ≡ compares op x y }
+{
+    match op {
+        Op::Equal => x == y,
+        Op::Different => x != y,
+        Op::AtMost => x <= y,
+        Op::AtLeast => y <= x,
+        Op::Below => x < y,
+        Op::Above => y < x,
+        _ => false,
+    }
+}
+
+/// Whether a comparison holds of the values of two trees.
+fn pair_holds(op: Op, a: &BoundTree, b: &BoundTree, p: &Point) -> Result<bool, ArithFault>
+    ensures { result ≡ judged op (formula_of a.now) (formula_of b.now) p.now }
+{
+    let x = tree_value(a, p)?;
+    let y = tree_value(b, p)?;
+    Ok(compares(op, x, y))
+}
+
+/// Whether the condition of a tree holds at a point. It is inlined as `tree_value` is.
+#[inline(always)]
+#[cycle(conditions)]
 fn tree_holds(e: &BoundTree, p: &Point) -> Result<bool, ArithFault>
     ensures { result ≡ holds_at (formula_of e.now) p.now }
 {
     match e {
-        BoundTree::Not(a) => {
-            let x = tree_holds(a, p)?;
-            Ok(!x)
-        }
-        BoundTree::Or(a, b) => {
-            let x = tree_holds(a, p)?;
-            if x { Ok(true) } else { tree_holds(b, p) }
-        }
-        BoundTree::And(a, b) => {
-            let x = tree_holds(a, p)?;
-            if x { tree_holds(b, p) } else { Ok(false) }
-        }
-        BoundTree::Equal(a, b) => {
-            let x = tree_value(a, p)?;
-            let y = tree_value(b, p)?;
-            Ok(x == y)
-        }
-        BoundTree::Different(a, b) => {
-            let x = tree_value(a, p)?;
-            let y = tree_value(b, p)?;
-            Ok(x != y)
-        }
-        BoundTree::AtMost(a, b) => {
-            let x = tree_value(a, p)?;
-            let y = tree_value(b, p)?;
-            Ok(x <= y)
-        }
-        BoundTree::AtLeast(a, b) => {
-            let x = tree_value(a, p)?;
-            let y = tree_value(b, p)?;
-            Ok(y <= x)
-        }
-        BoundTree::Below(a, b) => {
-            let x = tree_value(a, p)?;
-            let y = tree_value(b, p)?;
-            Ok(x < y)
-        }
-        BoundTree::Above(a, b) => {
-            let x = tree_value(a, p)?;
-            let y = tree_value(b, p)?;
-            Ok(y < x)
-        }
+        BoundTree::Not(a) => not_holds(a, p),
+        BoundTree::Or(a, b) => or_holds(a, b, p),
+        BoundTree::And(a, b) => and_holds(a, b, p),
+        BoundTree::Equal(a, b) => pair_holds(Op::Equal, a, b, p),
+        BoundTree::Different(a, b) => pair_holds(Op::Different, a, b, p),
+        BoundTree::AtMost(a, b) => pair_holds(Op::AtMost, a, b, p),
+        BoundTree::AtLeast(a, b) => pair_holds(Op::AtLeast, a, b, p),
+        BoundTree::Below(a, b) => pair_holds(Op::Below, a, b, p),
+        BoundTree::Above(a, b) => pair_holds(Op::Above, a, b, p),
         _ => Ok(false),
     }
+}
+
+/// Whether `!a` holds.
+#[cycle(conditions)]
+fn not_holds(a: &BoundTree, p: &Point) -> Result<bool, ArithFault>
+    ensures { result ≡ holds_at (not (formula_of a.now)) p.now }
+{
+    let x = tree_holds(a, p)?;
+    Ok(!x)
+}
+
+/// Whether `a || b` holds.
+#[cycle(conditions)]
+fn or_holds(a: &BoundTree, b: &BoundTree, p: &Point) -> Result<bool, ArithFault>
+    ensures { result ≡ holds_at (binary Op.Or (formula_of a.now) (formula_of b.now)) p.now }
+{
+    let x = tree_holds(a, p)?;
+    if x { Ok(true) } else { tree_holds(b, p) }
+}
+
+/// Whether `a && b` holds.
+#[cycle(conditions)]
+fn and_holds(a: &BoundTree, b: &BoundTree, p: &Point) -> Result<bool, ArithFault>
+    ensures { result ≡ holds_at (binary Op.And (formula_of a.now) (formula_of b.now)) p.now }
+{
+    let x = tree_holds(a, p)?;
+    if x { tree_holds(b, p) } else { Ok(false) }
 }
 
 /// The value of an expression at a point, in nanounits, or the first fault in the order of evaluation: operands go from left to
