@@ -6,12 +6,13 @@ use crate::parts::{assignments, condition, numbered, only, told};
 use cloud_points::{Dim, PointFault, StageFault};
 use std::alloc::Global;
 use std::rt::HostRuntime;
-use stream_filters::{Condition, Filter, Head, PointFilter};
+use stream_filters::{Condition, Decimation, Filter, Head, PointFilter};
 
 /// What a filter of a row does.
 #[derive(Clone, Copy)]
 enum Does {
     Head(u32),
+    Decimation(u32, u32, Option<u32>),
     Expression(&'static str),
     Assign(&'static str, &'static str),
     Merge,
@@ -31,9 +32,9 @@ struct Row {
 
 const REDS: [u16; 6] = [0, 1, 0, 1, 1, 0];
 
-/// The first two of the points that pass, and those that don't; of points that pass those for which a condition holds; each
+/// The first two of the points that pass, and those that don't; every so many of them; of points that pass those for which a condition holds; each
 /// assignment in its turn, where its own `where` holds.
-const ROWS: [Row; 12] = [
+const ROWS: [Row; 15] = [
     Row {
         does: Does::Head(2),
         only: None,
@@ -53,6 +54,27 @@ const ROWS: [Row; 12] = [
         only: None,
         reds: REDS,
         went: [0; 8],
+        fault: None,
+    },
+    Row {
+        does: Does::Decimation(2, 1, Some(5)),
+        only: None,
+        reds: REDS,
+        went: [200, 400, 0, 0, 0, 0, 0, 0],
+        fault: None,
+    },
+    Row {
+        does: Does::Decimation(2, 0, None),
+        only: Some("Red == 1"),
+        reds: REDS,
+        went: [100, 200, 300, 500, 600, 0, 0, 0],
+        fault: None,
+    },
+    Row {
+        does: Does::Decimation(0, 2, None),
+        only: None,
+        reds: REDS,
+        went: [300, 0, 0, 0, 0, 0, 0, 0],
         fault: None,
     },
     Row {
@@ -134,6 +156,14 @@ fn filter(alloc: Global, does: Does, text: Option<&str>) -> Option<Filter> {
     let only = only(alloc, text)?;
     match does {
         Does::Head(count) => Some(Filter::Head(PointFilter::new(Head { count }, only))),
+        Does::Decimation(step, offset, limit) => {
+            let rule = Decimation {
+                step,
+                offset,
+                limit,
+            };
+            Some(Filter::Decimation(PointFilter::new(rule, only)))
+        }
         Does::Expression(text) => {
             let rule = Condition(condition(alloc, text)?);
             Some(Filter::Expression(PointFilter::new(rule, only)))

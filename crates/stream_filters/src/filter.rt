@@ -5,9 +5,11 @@ ghost use Rattle.cloud_points.specs.Events.{is_device, IsOf};
 ghost use Rattle.stage_meanings.specs.Filtering.{filter_meaning};
 ghost use Rattle.stream_filters.specs.Kinds.{filtering_of, spot_of};
 
-use crate::{Condition, Head, PointFilter};
+use crate::{Condition, Crop, Decimation, Head, PointFilter};
 use cloud_points::{Spread, StageFault};
 use expr_eval::Assignments;
+use geo_tests::Limits;
+use option_texts::Groups;
 use stage_meanings::Spot;
 
 /// A filter.
@@ -15,6 +17,18 @@ use stage_meanings::Spot;
 pub enum Filter {
     /// The first points of each view go on.
     Head(PointFilter<Head>),
+
+    /// The points at every so many positions of each view go on.
+    Decimation(PointFilter<Decimation>),
+
+    /// The returns of some groups go on.
+    Returns(PointFilter<Groups>),
+
+    /// The points within its limits go on.
+    Range(PointFilter<Limits>),
+
+    /// The points of its shape go on, or those outside.
+    Crop(PointFilter<Crop>),
 
     /// The points for which its condition holds go on.
     Expression(PointFilter<Condition>),
@@ -41,6 +55,10 @@ impl Filter {
     {
         match self {
             Filter::Head(filter) => filter.on_chunk(points),
+            Filter::Decimation(filter) => filter.on_chunk(points),
+            Filter::Returns(filter) => filter.on_chunk(points),
+            Filter::Range(filter) => filter.on_chunk(points),
+            Filter::Crop(filter) => filter.on_chunk(points),
             Filter::Expression(filter) => filter.on_chunk(points),
             Filter::Assign(filter) => filter.on_chunk(points),
             Filter::Merge => None,
@@ -54,6 +72,10 @@ impl Filter {
     {
         match self {
             Filter::Head(filter) => filter.on_end_view(),
+            Filter::Decimation(filter) => filter.on_end_view(),
+            Filter::Returns(filter) => filter.on_end_view(),
+            Filter::Range(filter) => filter.on_end_view(),
+            Filter::Crop(filter) => filter.on_end_view(),
             Filter::Expression(filter) => filter.on_end_view(),
             Filter::Assign(filter) => filter.on_end_view(),
             Filter::Merge => return false,

@@ -3,11 +3,14 @@
 ghost use Rattle.std.specs.Prelude.{◌≡◌, ℕ, Result, Ok, Err, OnOk, IfOk, IfErr};
 ghost use Rattle.stage_meanings.specs.Filters.{Rule, keeps};
 ghost use Rattle.stage_meanings.specs.ByRule.{judged};
+ghost use Rattle.geo_tests.specs.Tests.{different};
 ghost use Rattle.stage_meanings.specs.Conditions.{passes};
-ghost use Rattle.stage_meanings.specs.Rules.{put, assigned};
+ghost use Rattle.stage_meanings.specs.Rules.{is_below, is_step, is_grouped, put, assigned};
 
 use cloud_points::{Dim, Point};
 use expr_eval::{Assignment, Assignments, Bound, holds, value};
+use geo_tests::{Limits, Shape};
+use option_texts::Groups;
 use stage_meanings::Reason;
 
 /// A rule by which a filter judges points one after the other.
@@ -38,6 +41,110 @@ impl PointRule for Head {
     fn judge(&self, place: u64, _p: &mut Point) -> Result<bool, Reason> {
         Ok(place < self.count as u64)
     }
+}
+
+/// Of each view the points at the positions `offset`, `offset + step` and so on go on.
+#[derive(Clone, Copy, Debug)]
+pub struct Decimation {
+    /// From one position to the next; 0 takes the first one alone.
+    pub step: u32,
+
+    /// The first position.
+    pub offset: u32,
+
+    /// No position from here on; None is all.
+    pub limit: Option<u32>,
+}
+
+impl Decimation {
+    /// Whether it takes the position.
+    fn takes(&self, place: u64) -> bool
+        ensures { result ≡ is_step self.now.step self.now.offset self.now.limit place }
+    {
+        let offset = self.offset as u64;
+        self.is_below_limit(place)
+            && offset <= place
+            && (place - offset).is_multiple_of(self.step as u64)
+    }
+
+    /// Whether the position is below the limit.
+    fn is_below_limit(&self, place: u64) -> bool
+        ensures { result ≡ is_below self.now.limit place }
+    {
+        match self.limit {
+            Some(limit) => place < limit as u64,
+            None => true,
+        }
+    }
+}
+
+impl PointRule for Decimation {
+    ghost use Rattle.stage_meanings.specs.Rules.{decimation};
+
+    ghost rule = { λ r. decimation r.step r.offset r.limit };
+
+    fn judge(&self, place: u64, _p: &mut Point) -> Result<bool, Reason> {
+        Ok(self.takes(place))
+    }
+}
+
+/// Whether return r of the n of a pulse is in one of these groups.
+fn is_grouped(groups: &Groups, n: u8, r: u8) -> bool
+    ensures { result ≡ is_grouped groups.now n r }
+{
+    if n <= 1 {
+        return groups.only && n == 1;
+    }
+    (groups.first && r == 1) || (groups.last && r == n) || (groups.intermediate && 1 < r && r < n)
+}
+
+/// The returns of these groups go on.
+impl PointRule for Groups {
+    ghost use Rattle.stage_meanings.specs.Rules.{returns};
+
+    ghost rule = { λ groups. returns groups };
+
+    fn judge(&self, _place: u64, p: &mut Point) -> Result<bool, Reason> {
+        Ok(is_grouped(self, p.number_of_returns, p.return_number))
+    }
+}
+
+/// The points within limits go on.
+impl PointRule for Limits {
+    ghost use Rattle.stage_meanings.specs.Rules.{range};
+
+    ghost rule = { λ limits. range limits };
+
+    fn judge(&self, _place: u64, p: &mut Point) -> Result<bool, Reason> {
+        Ok(self.hold(p))
+    }
+}
+
+/// The points in a shape go on, or those outside.
+#[derive(Drop)]
+pub struct Crop {
+    /// The shape.
+    pub shape: Shape,
+
+    /// Whether the points outside go on.
+    pub outside: bool,
+}
+
+impl PointRule for Crop {
+    ghost use Rattle.stage_meanings.specs.Rules.{crop};
+
+    ghost rule = { λ c. crop c.shape c.outside };
+
+    fn judge(&self, _place: u64, p: &mut Point) -> Result<bool, Reason> {
+        Ok(is_kept(self.outside, self.shape.holds(p)))
+    }
+}
+
+/// Whether a point goes on that is inside or not.
+fn is_kept(outside: bool, inside: bool) -> bool
+    ensures { result ≡ different outside inside }
+{
+    outside != inside
 }
 
 /// The points for which a condition holds go on.
