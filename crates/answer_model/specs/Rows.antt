@@ -1,25 +1,25 @@
 -- What each type of stage makes of whole flows: one row for each type. What it does with files is its role.
-use Rattle.std.specs.Prelude.{ℕ, Bool, false, List, [], map, option_map, Option, None}
-use Rattle.cloud_points.specs.declared.dims.Dim.{Dim}
+use Rattle.std.specs.Prelude.{ℕ, Bool, false, List, [], map, Option, None}
 use Rattle.cloud_points.specs.declared.point.Point.{Point}
 use Rattle.cloud_points.specs.declared.faults.PointFault.{PointFault}
 use Rattle.cloud_points.specs.Flows.{Flow}
 use Rattle.expr_lang.specs.Formula.{Formula}
 use Rattle.expr_eval.specs.Bindings.{assign_of}
-use Rattle.stage_options.specs.Binding.{bound}
+use Rattle.stage_options.specs.Binding.{bound, bound_where, limit_of}
+use Rattle.stage_options.specs.Ferries.{with_targets, ferries_bound}
 use Rattle.stage_options.specs.declared.options.Options.{Options}
-use Rattle.stage_options.specs.declared.options.Options.TheVariants.{ReadersLas, FiltersAssign, FiltersExpression, FiltersHead, FiltersMerge, WritersLas, WritersText}
+use Rattle.stage_options.specs.declared.options.Options.TheVariants.{ReadersLas, FiltersRange, FiltersCrop, FiltersAssign, FiltersFerry, FiltersExpression, FiltersDecimation, FiltersHead, FiltersReturns, FiltersMerge, WritersLas, WritersText}
 use Rattle.forward_rules.specs.Forwarded.{ReadFile, form_of}
 use Rattle.las_writer.specs.LasOutput.{las_output}
 use Rattle.las_writer.specs.Records.{written}
 use Rattle.stage_meanings.specs.Conditions.{passes}
 use Rattle.stage_meanings.specs.Filtering.{Filtering, By, Merge, filtered, filtered_stop}
 use Rattle.stage_meanings.specs.Filters.{Rule, is_true}
-use Rattle.stage_meanings.specs.Rules.{head, expression, assign, admitted}
+use Rattle.stage_meanings.specs.Rules.{range, crop, decimation, head, returns, expression, assign, admitted}
 use Rattle.stage_meanings.specs.Records.{unrecorded}
 use Rattle.stage_meanings.specs.declared.reason.Reason.{Reason}
 use Rattle.text_writer.specs.TextOutput.{text_output}
-use Rattle.answer_model.specs.Forms.{extra_names, text_form}
+use Rattle.answer_model.specs.Forms.{text_form}
 
 -- a type of stage
 pub record Row : Type 0 where
@@ -29,37 +29,42 @@ pub record Row : Type 0 where
   pub writes : Point → Bool
   pub bytes : List Point → List ℕ
 
--- the condition of a `where`, with dimensions in place of names
-abbrev pub where_of : Option (Formula (List ℕ)) → Option (Formula Dim)
-where_of only = option_map (bound extra_names) only
+-- where a stage stands: the extra names of the stages before it, and the files that are read below it
+pub record Setting : Type 0 where
+  pub names : List (List ℕ)
+  pub reads : List ReadFile
 
 -- a filter, which has no file
 abbrev pub filters : Filtering → Row
 filters f = record { filtering = f; writes = λ p. false; bytes = λ points. [] }
 
--- it judges by this rule the points for which a condition holds
-abbrev pub by : Rule Point Reason → Option (Formula (List ℕ)) → Row
-by rule only = filters (By rule (where_of only))
+-- it judges by this rule the points for which a condition holds, beside these extra names
+abbrev pub by : List (List ℕ) → Rule Point Reason → Option (Formula (List ℕ)) → Row
+by names rule only = filters (By rule (bound_where names only))
 
 -- a writer gives its points on, and writes those for which a condition holds; a point against which there is a reason has no place
 -- in its file
-abbrev pub writes : (Point → Option Reason) → (List Point → List ℕ) → Option (Formula (List ℕ)) → Row
-writes reason bytes only = record {
-  filtering = By (admitted reason) (where_of only);
-  writes = λ p. is_true (passes (where_of only) p);
+abbrev pub writes : List (List ℕ) → (Point → Option Reason) → (List Point → List ℕ) → Option (Formula (List ℕ)) → Row
+writes names reason bytes only = record {
+  filtering = By (admitted reason) (bound_where names only);
+  writes = λ p. is_true (passes (bound_where names only) p);
   bytes = bytes;
 }
 
--- the rows, by the options of a stage and the files that are read below it; a reader takes no flow,
--- so that its row says nothing
-abbrev pub row_of : Options → List ReadFile → Row
-row_of (ReadersLas o) reads = filters Merge
-row_of (FiltersAssign o) reads = by (assign (map (assign_of extra_names) o.assignments)) o.only
-row_of (FiltersExpression o) reads = by (expression (bound extra_names o.expression)) o.only
-row_of (FiltersHead o) reads = by (head o.count) o.only
-row_of (FiltersMerge o) reads = filters Merge
-row_of (WritersLas o) reads = writes (λ p. unrecorded (written (form_of o.fields reads) p)) (las_output (form_of o.fields reads)) o.only
-row_of (WritersText o) reads = writes (λ p. None) (text_output (text_form o)) o.only
+-- the rows, by the options of a stage and where it stands; a reader takes no flow, so that its row says nothing
+abbrev pub row_of : Options → Setting → Row
+row_of (ReadersLas o) s = filters Merge
+row_of (FiltersRange o) s = by s.names (range (map (limit_of s.names) o.limits)) o.only
+row_of (FiltersCrop o) s = by s.names (crop o.shape o.outside) o.only
+row_of (FiltersAssign o) s = by s.names (assign (map (assign_of s.names) o.assignments)) o.only
+row_of (FiltersFerry o) s = by (with_targets s.names o.ferries) (assign (ferries_bound s.names o.ferries)) o.only
+row_of (FiltersExpression o) s = by s.names (expression (bound s.names o.expression)) o.only
+row_of (FiltersDecimation o) s = by s.names (decimation o.step o.offset o.limit) o.only
+row_of (FiltersHead o) s = by s.names (head o.count) o.only
+row_of (FiltersReturns o) s = by s.names (returns o.groups) o.only
+row_of (FiltersMerge o) s = filters Merge
+row_of (WritersLas o) s = writes s.names (λ p. unrecorded (written (form_of o.fields s.reads) p)) (las_output (form_of o.fields s.reads)) o.only
+row_of (WritersText o) s = writes s.names (λ p. None) (text_output (text_form s.names o)) o.only
 
 -- the value of a stage on the flow that it takes, and its fault there
 abbrev pub value_on : Row → Flow Point → Flow Point

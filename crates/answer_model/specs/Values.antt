@@ -1,5 +1,5 @@
 -- What each stage of a tree gives on, and its fault, on whole flows.
-use Rattle.std.specs.Prelude.{◌≡◌, ℕ, ◌+◌, ◌<◌, Bool, true, false, cond, List, [], ◌∷◌, map, filter, flat_map, length, slice_index_or, Option, Some, None, option_map, Result, Ok, Err}
+use Rattle.std.specs.Prelude.{◌≡◌, ℕ, ◌+◌, ◌<◌, Bool, true, false, ◌||◌, cond, List, [], ◌∷◌, map, filter, flat_map, take, length, slice_index_or, Option, Some, None, option_map, Result, Ok, Err}
 use Rattle.std.proofs.Common.{zero, suc}
 use Rattle.std.specs.List.{range_with_len, list_any}
 use Rattle.cloud_points.specs.declared.dims.Dim.{Dim}
@@ -15,13 +15,13 @@ use Rattle.stage_names.specs.declared.faults.PipeFault.{PipeFault}
 use Rattle.stage_names.specs.declared.kinds.KindName.TheVariants as kind
 use Rattle.pipeline_json.specs.Lists.{has}
 use Rattle.stage_options.specs.Binding.{binding_fault}
+use Rattle.stage_options.specs.Ferries.{names_behind, adds}
 use Rattle.stage_options.specs.Roles.{Role, Writes, role_of, is_reading, target_of}
 use Rattle.stage_options.specs.declared.options.Options.{Options}
 use Rattle.stage_options.specs.declared.options.Options.TheVariants.{ReadersLas}
 use Rattle.stage_options.specs.declared.stage.StageSpec.{StageSpec}
 use Rattle.run_report.specs.declared.report.StageCount.{StageCount}
-use Rattle.answer_model.specs.Forms.{extra_names}
-use Rattle.answer_model.specs.Rows.{Row, row_of, value_on, fault_on}
+use Rattle.answer_model.specs.Rows.{Row, Setting, row_of, value_on, fault_on}
 
 -- a file that is read: what a writer may take over, and its points
 pub record LasFile : Type 0 where
@@ -60,21 +60,40 @@ reads_with stages opened k lists = cond (is_reading (role_at stages k)) ((opened
 abbrev pub reads_at : List StageSpec → Opened → ℕ → List ReadFile
 reads_at stages opened k = fold_at [] (reads_with stages opened) stages k
 
--- the dimensions of the points of stage k: a reader's those of its file's format, another stage's those of any input
+-- the extra names behind stages, and those of the stages before stage k
+abbrev pub names_after : List (List ℕ) → List StageSpec → List (List ℕ)
+names_after names [] = names
+names_after names (s ∷ later) = names_after (names_behind names s.options) later
+
+abbrev pub names_at : List StageSpec → ℕ → List (List ℕ)
+names_at stages k = names_after [] (take k stages)
+
+-- the dimensions of the points that stage k takes: a reader's those of its file's format, another stage's those of any input
+abbrev pub dims_joined : List StageSpec → Opened → ℕ → List (Dim → Bool) → Dim → Bool
+dims_joined stages opened k sets dim = cond (is_reading (role_at stages k)) (is_among dim (dims_of (opened k).read.values.format)) (list_any (λ set. set dim) sets)
+
+-- those of the points that it gives on: a ferry adds its targets
 abbrev pub dims_with : List StageSpec → Opened → ℕ → List (Dim → Bool) → Dim → Bool
-dims_with stages opened k sets dim = cond (is_reading (role_at stages k)) (is_among dim (dims_of (opened k).read.values.format)) (list_any (λ set. set dim) sets)
+dims_with stages opened k sets dim = dims_joined stages opened k sets dim || adds (names_at stages k) (options_at stages k) dim
 
 abbrev pub dims_at : List StageSpec → Opened → ℕ → Dim → Bool
 dims_at stages opened k = fold_at (λ dim. false) (dims_with stages opened) stages k
 
--- the fault of stage k's options, beside the points that it takes
+abbrev pub dims_taken : List StageSpec → Opened → ℕ → Dim → Bool
+dims_taken stages opened k dim = dims_joined stages opened k (map (dims_at stages opened) ((stage_at stages k).ins)) dim
+
+-- the fault of stage k's options, behind the extra names of the stages before it and beside the points that it takes
 abbrev pub unbound_at : List StageSpec → Opened → ℕ → Option PipeFault
-unbound_at stages opened k = binding_fault k extra_names (dims_at stages opened k) (options_at stages k)
+unbound_at stages opened k = binding_fault k (names_at stages k) (dims_taken stages opened k) (options_at stages k)
+
+-- where stage k stands
+abbrev pub setting_at : List StageSpec → Opened → ℕ → Setting
+setting_at stages opened k = record { names = names_at stages k; reads = reads_at stages opened k }
 
 -- ---- values
 
 abbrev pub row_at : List StageSpec → Opened → ℕ → Row
-row_at stages opened k = row_of (options_at stages k) (reads_at stages opened k)
+row_at stages opened k = row_of (options_at stages k) (setting_at stages opened k)
 
 -- what a stage gives on: a reader the flow of its file, another one its value on the flow that it takes
 abbrev pub value_of : Role → Row → Las → Flow Point → Flow Point

@@ -14,7 +14,7 @@ use Rattle.stage_kinds.specs.declared.stage_work.StageWork.TheVariants.{Reader, 
 use Rattle.stage_options.specs.declared.stage.StageSpec.{StageSpec}
 use Rattle.run_report.specs.declared.refusal.Refusal.{Refusal}
 use Rattle.run_report.specs.declared.refusal.Refusal.TheVariants as of
-use Rattle.answer_model.specs.Values.{reads_at}
+use Rattle.answer_model.specs.Values.{setting_at}
 use Rattle.answer_model.specs.Runs.{AreRead, opened_in, unless_unbound, run_with}
 use Rattle.answer_model.specs.Values.{evaluated}
 use Rattle.stage_runs.specs.Works.{AreAtStart}
@@ -34,7 +34,7 @@ pub are-at-start : {S K : Type 0} (s : source.Ghosts S) (k : sink.Ghosts K) (map
 are-at-start {S} {K} s k map stages readers forms works a b c are begun opened have i w e =
     let inside = slice_get_within works i w e in
     let form = some_at forms i (omega (arith, a, c, inside)) in
-    (begun i w e).start (reads_at stages opened i) (get_or_from_slice_get forms i form.0 Reads form.1 ∙ are opened have_readers i form.0 form.1)
+    (begun i w e).start (setting_at stages opened i) (get_or_from_slice_get forms i form.0 Reads form.1 ∙ are opened have_readers i form.0 form.1)
   where
     have_readers : HaveReaders readers opened
     have_readers j r f =

@@ -9,7 +9,7 @@ use Rattle.file_devices.specs.declared.devices.Op.TheVariants as op
 use Rattle.file_devices.specs.declared.devices.Source as source
 use Rattle.file_devices.specs.declared.devices.Sink as sink
 use Rattle.las_reader.specs.declared.reader.LasReader.{LasReader}
-use Rattle.forward_rules.specs.Forwarded.{ReadFile}
+use Rattle.answer_model.specs.Rows.{Setting}
 use Rattle.stage_forms.specs.Below.{AreReaders, HaveReaders}
 use Rattle.stage_kinds.specs.declared.file_form.StageForm.{StageForm}
 use Rattle.stage_kinds.specs.declared.stage_work.StageWork.{StageWork}
@@ -110,17 +110,20 @@ module _ {S : Type 0} (s : source.Ghosts S) (map : Option Names) (i : ℕ) where
 pub reader-work : {S K : Type 0} (s : source.Ghosts S) (k : sink.Ghosts K) (map : Option Names) (i : ℕ) (o : Options) (r : LasReader S) (form : StageForm) → IsOpened s map i (role_of o) (Some r) → IsWork s k map i o (Some r) form (Reader r)
 reader-work {S} {K} s k map i o r form is = record {
   same = refl;
-  start = λ reads e. reader-start s k.bytes o reads r (opened.0) (opened.1.start);
-  device = op-at-start s k.bytes o [] (Reader r) (reader-start s k.bytes o [] r (opened.0) (opened.1.start));
+  start = λ setting e. reader-start s k.bytes o setting r (opened.0) (opened.1.start);
+  device = op-at-start s k.bytes o nowhere (Reader r) (reader-start s k.bytes o nowhere r (opened.0) (opened.1.start));
   tells = λ m e q w. (let same : r ≡ q = cc in subst (λ (x : LasReader S). Tells s (λ j. holds m j (role_of o)) i x) same (opened.1.tells m e));
 }
   where
+    nowhere : Setting
+    nowhere = record { names = []; reads = [] }
+
     opened : (is_reading (role_of o) ≡ true) × IsReading s map i (role_of o) r
     opened = by-reader s map i (role_of o) r is
 
 -- a work that is no reader's is that of a stage that doesn't read
 pub other-work : {S K : Type 0} (s : source.Ghosts S) (k : sink.Ghosts K) (map : Option Names) (i : ℕ) (o : Options) (form : StageForm) (w : StageWork S K) → is_reading (role_of o) ≡ false
-    → op_of w ≡ op_for (role_of o) → ((reads : List ReadFile) → form ≡ form_for o reads → IsAtStart k.bytes o reads w) → IsWork s k map i o None form w
+    → op_of w ≡ op_for (role_of o) → ((setting : Setting) → form ≡ form_for o setting → IsAtStart k.bytes o setting w) → IsWork s k map i o None form w
 other-work {S} {K} s k map i o form w inner device start = record {
   same = no_reader w device;
   start = start;

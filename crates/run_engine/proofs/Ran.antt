@@ -25,7 +25,7 @@ use Rattle.run_report.specs.declared.refusal.Refusal.{Refusal}
 use Rattle.run_report.specs.declared.refusal.Refusal.TheVariants as of
 use Rattle.run_report.specs.declared.refusal.Place.TheVariants as at
 use Rattle.run_report.specs.declared.refusal.Fault.TheVariants as fault
-use Rattle.answer_model.specs.Values.{Opened, IsDown, stage_at, options_at, row_at, reads_at, stage_input, stage_fault, count_at, counts_of, least_fault}
+use Rattle.answer_model.specs.Values.{Opened, IsDown, stage_at, options_at, row_at, setting_at, stage_input, stage_fault, count_at, counts_of, least_fault}
 use Rattle.answer_model.proofs.Least.{least-at, least-nowhere}
 use Rattle.stage_runs.specs.Works.{as_works, AreNewStages, ReadersTell}
 use Rattle.stage_runs.proofs.Places.{mapped-at, map-at}
@@ -131,7 +131,7 @@ module _ {S K : Type 0} (s : source.Ghosts S) (k : sink.Ghosts K) (stages : List
               let is = stage-is stages i t e in
               same-count i t.kind ((stage_at stages i).kind) (up_to_limit m.views) _ (up_to_limit m.points) _ _ _
               (ap (λ (x : StageSpec). x.kind) (sym is)) g.views g.points
-              ((ends i m f).wrote (sound i m f) ∙ wrote-is (options_at stages i) (reads_at stages opened i) (points (stage_input stages opened i)))
+              ((ends i m f).wrote (sound i m f) ∙ wrote-is (options_at stages i) (setting_at stages opened i) (points (stage_input stages opened i)))
 
           count-is : (i : ℕ) → i < length counts → slice_get counts i ≡ slice_get (counts_of stages opened) i
           count-is i lt =
@@ -206,10 +206,10 @@ module _ {S K : Type 0} (faults : StageWork S K → ℕ) (old now new : List (St
     counted = c.counted;
     told = λ i w e writes.
         let v = some_at now i (let a = slice_get_within new i w e in let b = second.count in omega (arith, a, b)) in
-        let reads = reads_at stages opened i in
-        let (x, is) = writes-form (options_at stages i) reads writes in
+        let setting = setting_at stages opened i in
+        let (x, is) = writes-form (options_at stages i) setting writes in
         let ps = points (stage_input stages opened i) in
-        let row = writer-row (options_at stages i) reads x is in
+        let row = writer-row (options_at stages i) setting x is in
         subst (λ bs. IsAsTold (told_by bytes w) (Some bs)) (row.bytes (chosen x.only ps) ∙ ap ((row_at stages opened i).bytes) (row.chooses ps))
         (finished i v.0 w v.1 e x ps (c.held i v.0 v.1 x is));
   }

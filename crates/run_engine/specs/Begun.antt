@@ -7,7 +7,6 @@ use Rattle.las_reader.specs.declared.reader.LasReader.{LasReader}
 use Rattle.las_reader.specs.declared.reader.Progress.TheVariants.{Records}
 use Rattle.stage_kinds.specs.declared.stage_work.StageWork.{StageWork}
 use Rattle.stage_kinds.specs.declared.stage_work.StageWork.TheVariants.{Reader}
-use Rattle.forward_rules.specs.Forwarded.{ReadFile}
 use Rattle.stage_kinds.specs.declared.file_form.StageForm.{StageForm}
 use Rattle.stage_kinds.specs.declared.file_form.StageForm.TheVariants as form
 use Rattle.stage_kinds.specs.Files.{IsFileForm}
@@ -18,7 +17,8 @@ use Rattle.stage_forms.specs.Below.{HaveReaders}
 use Rattle.stage_options.specs.Roles.{Role, Reads, Filters, role_of, is_reading, is_writing}
 use Rattle.stage_options.specs.declared.options.Options.{Options}
 use Rattle.stage_options.specs.declared.stage.StageSpec.{StageSpec}
-use Rattle.answer_model.specs.Values.{Opened, options_at, role_at, reads_at, unbound_at, least_from}
+use Rattle.answer_model.specs.Rows.{Setting}
+use Rattle.answer_model.specs.Values.{Opened, options_at, role_at, setting_at, unbound_at, least_from}
 use Rattle.answer_model.specs.Runs.{holds, unread}
 use Rattle.stage_runs.specs.Works.{IsAtStart, form_for, op_for, Tells}
 
@@ -43,9 +43,9 @@ AreOpened {S} s map stages readers = (i : ℕ) (o : Option (LasReader S)) → sl
 
 -- ---- forms
 
--- what the works of the first stages are made of, as many as there are, by their options and the files of these readers
+-- what the works of the first stages are made of, as many as there are, by their options and where they stand, over the files of these readers
 abbrev pub AreForms : {S : Type 0} → List StageSpec → List (Option (LasReader S)) → List StageForm → Type 0
-AreForms {S} stages readers forms = (opened : Opened) → HaveReaders readers opened → (i : ℕ) (f : StageForm) → slice_get forms i ≡ Some f → f ≡ form_for (options_at stages i) (reads_at stages opened i)
+AreForms {S} stages readers forms = (opened : Opened) → HaveReaders readers opened → (i : ℕ) (f : StageForm) → slice_get forms i ≡ Some f → f ≡ form_for (options_at stages i) (setting_at stages opened i)
 
 -- a work made of this does what its stage does, and can write its file
 abbrev pub IsForm : Role → StageForm → Type 0
@@ -76,7 +76,7 @@ reader_of _ = None
 -- the work of stage i, which has these options, at its start: over its reader, or made of this; a reader's source tells its file
 pub record IsWork {S K : Type 0} (s : source.Ghosts S) (k : sink.Ghosts K) (map : Option Names) (i : ℕ) (o : Options) (reader : Option (LasReader S)) (form : StageForm) (w : StageWork S K) : Type 0 where
   pub same : reader_of w ≡ reader
-  pub start : (reads : List ReadFile) → form ≡ form_for o reads → IsAtStart k.bytes o reads w
+  pub start : (setting : Setting) → form ≡ form_for o setting → IsAtStart k.bytes o setting w
   pub device : op_of w ≡ op_for (role_of o)
   pub tells : (m : Names) → map ≡ Some m → (r : LasReader S) → w ≡ Reader r → Tells s (λ j. holds m j (role_of o)) i r
 

@@ -21,7 +21,7 @@ use Rattle.run_report.specs.declared.refusal.Fault.TheVariants as fault
 use Rattle.run_report.specs.declared.refusal.Place.TheVariants as at
 use Rattle.run_report.specs.declared.refusal.Refusal.{Refusal}
 use Rattle.run_report.specs.declared.refusal.Refusal.TheVariants as of
-use Rattle.answer_model.specs.Values.{Opened, options_at, role_at, row_at, reads_at, stage_input, written_at, least_fault, counts_of}
+use Rattle.answer_model.specs.Values.{Opened, options_at, role_at, row_at, setting_at, stage_input, written_at, least_fault, counts_of}
 use Rattle.stage_runs.specs.Ran.{HoldsAll}
 use Rattle.stage_runs.specs.Works.{form_for, Tells}
 
@@ -65,7 +65,7 @@ pub record UnfinishedAt {S K : Type 0} (faults : StageWork S K → ℕ) (old new
 pub record CameToEnd {S K : Type 0} (bytes : K → Option (List ℕ)) (stages : List StageSpec) (opened : Opened) (works : List (StageWork S K)) (counts : List StageCount) : Type 0 where
   pub sound : least_fault stages opened ≡ None
   pub counted : counts ≡ counts_of stages opened
-  pub held : (i : ℕ) (w : StageWork S K) → slice_get works i ≡ Some w → (x : Writing) → form_for (options_at stages i) (reads_at stages opened i) ≡ Writes x
+  pub held : (i : ℕ) (w : StageWork S K) → slice_get works i ≡ Some w → (x : Writing) → form_for (options_at stages i) (setting_at stages opened i) ≡ Writes x
       → HoldsAll bytes x (points (stage_input stages opened i)) w
 
 -- the same once the writers are finished: their sinks tell the bytes of their files

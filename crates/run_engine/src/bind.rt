@@ -1,10 +1,11 @@
 //! The names of dimensions are bound, and what the works of stages are made of is decided.
 
-ghost use Rattle.std.specs.Prelude.{◌≡◌, ◌≤◌, ◌<◌, length, All, None, IfOk, IfErr, OnOk};
+ghost use Rattle.std.specs.Prelude.{◌≡◌, ◌≤◌, ◌<◌, ◌||◌, length, All, None, IfOk, IfErr, OnOk};
 ghost use Rattle.cloud_points.specs.Layouts.{holds};
+ghost use Rattle.cloud_points.specs.declared.dims.Dim.{Dim};
 ghost use Rattle.pipeline_json.specs.Trees.{IsTree};
-ghost use Rattle.answer_model.specs.Forms.{extra_names};
 ghost use Rattle.stage_options.specs.Binding.{binding_fault};
+ghost use Rattle.stage_options.specs.Ferries.{names_behind, adds};
 ghost use Rattle.stage_options.specs.Roles.{role_of};
 ghost use Rattle.stage_options.specs.Shapes.{shapes};
 ghost use Rattle.stage_forms.specs.Below.{reads_in, AreReaders};
@@ -16,50 +17,47 @@ use cloud_points::ExtraNames;
 use file_devices::Source;
 use las_reader::LasReader;
 use run_report::Refusal;
-use stage_forms::{Below, below_all};
+use stage_forms::{Below, next_below};
 use stage_kinds::StageForm;
 use stage_names::PipeErr;
 use stage_options::{StageSpec, bind};
 use stage_runs::stage_form;
 use std::alloc::Global;
 
-/// Binds the names of dimensions in a stage's options, the stage with this number, and answers what its work is made of. Beside a
-/// name that isn't bound it is refused only where memory is wanting.
+/// Binds the names of dimensions in a stage's options, the stage with this number, and answers what its work is made of. What stood
+/// below it stands behind it then, with the dimensions that it adds. Beside a name that isn't bound it is refused only where memory
+/// is wanting.
 fn bind_stage<S: Source>(
     alloc: Global,
     stage: &StageSpec,
     number: u32,
-    below: &Below,
-    names: &ExtraNames,
+    below: &mut Below,
+    names: &mut ExtraNames,
     readers: &[Option<LasReader<S>>],
 ) -> Result<StageForm, Refusal>
-    requires names { names.now ≡ extra_names }
-    requires inside { All (λ j. j < length readers.now) below.now.readers.items }
-    ensures form { IfOk result (λ o. o ≡ form_for stage.now.options (reads_in readers.now below.now.readers.items)) }
+    requires inside { All (λ j. j < length readers.now) below.old.readers.items }
+    ensures form { IfOk result (λ o. o ≡ form_for stage.now.options (record { names = names.old; reads = reads_in readers.now below.old.readers.items })) }
     ensures fits { IfOk result (IsForm (role_of stage.now.options)) }
-    ensures bound { OnOk result (binding_fault number names.now (holds below.now.layout) stage.now.options ≡ None) }
-    ensures err { IfErr result (IsUnboundAt (binding_fault number names.now (holds below.now.layout) stage.now.options)) }
+    ensures names { OnOk result (names.new ≡ names_behind names.old stage.now.options) }
+    ensures layout { OnOk result ((dim : Dim) → holds below.new.layout dim ≡ (holds below.old.layout dim || adds names.old stage.now.options dim)) }
+    ensures readers { OnOk result (below.new.readers ≡ below.old.readers) }
+    ensures bound { OnOk result (binding_fault number names.old (holds below.old.layout) stage.now.options ≡ None) }
+    ensures err { IfErr result (IsUnboundAt (binding_fault number names.old (holds below.old.layout) stage.now.options)) }
 {
-    let bound = match bind(alloc, &stage.options, number, &below.layout, names) {
+    let bound = match bind(alloc, &stage.options, number, &mut below.layout, names) {
         Ok(bound) => bound,
         Err(PipeErr::Fault(fault)) => return Err(Refusal::Pipeline(fault)),
         Err(PipeErr::Memory) => return Err(Refusal::Memory),
     };
-    match stage_form(
-        alloc,
-        &stage.options,
-        bound,
-        readers,
-        below.readers.as_slice(),
-    ) {
+    let readers_below = below.readers.as_slice();
+    match stage_form(alloc, &stage.options, bound, names, readers, readers_below) {
         Ok(form) => Ok(form),
         Err(_) => Err(Refusal::Memory),
     }
 }
 
 /// Binds the names of dimensions in the options of a tree's stages, in their order, over their opened readers, and answers what
-/// each stage's work is made of. It is refused with the fault of the first stage that names a dimension which its points haven't,
-/// or GPS time in an expression, and else only where memory is wanting.
+/// each stage's work is made of. It is refused with the fault of the first stage that has one, and else only where memory is wanting.
 pub(crate) fn bind_stages<S: Source>(
     alloc: Global,
     stages: &[StageSpec],
@@ -75,18 +73,20 @@ pub(crate) fn bind_stages<S: Source>(
     ensures bound { OnOk result (AreNamesBound stages.now readers.now (length stages.now)) }
     ensures err { IfErr result (IsUnbound stages.now readers.now) }
 {
-    let Ok(belows) = below_all(alloc, stages, readers) else {
+    let Ok(mut belows) = Vec::with_capacity(alloc, stages.len()) else {
         return Err(Refusal::Memory);
     };
     let Ok(mut forms) = Vec::with_capacity(alloc, stages.len()) else {
         return Err(Refusal::Memory);
     };
-    let names = ExtraNames::none(alloc);
+    let mut names = ExtraNames::none(alloc);
     for i in 0..stages.len() {
-        match bind_stage(alloc, &stages[i], i as u32, &belows[i], &names, readers) {
-            Ok(form) => forms.push_reserved(form),
-            Err(refusal) => return Err(refusal),
-        }
+        let Ok(mut below) = next_below(alloc, stages, readers, belows.as_slice()) else {
+            return Err(Refusal::Memory);
+        };
+        let form = bind_stage(alloc, &stages[i], i as u32, &mut below, &mut names, readers)?;
+        forms.push_reserved(form);
+        belows.push_reserved(below);
     }
     Ok(forms)
 }

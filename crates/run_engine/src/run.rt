@@ -26,10 +26,9 @@ use std::alloc::Global;
 /// in the order of the stages; lets the points go through, finishes all writers' files and then keeps them in the order of the
 /// stages, and answers what each stage gave on. Every object that was handed out is given back.
 ///
-/// `Pipeline` comes only where a name is that of no dimension of the points, or GPS time in an expression, `Data` only where the
-/// files have that fault, `Device` only where the device failed or the file to read isn't there, `Memory` where there was none.
-/// After a refusal the files are as before; only where the keeping of a file failed or found no memory are those of the
-/// writers before it kept, and that one may be.
+/// `Pipeline` comes only where a name in the options of a stage isn't bound, `Data` only where the files have that fault, `Device`
+/// only where the device failed or the file to read isn't there, `Memory` where there was none. After a refusal the files are as
+/// before; only where the keeping of a file failed or found no memory are those of the writers before it kept, and that one may be.
 pub fn run_pipeline<F: Files>(
     alloc: Global,
     files: &mut F,

@@ -1,6 +1,6 @@
 -- What stands below a stage is what its definition says, by its reader or by its inputs.
 use Rattle.std.proofs.Common.{◌≡◌, ℕ, zero, suc, ◌<◌, Bool, true, false, ◌||◌, cond, List, [], ◌∷◌, ◌++◌, length, map, slice_get, Some, None, All, refl, ap, sym, subst, ◌∙◌, arith}
-use Rattle.std.specs.Prelude.{flat_map, Option}
+use Rattle.std.specs.Prelude.{flat_map, Option, Result, Ok, Err, IfOk}
 use Rattle.std.specs.List.{list_any}
 use Rattle.std.proofs.lemmas.Grind.{flat_map-append}
 use Rattle.std.proofs.lemmas.Option.{get_or_from_slice_get}
@@ -13,12 +13,13 @@ use Rattle.forward_rules.specs.Forwarded.{ReadFile}
 use Rattle.las_reader.specs.declared.reader.LasReader.{LasReader}
 use Rattle.pipeline_json.specs.Lists.{has}
 use Rattle.point_formats.specs.Layouts.{dims_of, is_among}
+use Rattle.stage_options.specs.Ferries.{adds}
 use Rattle.stage_options.specs.Roles.{is_reading}
 use Rattle.stage_options.specs.declared.stage.StageSpec.{StageSpec}
-use Rattle.answer_model.specs.Values.{Opened, IsDown, stage_at, role_at, reads_at, reads_with, dims_at, dims_with}
+use Rattle.answer_model.specs.Values.{Opened, IsDown, stage_at, role_at, options_at, reads_at, reads_with, dims_at, dims_with, names_at}
 use Rattle.answer_model.proofs.Values.{has-own, has-later, fold-inputs}
-use Rattle.stage_forms.specs.Below.{reads_in, HaveReaders, AreReaders, IsBelow}
-use Rattle.stage_forms.specs.Joined.{readers_in, dims_in, IsOwn, IsJoined, StandsBelow}
+use Rattle.stage_forms.specs.Below.{reads_in, HaveReaders, AreReaders, IsBelow, IsTaken}
+use Rattle.stage_forms.specs.Joined.{readers_in, dims_in, IsOwn, IsJoined, IsFound}
 use Rattle.stage_forms.specs.declared.below.Below.{Below}
 use Rattle.stage_forms.proofs.Files.{reads-append, read-one}
 
@@ -57,11 +58,19 @@ module _ {S : Type 0} (stages : List StageSpec) (readers : List (Option (LasRead
   dims-are : (i : ℕ) (dim : Dim) → dims_at stages opened i dim ≡ dims_with stages opened i (map (dims_at stages opened) ((stage_at stages i).ins)) dim
   dims-are i dim = ap (λ f. f dim) (fold-inputs (λ d. false) (dims_with stages opened) stages down i)
 
+  -- what stands below a stage stands behind it, with the dimensions that it adds
+  pub behind-stage : (i : ℕ) (b after : Below) → IsTaken stages readers opened i b → after.readers.items ≡ b.readers.items
+      → ((dim : Dim) → holds after.layout dim ≡ holds b.layout dim || adds (names_at stages i) (options_at stages i) dim) → IsBelow stages readers opened i after
+  behind-stage i b after is same dims = record {
+    reads = ap (reads_in readers) same ∙ is.reads;
+    dims = λ dim. dims dim ∙ ap (λ h. h || adds (names_at stages i) (options_at stages i) dim) (is.dims dim) ∙ sym (dims-are i dim);
+  }
+
   -- below a reader stands itself
-  own-below : (i : ℕ) (r : LasReader S) (b : Below) → slice_get readers i ≡ Some (Some r) → IsOwn i r.header.format b → IsBelow stages readers opened i b
+  own-below : (i : ℕ) (r : LasReader S) (b : Below) → slice_get readers i ≡ Some (Some r) → IsOwn i r.header.format b → IsTaken stages readers opened i b
   own-below i r b at own = record {
     reads = ap (reads_in readers) own.readers ∙ read-one readers i (Some r) at ∙ ap (λ f. f ∷ []) (sym (have i r at)) ∙ sym (reads-are i ∙ ap (λ c. cond c ((opened i).read ∷ []) (flat_map (λ list. list) (map (reads_at stages opened) ((stage_at stages i).ins)))) reading);
-    dims = λ dim. own.dims dim ∙ ap (λ (f : ReadFile). is_among dim (dims_of f.values.format)) (sym (have i r at)) ∙ sym (dims-are i dim ∙ ap (λ c. cond c (is_among dim (dims_of (opened i).read.values.format)) (list_any (λ set. set dim) (map (dims_at stages opened) ((stage_at stages i).ins)))) reading);
+    dims = λ dim. own.dims dim ∙ ap (λ (f : ReadFile). is_among dim (dims_of f.values.format)) (sym (have i r at)) ∙ sym (ap (λ c. cond c (is_among dim (dims_of (opened i).read.values.format)) (list_any (λ set. set dim) (map (dims_at stages opened) ((stage_at stages i).ins)))) reading);
   }
     where
       reading : is_reading (role_at stages i) ≡ true
@@ -86,14 +95,14 @@ module _ {S : Type 0} (stages : List StageSpec) (readers : List (Option (LasRead
 
   -- below another stage stands what stands below its inputs
   joined-below : (i : ℕ) (s : StageSpec) (b : Below) (belows : List Below) → slice_get readers i ≡ Some None → slice_get stages i ≡ Some s → length belows ≡ i
-      → ((j : ℕ) (c : Below) → slice_get belows j ≡ Some c → IsBelow stages readers opened j c) → IsJoined belows s.ins b → IsBelow stages readers opened i b
+      → ((j : ℕ) (c : Below) → slice_get belows j ≡ Some c → IsBelow stages readers opened j c) → IsJoined belows s.ins b → IsTaken stages readers opened i b
   joined-below i s b belows at stage count are joined = record {
     reads = ap (reads_in readers) joined.readers ∙ reads-joined belows s.ins (λ j h. ap (λ o. reads_in readers (readers_in o)) (input j h).1 ∙ (are j (input j h).0 (input j h).1).reads)
         ∙ ap (λ (t : StageSpec). flat_map (λ list. list) (map (reads_at stages opened) t.ins)) (sym is)
         ∙ sym (reads-are i ∙ ap (λ c. cond c ((opened i).read ∷ []) (flat_map (λ list. list) (map (reads_at stages opened) ((stage_at stages i).ins)))) reading);
     dims = λ dim. joined.dims dim ∙ dims-joined belows dim s.ins (λ j h. ap (λ o. dims_in o dim) (input j h).1 ∙ (are j (input j h).0 (input j h).1).dims dim)
         ∙ ap (λ (t : StageSpec). list_any (λ set. set dim) (map (dims_at stages opened) t.ins)) (sym is)
-        ∙ sym (dims-are i dim ∙ ap (λ c. cond c (is_among dim (dims_of (opened i).read.values.format)) (list_any (λ set. set dim) (map (dims_at stages opened) ((stage_at stages i).ins)))) reading);
+        ∙ sym (ap (λ c. cond c (is_among dim (dims_of (opened i).read.values.format)) (list_any (λ set. set dim) (map (dims_at stages opened) ((stage_at stages i).ins)))) reading);
   }
     where
       is : stage_at stages i ≡ s
@@ -112,7 +121,7 @@ module _ {S : Type 0} (stages : List StageSpec) (readers : List (Option (LasRead
 
   -- the next stage
   pub stands-below : (i : ℕ) (s : StageSpec) (o : Option (LasReader S)) (b : Below) (belows : List Below) → slice_get readers i ≡ Some o → slice_get stages i ≡ Some s → length belows ≡ i
-      → ((j : ℕ) (c : Below) → slice_get belows j ≡ Some c → IsBelow stages readers opened j c) → StandsBelow o i belows s.ins b → IsBelow stages readers opened i b
+      → ((j : ℕ) (c : Below) → slice_get belows j ≡ Some c → IsBelow stages readers opened j c) → IsFound o i belows s.ins b → IsTaken stages readers opened i b
   stands-below i s (Some r) b belows at stage count are own = own-below i r b at own
   stands-below i s None b belows at stage count are joined = joined-below i s b belows at stage count are joined
 
@@ -123,7 +132,7 @@ takes-earlier stages i s n down stage e = all-of-has (λ j. j < n) s.ins (λ j h
 -- ---- the readers' numbers
 
 pub stands-inside : {S : Type 0} (n i : ℕ) (o : Option (LasReader S)) (belows : List Below) (js : List ℕ) (b : Below) → i < n
-    → ((k : ℕ) (c : Below) → slice_get belows k ≡ Some c → All (λ j. j < n) c.readers.items) → StandsBelow o i belows js b → All (λ j. j < n) b.readers.items
+    → ((k : ℕ) (c : Below) → slice_get belows k ≡ Some c → All (λ j. j < n) c.readers.items) → IsFound o i belows js b → All (λ j. j < n) b.readers.items
 stands-inside n i (Some r) belows js b lt are own = subst (All (λ j. j < n)) (sym own.readers) (All-cons (λ j. j < n) i [] lt (All-nil (λ j. j < n)))
 stands-inside n i None belows js b lt are joined = subst (All (λ j. j < n)) (sym joined.readers) (each js)
   where
@@ -135,11 +144,9 @@ stands-inside n i None belows js b lt are joined = subst (All (λ j. j < n)) (sy
     each [] = All-nil (λ j. j < n)
     each (k ∷ ks) = All-append (λ j. j < n) (readers_in (slice_get belows k)) (flat_map (λ k. readers_in (slice_get belows k)) ks) (one (slice_get belows k) (are k)) (each ks)
 
--- ---- a list with one more
+-- ---- results
 
--- it holds of what is put behind a list
-pub each-push : {A : Type 0} (P : ℕ → A → Type 0) (xs : List A) (y : A) (n : ℕ) → length xs ≡ n → ((i : ℕ) (x : A) → slice_get xs i ≡ Some x → P i x) → P n y → (i : ℕ) (x : A) → slice_get (xs ++ y ∷ []) i ≡ Some x → P i x
-each-push P [] y n l h p zero x e = let same : y ≡ x = cc in subst (P zero) same (subst (λ m. P m y) (sym l) p)
-each-push P [] y n l h p (suc i) x e = cc
-each-push P (z ∷ xs) y n l h p zero x e = h zero x e
-each-push P (z ∷ xs) y n l h p (suc i) x e = each-push (λ j. P (suc j)) xs y (length xs) refl (λ j. h (suc j)) (subst (λ m. P m y) (sym l ∙ omega arith) p) i x e
+-- what holds of a value that is there holds of it by what follows from it
+pub if_ok : {V E : Type 0} (P Q : V → Type 0) (r : Result V E) → ((v : V) → P v → Q v) → IfOk r P → IfOk r Q
+if_ok P Q (Ok v) f h = f v h
+if_ok P Q (Err e) f h = tt

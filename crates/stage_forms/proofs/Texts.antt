@@ -14,9 +14,10 @@ use Rattle.text_writer.specs.declared.form.TextForm.{TextForm}
 abbrev pub form_with : TextOptions → List Column → List ℕ → TextForm
 form_with o columns delimiter = record { columns = columns; delimiter = delimiter; quote_header = o.quote_header; write_header = o.write_header }
 
-pub form-is : (o : TextOptions) (columns : List Column) (delimiter : List ℕ) → columns ≡ map (column_of o.precision) o.columns → delimiter ≡ o.delimiter → form_with o columns delimiter ≡ text_form o
+pub form-is : (names : List (List ℕ)) (o : TextOptions) (columns : List Column) (delimiter : List ℕ) → columns ≡ map (column_of names o.precision) o.columns → delimiter ≡ o.delimiter
+    → form_with o columns delimiter ≡ text_form names o
 unfolding text_form
-form-is o columns delimiter c d = ap (λ xs. form_with o xs delimiter) c ∙ ap (form_with o (map (column_of o.precision) o.columns)) d
+form-is names o columns delimiter c d = ap (λ xs. form_with o xs delimiter) c ∙ ap (form_with o (map (column_of names o.precision) o.columns)) d
 
 few_places : (precision : ℕ) (places : Option ℕ) → precision ≤ 9 → IfSome places (λ n. n ≤ 9) → unwrap_or places precision ≤ 9
 few_places precision None low near = low
@@ -26,10 +27,10 @@ map_length : {A B : Type 0} (f : A → B) (xs : List A) → length (map f xs) �
 map_length f [] = refl
 map_length f (x ∷ xs) = let r = map_length f xs in omega (arith, r)
 
-pub form-good : (o : TextOptions) → AreColumns o.columns → o.precision ≤ 9 → length o.delimiter ≤ 8 → IsTextForm (text_form o)
+pub form-good : (names : List (List ℕ)) (o : TextOptions) → AreColumns o.columns → o.precision ≤ 9 → length o.delimiter ≤ 8 → IsTextForm (text_form names o)
 unfolding text_form
-form-good o are low short = record {
-  columns = (let few = are.few in let n = map_length (column_of o.precision) o.columns in omega (arith, few, n));
+form-good names o are low short = record {
+  columns = (let few = are.few in let n = map_length (column_of names o.precision) o.columns in omega (arith, few, n));
   delimiter = short;
-  places = All-map (λ (c : Column). c.places ≤ 9) (column_of o.precision) o.columns (λ k d lt. few_places o.precision _ low (are.near k d lt));
+  places = All-map (λ (c : Column). c.places ≤ 9) (column_of names o.precision) o.columns (λ k d lt. few_places o.precision _ low (are.near k d lt));
 }

@@ -1,12 +1,12 @@
 -- What stands below the stages of a tree, by their opened readers.
-use Rattle.std.specs.Prelude.{◌≡◌, ℕ, List, [], ◌∷◌, flat_map, slice_get, slice_index_or, is_some, Option, Some, None}
+use Rattle.std.specs.Prelude.{◌≡◌, ℕ, ◌<◌, All, List, [], ◌∷◌, flat_map, slice_get, slice_index_or, is_some, Option, Some, None}
 use Rattle.cloud_points.specs.declared.dims.Dim.{Dim}
 use Rattle.cloud_points.specs.Layouts.{holds}
 use Rattle.forward_rules.specs.Forwarded.{ReadFile, read_file}
 use Rattle.las_reader.specs.declared.reader.LasReader.{LasReader}
 use Rattle.stage_options.specs.Roles.{is_reading}
 use Rattle.stage_options.specs.declared.stage.StageSpec.{StageSpec}
-use Rattle.answer_model.specs.Values.{Opened, role_at, reads_at, dims_at}
+use Rattle.answer_model.specs.Values.{Opened, role_at, reads_at, dims_at, dims_taken}
 use Rattle.stage_forms.specs.declared.below.Below.{Below}
 
 -- the file of a reader, as a writer may take it over
@@ -30,11 +30,23 @@ HaveReaders {S} readers opened = (i : ℕ) (r : LasReader S) → slice_get reade
 abbrev pub AreReaders : {S : Type 0} → List StageSpec → List (Option (LasReader S)) → Type 0
 AreReaders {S} stages readers = (i : ℕ) (o : Option (LasReader S)) → slice_get readers i ≡ Some o → is_some o ≡ is_reading (role_at stages i)
 
--- this stands below stage i: the files that are read there, and the dimensions of its points
+-- this stands below stage i: the files that are read there, and the dimensions of the points that it takes
+pub record IsTaken {S : Type 0} (stages : List StageSpec) (readers : List (Option (LasReader S))) (opened : Opened) (i : ℕ) (b : Below) : Type 0 where
+  pub reads : reads_in readers b.readers.items ≡ reads_at stages opened i
+  pub dims : (dim : Dim) → holds b.layout dim ≡ dims_taken stages opened i dim
+
+abbrev pub StandsBelow : {S : Type 0} → List StageSpec → List (Option (LasReader S)) → ℕ → Below → Type 0
+StandsBelow stages readers i b = (opened : Opened) → HaveReaders readers opened → IsTaken stages readers opened i b
+
+-- the same behind stage i, with the dimensions of the points that it gives on
 pub record IsBelow {S : Type 0} (stages : List StageSpec) (readers : List (Option (LasReader S))) (opened : Opened) (i : ℕ) (b : Below) : Type 0 where
   pub reads : reads_in readers b.readers.items ≡ reads_at stages opened i
   pub dims : (dim : Dim) → holds b.layout dim ≡ dims_at stages opened i dim
 
--- so it is at the first stages, as many as there are
+-- so it is behind the first stages, as many as there are
 abbrev pub AreBelow : {S : Type 0} → List StageSpec → List (Option (LasReader S)) → List Below → Type 0
 AreBelow {S} stages readers belows = (opened : Opened) → HaveReaders readers opened → (i : ℕ) (b : Below) → slice_get belows i ≡ Some b → IsBelow stages readers opened i b
+
+-- the numbers of readers are among so many
+abbrev pub AreInside : ℕ → List Below → Type 0
+AreInside n belows = (i : ℕ) (b : Below) → slice_get belows i ≡ Some b → All (λ j. j < n) b.readers.items

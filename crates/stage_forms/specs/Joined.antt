@@ -29,6 +29,6 @@ pub record IsJoined (belows : List Below) (inputs : List ℕ) (b : Below) : Type
   pub dims : (dim : Dim) → holds b.layout dim ≡ list_any (λ j. dims_in (slice_get belows j) dim) inputs
 
 -- one or the other
-abbrev pub StandsBelow : {S : Type 0} → Option (LasReader S) → ℕ → List Below → List ℕ → Below → Type 0
-StandsBelow (Some r) number belows inputs b = IsOwn number r.header.format b
-StandsBelow None number belows inputs b = IsJoined belows inputs b
+abbrev pub IsFound : {S : Type 0} → Option (LasReader S) → ℕ → List Below → List ℕ → Below → Type 0
+IsFound (Some r) number belows inputs b = IsOwn number r.header.format b
+IsFound None number belows inputs b = IsJoined belows inputs b

@@ -1,14 +1,10 @@
 //! What stands below a stage.
 
-ghost use Rattle.std.specs.Prelude.{◌≡◌, ◌<◌, ◌≤◌, ◌++◌, ◌||◌, ℕ, Some, true, false, All, IfOk, OnErr, flat_map, length, slice_get};
-ghost use Rattle.std.specs.List.{list_any};
-ghost use Rattle.cloud_points.specs.Layouts.{holds};
-ghost use Rattle.cloud_points.specs.declared.dims.Dim.{Dim};
-ghost use Rattle.pipeline_json.specs.Lists.{has};
+ghost use Rattle.std.specs.Prelude.{◌≡◌, ◌<◌, ◌≤◌, All, IfOk, length};
 ghost use Rattle.pipeline_json.specs.Trees.{IsTree};
 ghost use Rattle.stage_options.specs.Shapes.{shapes};
-ghost use Rattle.stage_forms.specs.Below.{AreReaders, AreBelow};
-ghost use Rattle.stage_forms.specs.Joined.{IsOwn, IsJoined, StandsBelow};
+ghost use Rattle.stage_forms.specs.Below.{AreReaders, AreBelow, AreInside, StandsBelow};
+ghost use Rattle.stage_forms.specs.Joined.{IsOwn, IsJoined, IsFound};
 
 use cloud_points::Layout;
 use file_devices::Source;
@@ -18,13 +14,13 @@ use point_formats::dims;
 use stage_options::StageSpec;
 use std::alloc::{AllocError, Global};
 
-/// What stands below a stage.
+/// What stands below a stage, or behind it.
 #[derive(Drop)]
 pub struct Below {
     /// The numbers of the readers from which its points come, in the order in which they come.
     pub readers: Vec<u32>,
 
-    /// The dimensions of its points.
+    /// The dimensions of the points that it takes; behind it, of those that it gives on.
     pub layout: Layout,
 }
 
@@ -57,7 +53,7 @@ fn below_inputs(alloc: Global, inputs: &[u32], belows: &[Below]) -> Result<Below
 
 /// What stands below the stage with this number, whose reader is this one where it has one, and which takes these earlier
 /// ones where it has none.
-fn below_stage<S: Source>(
+fn find_below<S: Source>(
     alloc: Global,
     number: u32,
     reader: &Option<LasReader<S>>,
@@ -65,7 +61,7 @@ fn below_stage<S: Source>(
     belows: &[Below],
 ) -> Result<Below, AllocError>
     requires { All (λ j. j < length belows.now) inputs.now }
-    ensures { IfOk result (StandsBelow reader.now number belows.now inputs.now) }
+    ensures { IfOk result (IsFound reader.now number belows.now inputs.now) }
 {
     match reader {
         Some(reader) => below_reader(alloc, number, reader.header().format),
@@ -73,26 +69,25 @@ fn below_stage<S: Source>(
     }
 }
 
-/// What stands below each stage of a tree, at whose numbers these readers stand. Refused only where memory is wanting.
-pub fn below_all<S: Source>(
+/// What stands below the next stage of a tree, at whose numbers these readers stand, where this stands behind the stages before
+/// it. Refused only where memory is wanting.
+pub fn next_below<S: Source>(
     alloc: Global,
     stages: &[StageSpec],
     readers: &[Option<LasReader<S>>],
-) -> Result<Vec<Below>, AllocError>
+    belows: &[Below],
+) -> Result<Below, AllocError>
     requires tree { IsTree (shapes stages.now) }
     requires few { length stages.now ≤ 64 }
     requires count { length readers.now ≡ length stages.now }
     requires fit { AreReaders stages.now readers.now }
-    ensures below { IfOk result (λ belows. AreBelow stages.now readers.now belows.items) }
-    ensures count { IfOk result (λ belows. length belows.items ≡ length stages.now) }
-    ensures inside { IfOk result (λ belows. (i : ℕ) (b : Below) → slice_get belows.items i ≡ Some b
-        → All (λ j. j < length readers.now) b.readers.items) }
+    requires next { length belows.now < length stages.now }
+    requires behind { AreBelow stages.now readers.now belows.now }
+    requires inside { AreInside (length readers.now) belows.now }
+    ensures below { IfOk result (StandsBelow stages.now readers.now (length belows.now)) }
+    ensures inside { IfOk result (λ b. All (λ j. j < length readers.now) b.readers.items) }
 {
-    let mut belows = Vec::with_capacity(alloc, stages.len())?;
-    for (i, stage) in stages.iter().enumerate() {
-        let inputs = stage.ins.as_slice();
-        let below = below_stage(alloc, i as u32, &readers[i], inputs, belows.as_slice())?;
-        belows.push(below)?;
-    }
-    Ok(belows)
+    let number = belows.len();
+    let inputs = stages[number].ins.as_slice();
+    find_below(alloc, number as u32, &readers[number], inputs, belows)
 }

@@ -1,7 +1,7 @@
 //! The forms of files that are written.
 
 ghost use Rattle.std.specs.Prelude.{◌≡◌, ◌<◌, ◌≤◌, All, IfOk, length, map};
-ghost use Rattle.answer_model.specs.Forms.{column_of, extra_names, text_form};
+ghost use Rattle.answer_model.specs.Forms.{column_of, text_form};
 ghost use Rattle.expr_eval.specs.Bindings.{dim_of};
 ghost use Rattle.forward_rules.specs.Forwarded.{form_of};
 ghost use Rattle.las_writer.specs.LasOutput.{IsForm};
@@ -17,44 +17,58 @@ use stage_options::{LasFields, TextOptions};
 use std::alloc::{AllocError, Global};
 use text_writer::{Column, ColumnList, TextForm};
 
-/// The dimension of a name; it is there in every run, since names are bound before.
-fn dim_of(alloc: Global, name: &str) -> Dim
-    ensures { result ≡ dim_of extra_names name.now }
+/// The dimension of a name, beside these extra names; it is there in every run, since names are bound before.
+fn dim_of(name: &str, names: &ExtraNames) -> Dim
+    ensures { result ≡ dim_of names.now name.now }
 {
-    cloud_points::dim_of(name, &ExtraNames::none(alloc)).unwrap_or(Dim::X)
+    cloud_points::dim_of(name, names).unwrap_or(Dim::X)
 }
 
 /// A column of a file whose columns have so many places where they say none.
-fn column(alloc: Global, precision: u32, named: &NamedColumn) -> Result<Column, AllocError>
-    ensures { IfOk result (λ c. c ≡ column_of precision named.now) }
+fn column(
+    alloc: Global,
+    names: &ExtraNames,
+    precision: u32,
+    named: &NamedColumn,
+) -> Result<Column, AllocError>
+    ensures { IfOk result (λ c. c ≡ column_of names.now precision named.now) }
 {
     Ok(Column {
-        dim: dim_of(alloc, named.name.as_str()),
+        dim: dim_of(named.name.as_str(), names),
         name: named.name.try_copy(alloc)?,
         places: named.places.unwrap_or(precision),
     })
 }
 
 /// The columns of such a file.
-fn columns(alloc: Global, precision: u32, named: &[NamedColumn]) -> Result<ColumnList, AllocError>
-    ensures { IfOk result (λ columns. columns ≡ map (column_of precision) named.now) }
+fn columns(
+    alloc: Global,
+    names: &ExtraNames,
+    precision: u32,
+    named: &[NamedColumn],
+) -> Result<ColumnList, AllocError>
+    ensures { IfOk result (λ columns. columns ≡ map (column_of names.now precision) named.now) }
 {
     let mut columns = Vec::with_capacity(alloc, named.len())?;
     for one in named {
-        columns.push(column(alloc, precision, one)?)?;
+        columns.push(column(alloc, names, precision, one)?)?;
     }
     Ok(ColumnList::new(columns))
 }
 
-/// The form of the file of a text writer with these options. Refused only where memory is wanting.
-pub fn text_form(alloc: Global, options: &TextOptions) -> Result<TextForm, AllocError>
-    ensures value { IfOk result (λ f. f ≡ text_form options.now) }
+/// The form of the file of a text writer with these options, beside these extra names. Refused only where memory is wanting.
+pub fn text_form(
+    alloc: Global,
+    names: &ExtraNames,
+    options: &TextOptions,
+) -> Result<TextForm, AllocError>
+    ensures value { IfOk result (λ f. f ≡ text_form names.now options.now) }
     ensures form { IfOk result IsTextForm }
 {
     let precision = options.precision.count();
     let delimiter = String::from_str(alloc, options.delimiter.as_str())?;
     Ok(TextForm {
-        columns: columns(alloc, precision, options.columns.as_slice())?,
+        columns: columns(alloc, names, precision, options.columns.as_slice())?,
         delimiter: Name::new(delimiter),
         quote_header: options.quote_header,
         write_header: options.write_header,

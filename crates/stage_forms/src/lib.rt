@@ -4,5 +4,5 @@
 mod below;
 mod forms;
 
-pub use below::{Below, below_all};
+pub use below::{Below, next_below};
 pub use forms::{las_form, text_form};

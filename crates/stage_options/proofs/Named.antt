@@ -1,5 +1,5 @@
 -- Options without a fault have the file name that their type wants.
-use Rattle.std.proofs.Common.{◌≡◌, ℕ, Bool, true, false, not, List, [], ◌∷◌, codes, Option, Some, None, option_map, unwrap_or, if◌then◌else◌, refl, sym}
+use Rattle.std.proofs.Common.{◌≡◌, ℕ, Bool, true, false, not, ◌||◌, List, [], ◌∷◌, codes, Option, Some, None, option_map, unwrap_or, if◌then◌else◌, refl, sym}
 use Rattle.std.specs.Bool.{IsTrue}
 use Rattle.std.proofs.lemmas.Option.{none-some}
 use Rattle.serde_json.specs.Data.{Members}
@@ -21,7 +21,7 @@ no_name : (f : List ℕ → PipeFault) (o : Option (List ℕ)) → option_map f 
 no_name f None e = refl
 no_name f (Some name) e = absurd (none-some (f name) (sym e))
 
-passed : (is : Bool) (name : List ℕ) (later : Option (List ℕ)) → (if not is then Some name else later) ≡ None → is ≡ true
+passed : (is : Bool) (name : List ℕ) (later : Option (List ℕ)) → (if not is || false then Some name else later) ≡ None → is ≡ true
 passed true name later e = refl
 passed false name later e = absurd (none-some name (sym e))
 

@@ -14,9 +14,14 @@ use Rattle.stage_options.specs.TypedTree.{is_stage_built, are_built, specs_of}
 
 own_kind : (k : KindName) (filename : Option (List ℕ)) (ms : Members) → IsTrue (is_built k) → kind_of (unwrap_or (typed_of k filename ms) (ReadersLas (record { filename = [] }))) ≡ k
 own_kind kind.ReadersLas filename ms h = refl
+own_kind kind.FiltersRange filename ms h = refl
+own_kind kind.FiltersCrop filename ms h = refl
 own_kind kind.FiltersAssign filename ms h = refl
+own_kind kind.FiltersFerry filename ms h = refl
 own_kind kind.FiltersExpression filename ms h = refl
+own_kind kind.FiltersDecimation filename ms h = refl
 own_kind kind.FiltersHead filename ms h = refl
+own_kind kind.FiltersReturns filename ms h = refl
 own_kind kind.FiltersMerge filename ms h = refl
 own_kind kind.WritersLas filename ms h = refl
 own_kind kind.WritersText filename ms h = refl

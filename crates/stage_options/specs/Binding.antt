@@ -1,23 +1,24 @@
 -- The names of dimensions in options.
-use Rattle.std.specs.Prelude.{ℕ, Bool, false, List, [], ◌∷◌, map, Option, Some, None, option_map, Result, Err, if◌then◌else◌}
+use Rattle.std.specs.Prelude.{ℕ, Bool, false, List, [], ◌∷◌, map, Option, Some, None, option_map, if◌then◌else◌}
 use Rattle.cloud_points.specs.declared.dims.Dim.{Dim}
 use Rattle.cloud_points.specs.ExtraNames.{dim_in}
 use Rattle.expr_lang.specs.Formula.{Formula, renamed}
 use Rattle.expr_lang.specs.declared.expr.Assign.{Assign}
-use Rattle.expr_eval.specs.Bindings.{bound_in, bound_assign, dim_of, assign_of}
-use Rattle.expr_eval.specs.declared.bind.BindErr.{BindErr}
-use Rattle.expr_eval.specs.declared.bind.BindErr.TheVariants.{Unknown, NotNumeric, Memory}
+use Rattle.expr_eval.specs.Bindings.{bound_dim, bound_in, bound_assign, dim_of, assign_of}
+use Rattle.expr_eval.specs.declared.assignment.Assignment.{Assignment}
+use Rattle.geo_tests.specs.declared.limits.Limit.{Limit}
+use Rattle.limits_text.specs.declared.shapes.NamedRange.{NamedRange}
 use Rattle.option_texts.specs.declared.columns.NamedColumn.{NamedColumn}
 use Rattle.stage_names.specs.declared.faults.PipeFault.{PipeFault}
-use Rattle.stage_names.specs.declared.faults.PipeFault.TheVariants.{DimUnknown, DimNotNumeric}
-use Rattle.stage_names.specs.declared.faults.PipeErr.{PipeErr}
-use Rattle.stage_names.specs.declared.faults.PipeErr.TheVariants.{Fault, Memory as OutOfMemory}
+use Rattle.stage_names.specs.declared.faults.PipeFault.TheVariants.{DimUnknown}
 use Rattle.stage_options.specs.Faults.{or_else}
+use Rattle.stage_options.specs.Ferries.{ferries_in, names_behind, ferries_refused, ferries_bound}
+use Rattle.stage_options.specs.Refusals.{refused}
 use Rattle.stage_options.specs.declared.binding.BoundStage.{BoundStage}
 use Rattle.stage_options.specs.declared.binding.BoundStage.TheVariants.{Reads, Filters, Writes}
 use Rattle.stage_options.specs.declared.binding.BoundFilter.TheVariants as filter
 use Rattle.stage_options.specs.declared.options.Options.{Options}
-use Rattle.stage_options.specs.declared.options.Options.TheVariants.{ReadersLas, FiltersAssign, FiltersExpression, FiltersHead, FiltersMerge, WritersLas, WritersText}
+use Rattle.stage_options.specs.declared.options.Options.TheVariants.{ReadersLas, FiltersRange, FiltersCrop, FiltersAssign, FiltersFerry, FiltersExpression, FiltersDecimation, FiltersHead, FiltersReturns, FiltersMerge, WritersLas, WritersText}
 
 -- ---- the first name that isn't that of a dimension which points have, or that has to be a number and isn't
 
@@ -35,48 +36,65 @@ abbrev pub first_unbound : List (List ℕ) → (Dim → Bool) → List NamedColu
 first_unbound names has [] = None
 first_unbound names has (c ∷ cs) = if is_bound names has c.name then first_unbound names has cs else Some c.name
 
--- the error of stage i's options where an expression isn't bound
-abbrev pub refusal_of : ℕ → BindErr → PipeErr
-refusal_of i (Unknown name) = Fault (DimUnknown i name)
-refusal_of i (NotNumeric name) = Fault (DimNotNumeric i name)
-refusal_of i Memory = OutOfMemory
-
--- the fault that it tells
-abbrev pub refused : {A : Type 0} → ℕ → Result A BindErr → Option PipeFault
-refused i (Err (Unknown name)) = Some (DimUnknown i name)
-refused i (Err (NotNumeric name)) = Some (DimNotNumeric i name)
-refused i _ = None
-
 -- the first of these assignments that isn't bound
 abbrev pub assigns_refused : ℕ → List (List ℕ) → (Dim → Bool) → List Assign → Option PipeFault
 assigns_refused i names has [] = None
 assigns_refused i names has (a ∷ later) = or_else (refused i (bound_assign has names a)) (assigns_refused i names has later)
 
+-- the first of these ranges whose dimension isn't bound
+abbrev pub ranges_refused : ℕ → List (List ℕ) → (Dim → Bool) → List NamedRange → Option PipeFault
+ranges_refused i names has [] = None
+ranges_refused i names has (r ∷ later) = or_else (refused i (bound_dim has names r.name)) (ranges_refused i names has later)
+
 abbrev pub where_refused : ℕ → List (List ℕ) → (Dim → Bool) → Option (Formula (List ℕ)) → Option PipeFault
 where_refused i names has None = None
 where_refused i names has (Some f) = refused i (bound_in has names f)
 
--- the fault of stage i's options where the points that it takes have these dimensions: that of the first name in the order of the
--- options
+-- that of stage i's own names, where the points that it takes have these dimensions, in the order of the options
+abbrev pub own_refused : ℕ → List (List ℕ) → (Dim → Bool) → Options → Option PipeFault
+own_refused i names has (FiltersRange o) = or_else (ranges_refused i names has o.limits) (where_refused i names has o.only)
+own_refused i names has (FiltersCrop o) = where_refused i names has o.only
+own_refused i names has (FiltersAssign o) = or_else (assigns_refused i names has o.assignments) (where_refused i names has o.only)
+own_refused i names has (FiltersFerry o) = where_refused i names has o.only
+own_refused i names has (FiltersExpression o) = or_else (refused i (bound_in has names o.expression)) (where_refused i names has o.only)
+own_refused i names has (FiltersDecimation o) = where_refused i names has o.only
+own_refused i names has (FiltersHead o) = where_refused i names has o.only
+own_refused i names has (FiltersReturns o) = where_refused i names has o.only
+own_refused i names has (WritersLas o) = where_refused i names has o.only
+own_refused i names has (WritersText o) = or_else (option_map (DimUnknown i) (first_unbound names has o.columns)) (where_refused i names has o.only)
+own_refused i names has _ = None
+
+-- the fault of stage i's options behind these extra names: that of its ferries, then that of its other names
 abbrev pub binding_fault : ℕ → List (List ℕ) → (Dim → Bool) → Options → Option PipeFault
-binding_fault i names has (ReadersLas o) = None
-binding_fault i names has (FiltersAssign o) = or_else (assigns_refused i names has o.assignments) (where_refused i names has o.only)
-binding_fault i names has (FiltersExpression o) = or_else (refused i (bound_in has names o.expression)) (where_refused i names has o.only)
-binding_fault i names has (FiltersHead o) = where_refused i names has o.only
-binding_fault i names has (FiltersMerge o) = None
-binding_fault i names has (WritersLas o) = where_refused i names has o.only
-binding_fault i names has (WritersText o) = or_else (option_map (DimUnknown i) (first_unbound names has o.columns)) (where_refused i names has o.only)
+binding_fault i names has o = or_else (ferries_refused i names has (ferries_in o)) (own_refused i (names_behind names o) has o)
 
 -- ---- options with dimensions in place of names
 
 abbrev pub bound : List (List ℕ) → Formula (List ℕ) → Formula Dim
 bound names f = renamed (dim_of names) f
 
+-- the condition of a `where`
+abbrev pub bound_where : List (List ℕ) → Option (Formula (List ℕ)) → Option (Formula Dim)
+bound_where names only = option_map (bound names) only
+
+-- a range of the values of a dimension
+abbrev pub limit_of : List (List ℕ) → NamedRange → Limit
+limit_of names r = record { dim = dim_of names r.name; interval = r.interval }
+
+-- what a stage does, with its ferries bound, beside these extra names
+abbrev pub bound_with : List (List ℕ) → List Assignment → Options → BoundStage
+bound_with names ferries (ReadersLas o) = Reads
+bound_with names ferries (FiltersRange o) = Filters (filter.Range (map (limit_of names) o.limits) (bound_where names o.only))
+bound_with names ferries (FiltersCrop o) = Filters (filter.Crop o.shape o.outside (bound_where names o.only))
+bound_with names ferries (FiltersAssign o) = Filters (filter.Assign (map (assign_of names) o.assignments) (bound_where names o.only))
+bound_with names ferries (FiltersFerry o) = Filters (filter.Assign ferries (bound_where names o.only))
+bound_with names ferries (FiltersExpression o) = Filters (filter.Expression (bound names o.expression) (bound_where names o.only))
+bound_with names ferries (FiltersDecimation o) = Filters (filter.Decimation o.step o.offset o.limit (bound_where names o.only))
+bound_with names ferries (FiltersHead o) = Filters (filter.Head o.count (bound_where names o.only))
+bound_with names ferries (FiltersReturns o) = Filters (filter.Returns o.groups (bound_where names o.only))
+bound_with names ferries (FiltersMerge o) = Filters filter.Merge
+bound_with names ferries (WritersLas o) = Writes (bound_where names o.only)
+bound_with names ferries (WritersText o) = Writes (bound_where names o.only)
+
 abbrev pub bound_stage : List (List ℕ) → Options → BoundStage
-bound_stage names (ReadersLas o) = Reads
-bound_stage names (FiltersAssign o) = Filters (filter.Assign (map (assign_of names) o.assignments) (option_map (bound names) o.only))
-bound_stage names (FiltersExpression o) = Filters (filter.Expression (bound names o.expression) (option_map (bound names) o.only))
-bound_stage names (FiltersHead o) = Filters (filter.Head o.count (option_map (bound names) o.only))
-bound_stage names (FiltersMerge o) = Filters filter.Merge
-bound_stage names (WritersLas o) = Writes (option_map (bound names) o.only)
-bound_stage names (WritersText o) = Writes (option_map (bound names) o.only)
+bound_stage names o = bound_with (names_behind names o) (ferries_bound names (ferries_in o)) o

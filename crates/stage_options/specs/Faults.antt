@@ -1,16 +1,17 @@
 -- The first fault of a stage's options.
-use Rattle.std.specs.Prelude.{ℕ, ◌≡◌, ◌&&◌, ◌||◌, Bool, false, not, List, [], ◌∷◌, codes, bytes_eq, Option, Some, None, option_map, is_none, if◌then◌else◌, ⊤}
+use Rattle.std.specs.Prelude.{ℕ, ◌≡◌, ◌&&◌, ◌||◌, Bool, false, not, List, [], ◌∷◌, codes, bytes_eq, Option, Some, None, option_map, is_some, if◌then◌else◌, ⊤}
 use Rattle.std.specs.Ordering.{nat_cmp, match_ordering}
 use Rattle.std.specs.Cmp.Lexicographic.{slice_cmp}
-use Rattle.std.specs.List.{filter}
+use Rattle.std.specs.List.{filter, list_any}
 use Rattle.serde_json.specs.Data.{Data, string, Members, no_members, member}
 use Rattle.serde_json.specs.Find.{get_member}
+use Rattle.pipeline_json.specs.Lists.{is_empty}
 use Rattle.stage_names.specs.declared.kinds.KindName.{KindName}
 use Rattle.stage_names.specs.declared.faults.PipeFault.{PipeFault}
 use Rattle.stage_names.specs.declared.faults.PipeFault.TheVariants.{OptionUnknown, OptionMissing, OptionValue}
 use Rattle.stage_names.specs.declared.faults.PipeErr.{PipeErr}
 use Rattle.stage_names.specs.declared.faults.PipeErr.TheVariants.{Fault, Memory}
-use Rattle.stage_options.specs.Rules.{Allowed, Rule, rules_of, fits}
+use Rattle.stage_options.specs.Rules.{Allowed, Presence, always, at_will, one_of, along_with, Rule, rules_of, fits}
 
 -- the value of an option. The file name stands beside the other members
 abbrev pub value_of : List ℕ → Option (List ℕ) → Members → Option Data
@@ -42,11 +43,30 @@ is_known (r ∷ rs) name = bytes_eq r.name name || is_known rs name
 abbrev pub first_unknown : List Rule → Option (List ℕ) → Members → Option (List ℕ)
 first_unknown rs filename ms = least (filter (λ name. not (is_known rs name)) (all_names filename ms))
 
--- ---- the first option that isn't there, and the first whose value isn't one
+-- ---- the first option that isn't there and has to be
+
+abbrev pub stands : Option (List ℕ) → Members → List ℕ → Bool
+stands filename ms name = is_some (value_of name filename ms)
+
+-- of several the first is told
+abbrev pub is_missing : Presence → List ℕ → Option (List ℕ) → Members → Bool
+is_missing always name filename ms = not (stands filename ms name)
+is_missing at_will name filename ms = false
+is_missing (one_of before behind) name filename ms = is_empty before && not (stands filename ms name || list_any (stands filename ms) behind)
+is_missing (along_with other) name filename ms = stands filename ms other && not (stands filename ms name)
 
 abbrev pub first_missing : List Rule → Option (List ℕ) → Members → Option (List ℕ)
 first_missing [] filename ms = None
-first_missing (r ∷ rs) filename ms = if r.is_required && is_none (value_of r.name filename ms) then Some r.name else first_missing rs filename ms
+first_missing (r ∷ rs) filename ms = if is_missing r.presence r.name filename ms then Some r.name else first_missing rs filename ms
+
+-- ---- the first one whose value isn't one, or that may not be there
+
+-- of several that stand the last is told
+abbrev pub is_barred : Presence → List ℕ → Option (List ℕ) → Members → Bool
+is_barred always name filename ms = false
+is_barred at_will name filename ms = false
+is_barred (one_of before behind) name filename ms = stands filename ms name && list_any (stands filename ms) before && not (list_any (stands filename ms) behind)
+is_barred (along_with other) name filename ms = stands filename ms name && not (stands filename ms other)
 
 abbrev pub is_wrong : Allowed → Option Data → Bool
 is_wrong allowed None = false
@@ -54,7 +74,8 @@ is_wrong allowed (Some d) = not (fits allowed d)
 
 abbrev pub first_wrong : List Rule → Option (List ℕ) → Members → Option (List ℕ)
 first_wrong [] filename ms = None
-first_wrong (r ∷ rs) filename ms = if is_wrong r.allowed (value_of r.name filename ms) then Some r.name else first_wrong rs filename ms
+first_wrong (r ∷ rs) filename ms =
+    if is_wrong r.allowed (value_of r.name filename ms) || is_barred r.presence r.name filename ms then Some r.name else first_wrong rs filename ms
 
 -- ---- the whole
 

@@ -3,15 +3,20 @@ use Rattle.std.specs.Prelude.{ℕ, ◌≡◌, List, Some, slice_get}
 use Rattle.stage_names.specs.declared.kinds.KindName.{KindName}
 use Rattle.stage_names.specs.declared.kinds.KindName.TheVariants as kind
 use Rattle.stage_options.specs.declared.options.Options.{Options}
-use Rattle.stage_options.specs.declared.options.Options.TheVariants.{ReadersLas, FiltersAssign, FiltersExpression, FiltersHead, FiltersMerge, WritersLas, WritersText}
+use Rattle.stage_options.specs.declared.options.Options.TheVariants.{ReadersLas, FiltersRange, FiltersCrop, FiltersAssign, FiltersFerry, FiltersExpression, FiltersDecimation, FiltersHead, FiltersReturns, FiltersMerge, WritersLas, WritersText}
 use Rattle.stage_options.specs.declared.stage.StageSpec.{StageSpec}
 
 -- the type whose options these are
 abbrev pub kind_of : Options → KindName
 kind_of (ReadersLas o) = kind.ReadersLas
+kind_of (FiltersRange o) = kind.FiltersRange
+kind_of (FiltersCrop o) = kind.FiltersCrop
 kind_of (FiltersAssign o) = kind.FiltersAssign
+kind_of (FiltersFerry o) = kind.FiltersFerry
 kind_of (FiltersExpression o) = kind.FiltersExpression
+kind_of (FiltersDecimation o) = kind.FiltersDecimation
 kind_of (FiltersHead o) = kind.FiltersHead
+kind_of (FiltersReturns o) = kind.FiltersReturns
 kind_of (FiltersMerge o) = kind.FiltersMerge
 kind_of (WritersLas o) = kind.WritersLas
 kind_of (WritersText o) = kind.WritersText

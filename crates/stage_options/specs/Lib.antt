@@ -1,4 +1,6 @@
 pub mod Codes
+pub mod Refusals
+pub mod Ferries
 pub mod Binding
 pub mod Expressions
 pub mod Faults

@@ -1,22 +1,19 @@
 -- What stages do with files.
 use Rattle.std.specs.Prelude.{ℕ, Bool, true, false, List, Option, Some, None}
 use Rattle.stage_options.specs.declared.options.Options.{Options}
-use Rattle.stage_options.specs.declared.options.Options.TheVariants.{ReadersLas, FiltersAssign, FiltersExpression, FiltersHead, FiltersMerge, WritersLas, WritersText}
+use Rattle.stage_options.specs.declared.options.Options.TheVariants.{ReadersLas, WritersLas, WritersText}
 
 pub data Role : Type 0 where
   Reads : List ℕ → Role  -- the file of this name
   Filters : Role
   Writes : List ℕ → Role  -- the file of this name
 
--- what a stage with these options does: one row for each type
+-- what a stage with these options does: a filter has no file
 abbrev pub role_of : Options → Role
 role_of (ReadersLas o) = Reads o.filename
-role_of (FiltersAssign o) = Filters
-role_of (FiltersExpression o) = Filters
-role_of (FiltersHead o) = Filters
-role_of (FiltersMerge o) = Filters
 role_of (WritersLas o) = Writes o.filename
 role_of (WritersText o) = Writes o.filename
+role_of _ = Filters
 
 -- the file that is read
 abbrev pub source_of : Role → Option (List ℕ)

@@ -1,11 +1,14 @@
 -- The options of each type: their names, and what they may hold.
-use Rattle.std.specs.Prelude.{ℕ, ℤ, pos, neg_ℤ, int_le, ◌&&◌, nat_le, Bool, true, false, List, [], ◌∷◌, length, codes, Option, Some, None, is_some}
+use Rattle.std.specs.Prelude.{ℕ, ℤ, pos, neg_ℤ, int_le, ◌&&◌, nat_le, Bool, false, List, [], ◌∷◌, length, codes, Option, Some, None, is_some}
 use Rattle.serde_json.specs.Data.{Data}
 use Rattle.serde_json.specs.Find.{as_str}
+use Rattle.limits_text.specs.Texts.{ranges_of, bounds_of, polygon_of, point_of}
 use Rattle.option_texts.specs.Columns.{columns_of}
 use Rattle.option_texts.specs.Forward.{forward_of}
+use Rattle.option_texts.specs.Ferries.{ferries_of}
+use Rattle.option_texts.specs.Groups.{groups_of}
 use Rattle.stage_names.specs.declared.kinds.KindName.{KindName}
-use Rattle.stage_names.specs.declared.kinds.KindName.TheVariants.{ReadersLas, FiltersAssign, FiltersExpression, FiltersHead, WritersLas, WritersText}
+use Rattle.stage_names.specs.declared.kinds.KindName.TheVariants.{ReadersLas, FiltersRange, FiltersCrop, FiltersAssign, FiltersFerry, FiltersExpression, FiltersDecimation, FiltersHead, FiltersReturns, WritersLas, WritersText}
 use Rattle.stage_options.specs.Expressions.{condition_with, assignments_with}
 use Rattle.stage_options.specs.Values.{whole_of, truth_of, format_with, decimal_of, is_source, is_target}
 
@@ -18,22 +21,42 @@ pub data Allowed : Type 0 where
   sized : ℕ → ℕ → Allowed  -- a text of so many bytes
   columns : Allowed  -- the columns of a text file
   forward : Allowed  -- the names of what is forwarded
+  ranges : Allowed  -- ranges of the values of dimensions
+  bounds : Allowed  -- a box
+  polygon : Allowed  -- a ring of corners
+  point : Allowed  -- a point
+  ferries : Allowed  -- from which dimensions values go to which
+  groups : Allowed  -- groups of returns
   condition : Allowed  -- the text of a condition
   assignments : Allowed  -- the text of an assignment, or several such texts
   source : Allowed  -- the name of a file that is read
   target : Allowed  -- the name of a file that is written
 
+-- when an option has to be there, and when it may not be
+pub data Presence : Type 0 where
+  always : Presence  -- it has to be there
+  at_will : Presence  -- it may be there
+  one_of : List (List ℕ) → List (List ℕ) → Presence  -- just one of several has to be there: of those before it, itself, and those behind it
+  along_with : List ℕ → Presence  -- it has to be there where this one is, and may not be there else
+
 pub record Rule : Type 0 where
   pub name : List ℕ
-  pub is_required : Bool
+  pub presence : Presence
   pub allowed : Allowed
 
 -- an option that has to be there, and one that may
 abbrev pub required : List ℕ → Allowed → Rule
-required name allowed = record { name = name; is_required = true; allowed = allowed }
+required name allowed = record { name = name; presence = always; allowed = allowed }
 
 abbrev pub optional : List ℕ → Allowed → Rule
-optional name allowed = record { name = name; is_required = false; allowed = allowed }
+optional name allowed = record { name = name; presence = at_will; allowed = allowed }
+
+-- one of which just one has to be there, and one that goes with another
+abbrev pub either : List ℕ → Allowed → List (List ℕ) → List (List ℕ) → Rule
+either name allowed before behind = record { name = name; presence = one_of before behind; allowed = allowed }
+
+abbrev pub going_with : List ℕ → Allowed → List ℕ → Rule
+going_with name allowed other = record { name = name; presence = along_with other; allowed = allowed }
 
 -- a scale factor, from 10 ^ -9 to 1; an offset, below 10 ^ 9 in size; a field of 16 bits
 abbrev pub scale : Allowed
@@ -45,21 +68,51 @@ offset = decimal (neg_ℤ (pos 999999999999999999)) (pos 999999999999999999)
 abbrev pub short : Allowed
 short = whole 0 65535
 
+-- a radius, up to 4 * 10 ^ 9
+abbrev pub distance : Allowed
+distance = decimal (pos 0) (pos 4000000000000000000)
+
 -- the options of a type, in the order in which they are looked at; a merge has none, and a type that isn't built has none yet
 abbrev pub rules_of : KindName → List Rule
 rules_of ReadersLas =
     (required (codes "filename") source
     ∷ [])
+rules_of FiltersRange =
+    (required (codes "limits") ranges
+    ∷ optional (codes "where") condition
+    ∷ [])
+rules_of FiltersCrop =
+    (either (codes "bounds") bounds [] (codes "polygon" ∷ codes "point" ∷ [])
+    ∷ either (codes "polygon") polygon (codes "bounds" ∷ []) (codes "point" ∷ [])
+    ∷ either (codes "point") point (codes "bounds" ∷ codes "polygon" ∷ []) []
+    ∷ going_with (codes "distance") distance (codes "point")
+    ∷ optional (codes "outside") truth
+    ∷ optional (codes "where") condition
+    ∷ [])
 rules_of FiltersAssign =
     (required (codes "value") assignments
+    ∷ optional (codes "where") condition
+    ∷ [])
+rules_of FiltersFerry =
+    (required (codes "dimensions") ferries
     ∷ optional (codes "where") condition
     ∷ [])
 rules_of FiltersExpression =
     (required (codes "expression") condition
     ∷ optional (codes "where") condition
     ∷ [])
+rules_of FiltersDecimation =
+    (optional (codes "step") (whole 1 4294967295)
+    ∷ optional (codes "offset") (whole 0 4294967295)
+    ∷ optional (codes "limit") (whole 0 4294967295)
+    ∷ optional (codes "where") condition
+    ∷ [])
 rules_of FiltersHead =
     (optional (codes "count") (whole 0 4294967295)
+    ∷ optional (codes "where") condition
+    ∷ [])
+rules_of FiltersReturns =
+    (optional (codes "groups") groups
     ∷ optional (codes "where") condition
     ∷ [])
 rules_of WritersLas =
@@ -115,6 +168,12 @@ fits truth d = is_some (truth_of d)
 fits (sized low high) d = passes (has_size low high) (as_str d)
 fits columns d = passes (λ t. is_some (columns_of t)) (as_str d)
 fits forward d = passes (λ t. is_some (forward_of t)) (as_str d)
+fits ranges d = passes (λ t. is_some (ranges_of t)) (as_str d)
+fits bounds d = passes (λ t. is_some (bounds_of t)) (as_str d)
+fits polygon d = passes (λ t. is_some (polygon_of t)) (as_str d)
+fits point d = passes (λ t. is_some (point_of t)) (as_str d)
+fits ferries d = passes (λ t. is_some (ferries_of t)) (as_str d)
+fits groups d = passes (λ t. is_some (groups_of t)) (as_str d)
 fits condition d = is_some (condition_with d)
 fits assignments d = is_some (assignments_with d)
 fits source d = passes is_source (as_str d)

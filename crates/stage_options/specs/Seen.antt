@@ -5,7 +5,7 @@ use Rattle.serde_json.specs.View.{view}
 use Rattle.stage_options.specs.declared.rules.Allowed.{Allowed}
 use Rattle.stage_options.specs.declared.rules.Allowed.TheVariants as allowed
 use Rattle.stage_options.specs.declared.rules.Rule.{Rule}
-use Rattle.stage_options.specs.declared.rules.Rule.TheVariants.{Required, Optional}
+use Rattle.stage_options.specs.declared.rules.Rule.TheVariants.{Required, Optional, OneOf, AlongWith}
 use Rattle.stage_options.specs.declared.values.Given.{Given}
 use Rattle.stage_options.specs.declared.values.Given.TheVariants.{Name, Json}
 use Rattle.stage_options.specs.declared.role.Role.{Role}
@@ -21,6 +21,12 @@ allowed_view allowed.Truth = rules.truth
 allowed_view (allowed.Sized low high) = rules.sized low high
 allowed_view allowed.Columns = rules.columns
 allowed_view allowed.Forward = rules.forward
+allowed_view allowed.Ranges = rules.ranges
+allowed_view allowed.Bounds = rules.bounds
+allowed_view allowed.Polygon = rules.polygon
+allowed_view allowed.Point = rules.point
+allowed_view allowed.Ferries = rules.ferries
+allowed_view allowed.Groups = rules.groups
 allowed_view allowed.Condition = rules.condition
 allowed_view allowed.Assignments = rules.assignments
 allowed_view allowed.Source = rules.source
@@ -29,6 +35,8 @@ allowed_view allowed.Target = rules.target
 abbrev pub rule_view : Rule → rules.Rule
 rule_view (Required name allowed) = rules.required name.now (allowed_view allowed)
 rule_view (Optional name allowed) = rules.optional name.now (allowed_view allowed)
+rule_view (OneOf name allowed before behind) = rules.either name.now (allowed_view allowed) (map (λ s. s.now) before.now) (map (λ s. s.now) behind.now)
+rule_view (AlongWith name allowed other) = rules.going_with name.now (allowed_view allowed) other.now
 
 abbrev pub rules_view : List Rule → List rules.Rule
 rules_view rs = map rule_view rs

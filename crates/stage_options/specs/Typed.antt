@@ -1,6 +1,6 @@
 -- The typed options of a stage.
-use Rattle.std.specs.Prelude.{ℕ, ℤ, pos, neg_ℤ, Bool, true, false, List, [], ◌∷◌, codes, Option, Some, None, option_and_then, if◌then◌else◌}
-use Rattle.std.specs.Option.{unwrap_or}
+use Rattle.std.specs.Prelude.{ℕ, ℤ, pos, neg_ℤ, Bool, true, false, List, [], ◌∷◌, codes, Option, Some, None, option_map, option_and_then, if◌then◌else◌}
+use Rattle.std.specs.Option.{option_or, unwrap_or}
 use Rattle.serde_json.specs.Data.{Data, Members}
 use Rattle.serde_json.specs.Find.{as_str, get_member}
 use Rattle.decimal_coords.specs.declared.grid.Scale.{Scale}
@@ -9,12 +9,20 @@ use Rattle.forward_rules.specs.declared.options.LasOpts.{LasOpts}
 use Rattle.expr_lang.specs.Formula.{Formula, number}
 use Rattle.expr_lang.specs.declared.expr.Assign.{Assign}
 use Rattle.option_texts.specs.declared.columns.NamedColumn.{NamedColumn}
+use Rattle.geo_tests.specs.declared.shape.Shape.{Shape}
+use Rattle.geo_tests.specs.declared.shape.Shape.TheVariants.{Box, Polygon, Disc}
+use Rattle.limits_text.specs.Texts.{ranges_of, bounds_of, polygon_of, point_of}
+use Rattle.limits_text.specs.declared.shapes.NamedRange.{NamedRange}
 use Rattle.option_texts.specs.Columns.{columns_of}
 use Rattle.option_texts.specs.Forward.{forward_of}
+use Rattle.option_texts.specs.Ferries.{ferries_of}
+use Rattle.option_texts.specs.Groups.{groups_of}
+use Rattle.option_texts.specs.declared.ferries.NamedFerry.{NamedFerry}
+use Rattle.option_texts.specs.declared.groups.Groups.{Groups}
 use Rattle.stage_names.specs.declared.kinds.KindName.{KindName}
 use Rattle.stage_names.specs.declared.kinds.KindName.TheVariants as kind
 use Rattle.stage_options.specs.declared.options.Options.{Options}
-use Rattle.stage_options.specs.declared.options.Options.TheVariants.{ReadersLas, FiltersAssign, FiltersExpression, FiltersHead, FiltersMerge, WritersLas, WritersText}
+use Rattle.stage_options.specs.declared.options.Options.TheVariants.{ReadersLas, FiltersRange, FiltersCrop, FiltersAssign, FiltersFerry, FiltersExpression, FiltersDecimation, FiltersHead, FiltersReturns, FiltersMerge, WritersLas, WritersText}
 use Rattle.stage_options.specs.declared.options.TextOptions.{TextOptions}
 use Rattle.stage_options.specs.Expressions.{condition_with, assignments_with}
 use Rattle.stage_options.specs.Values.{whole_of, format_with, decimal_of, truth_of}
@@ -50,6 +58,35 @@ expression_in ms = unwrap_or (option_in condition_with (codes "expression") ms) 
 
 abbrev pub assignments_in : Members → List Assign
 assignments_in ms = unwrap_or (option_in assignments_with (codes "value") ms) []
+
+abbrev pub ranges_in : Members → List NamedRange
+ranges_in ms = unwrap_or (option_and_then ranges_of (option_in as_str (codes "limits") ms)) []
+
+-- the shape of a crop: a box, a ring, or a disc of a centre and a radius; where none of them is given, no point is in it
+abbrev pub box_in : Members → Option Shape
+box_in ms = option_map Box (option_and_then bounds_of (option_in as_str (codes "bounds") ms))
+
+abbrev pub ring_in : Members → Option Shape
+ring_in ms = option_map Polygon (option_and_then polygon_of (option_in as_str (codes "polygon") ms))
+
+abbrev pub disc_round : ℤ × ℤ → Members → Option Shape
+disc_round centre ms = option_map (λ radius. Disc (record { x = centre.0; y = centre.1; radius = radius })) (option_in decimal_of (codes "distance") ms)
+
+abbrev pub disc_in : Members → Option Shape
+disc_in ms = option_and_then (λ centre. disc_round centre ms) (option_and_then point_of (option_in as_str (codes "point") ms))
+
+abbrev pub shape_in : Members → Shape
+shape_in ms = unwrap_or (option_or (box_in ms) (option_or (ring_in ms) (disc_in ms))) (Polygon [])
+
+abbrev pub ferries_in : Members → List NamedFerry
+ferries_in ms = unwrap_or (option_and_then ferries_of (option_in as_str (codes "dimensions") ms)) []
+
+-- the last of several returns, where no groups are named
+abbrev pub last_returns : Groups
+last_returns = record { first = false; last = true; intermediate = false; only = false }
+
+abbrev pub groups_in : Members → Groups
+groups_in ms = unwrap_or (option_and_then groups_of (option_in as_str (codes "groups") ms)) last_returns
 
 -- the columns of a text file
 abbrev pub columns_in : Members → List NamedColumn
@@ -90,9 +127,23 @@ text_options_in filename ms = record {
 -- the options that a run heeds, with their defaults
 abbrev pub typed_of : KindName → Option (List ℕ) → Members → Option Options
 typed_of kind.ReadersLas filename ms = Some (ReadersLas (record { filename = unwrap_or filename [] }))
+typed_of kind.FiltersRange filename ms = Some (FiltersRange (record { limits = ranges_in ms; only = where_in ms }))
+typed_of kind.FiltersCrop filename ms = Some (FiltersCrop (record {
+  shape = shape_in ms;
+  outside = unwrap_or (option_in truth_of (codes "outside") ms) false;
+  only = where_in ms;
+}))
 typed_of kind.FiltersAssign filename ms = Some (FiltersAssign (record { assignments = assignments_in ms; only = where_in ms }))
+typed_of kind.FiltersFerry filename ms = Some (FiltersFerry (record { ferries = ferries_in ms; only = where_in ms }))
 typed_of kind.FiltersExpression filename ms = Some (FiltersExpression (record { expression = expression_in ms; only = where_in ms }))
+typed_of kind.FiltersDecimation filename ms = Some (FiltersDecimation (record {
+  step = unwrap_or (option_in whole_of (codes "step") ms) 1;
+  offset = unwrap_or (option_in whole_of (codes "offset") ms) 0;
+  limit = option_in whole_of (codes "limit") ms;
+  only = where_in ms;
+}))
 typed_of kind.FiltersHead filename ms = Some (FiltersHead (record { count = unwrap_or (option_in whole_of (codes "count") ms) 10; only = where_in ms }))
+typed_of kind.FiltersReturns filename ms = Some (FiltersReturns (record { groups = groups_in ms; only = where_in ms }))
 typed_of kind.FiltersMerge filename ms = Some (FiltersMerge (record {}))
 typed_of kind.WritersLas filename ms = Some (WritersLas (record { filename = unwrap_or filename []; fields = las_fields_in ms; only = where_in ms }))
 typed_of kind.WritersText filename ms = Some (WritersText (text_options_in (unwrap_or filename []) ms))
@@ -101,9 +152,14 @@ typed_of _ filename ms = None
 -- whether stages of this type are built
 abbrev pub is_built : KindName → Bool
 is_built kind.ReadersLas = true
+is_built kind.FiltersRange = true
+is_built kind.FiltersCrop = true
 is_built kind.FiltersAssign = true
+is_built kind.FiltersFerry = true
 is_built kind.FiltersExpression = true
+is_built kind.FiltersDecimation = true
 is_built kind.FiltersHead = true
+is_built kind.FiltersReturns = true
 is_built kind.FiltersMerge = true
 is_built kind.WritersLas = true
 is_built kind.WritersText = true

@@ -1,18 +1,24 @@
 //! The names of dimensions in options.
 
-ghost use Rattle.std.specs.Prelude.{◌≡◌, map, option_map, None, IfErr, IfOk, OnOk};
+ghost use Rattle.std.specs.Prelude.{◌≡◌, ◌||◌, map, option_map, None, IfErr, IfOk, OnErr, OnOk};
 ghost use Rattle.cloud_points.specs.Layouts.{holds};
-ghost use Rattle.expr_eval.specs.Bindings.{bound_in, bound_assign, assign_of};
-ghost use Rattle.stage_options.specs.Binding.{is_bound, first_unbound, refusal_of, refused, assigns_refused, where_refused, binding_fault, bound, bound_stage};
+ghost use Rattle.expr_eval.specs.Bindings.{bound_dim, bound_in, bound_assign, assign_of};
+ghost use Rattle.cloud_points.specs.declared.dims.Dim.{Dim};
+ghost use Rattle.stage_options.specs.Binding.{is_bound, first_unbound, assigns_refused, ranges_refused, limit_of, where_refused, own_refused, binding_fault, bound, bound_where, bound_with, bound_stage};
+ghost use Rattle.stage_options.specs.Ferries.{names_behind, adds};
+ghost use Rattle.stage_options.specs.Refusals.{refused};
 ghost use Rattle.stage_names.specs.declared.faults.PipeFault.TheVariants.{DimUnknown};
 ghost use Rattle.stage_options.specs.Faults.{IsFaultOf};
 
+use crate::ferries::{bind_dim, bind_ferries, refusal, with_targets};
 use crate::options::Options;
 use crate::walks::name_of;
 use cloud_points::{ExtraNames, Layout, dim_of};
-use expr_eval::{Assignment, Assignments, BindErr, Bound, bind_assign, bind_expr};
+use expr_eval::{Assignment, Assignments, Bound, bind_assign, bind_expr};
 use expr_lang::{Assign, Expr};
-use option_texts::NamedColumn;
+use geo_tests::{Limit, Limits, Shape};
+use limits_text::NamedRange;
+use option_texts::{Groups, NamedColumn};
 use stage_names::{PipeErr, PipeFault};
 use std::alloc::Global;
 
@@ -32,14 +38,26 @@ pub enum BoundStage {
 /// A filter's options with dimensions in place of names. Each has its `where`; None is all points.
 #[derive(Drop)]
 pub enum BoundFilter {
+    /// The points within these limits go on.
+    Range(Limits, Option<Bound>),
+
+    /// The points of this shape go on, or where it is said so, those outside.
+    Crop(Shape, bool, Option<Bound>),
+
     /// Dimensions get values, in this order.
     Assign(Assignments, Option<Bound>),
 
     /// The points for which this condition holds go on.
     Expression(Bound, Option<Bound>),
 
+    /// From one position that goes on to the next, the first one, and a position from which on none does; None is no limit.
+    Decimation(u32, u32, Option<u32>, Option<Bound>),
+
     /// The first points of each view go on, so many.
     Head(u32, Option<Bound>),
+
+    /// The returns of these groups go on.
+    Returns(Groups, Option<Bound>),
 
     /// All points go on, in one view.
     Merge,
@@ -72,17 +90,6 @@ fn unbound_column<'a>(
     None
 }
 
-/// Why an expression of stage i isn't bound.
-fn refusal(i: u32, err: BindErr) -> PipeErr
-    ensures { result ≡ refusal_of i err }
-{
-    match err {
-        BindErr::Unknown(name) => PipeErr::Fault(PipeFault::DimUnknown(i, name)),
-        BindErr::NotNumeric(name) => PipeErr::Fault(PipeFault::DimNotNumeric(i, name)),
-        BindErr::Memory => PipeErr::Memory,
-    }
-}
-
 /// What a stage's names are bound to: the dimensions of this set, beside these extra names.
 #[derive(Clone, Copy)]
 struct Binder<'a> {
@@ -105,7 +112,7 @@ impl<'a> Binder<'a> {
     }
 
     fn only(&self, only: &Option<Expr>) -> Result<Option<Bound>, PipeErr>
-        ensures ok { IfOk result (λ b. b ≡ option_map (bound self.now.names.now) only.now) }
+        ensures ok { IfOk result (λ b. b ≡ bound_where self.now.names.now only.now) }
         ensures none { OnOk result (where_refused self.now.stage self.now.names.now (holds self.now.layout.now) only.now ≡ None) }
         ensures fault { IfErr result (IsFaultOf (where_refused self.now.stage self.now.names.now (holds self.now.layout.now) only.now)) }
     {
@@ -138,6 +145,30 @@ impl<'a> Binder<'a> {
         Ok(Assignments::new(bound))
     }
 
+    fn limit(&self, range: &NamedRange) -> Result<Limit, PipeErr>
+        ensures ok { IfOk result (λ limit. limit ≡ limit_of self.now.names.now range.now) }
+        ensures none { OnOk result (refused self.now.stage (bound_dim (holds self.now.layout.now) self.now.names.now range.now.name) ≡ None) }
+        ensures fault { IfErr result (IsFaultOf (refused self.now.stage (bound_dim (holds self.now.layout.now) self.now.names.now range.now.name))) }
+    {
+        let dim = bind_dim(self.alloc, self.stage, &range.name, self.layout, self.names)?;
+        Ok(Limit {
+            dim,
+            interval: range.interval,
+        })
+    }
+
+    fn limits(&self, list: &[NamedRange]) -> Result<Limits, PipeErr>
+        ensures ok { IfOk result (λ b. b ≡ map (limit_of self.now.names.now) list.now) }
+        ensures none { OnOk result (ranges_refused self.now.stage self.now.names.now (holds self.now.layout.now) list.now ≡ None) }
+        ensures fault { IfErr result (IsFaultOf (ranges_refused self.now.stage self.now.names.now (holds self.now.layout.now) list.now)) }
+    {
+        let mut bound = Vec::with_capacity(self.alloc, list.len())?;
+        for range in list {
+            bound.push_reserved(self.limit(range)?);
+        }
+        Ok(Limits::new(bound))
+    }
+
     /// Looks whether each column is a dimension.
     fn columns(&self, columns: &[NamedColumn]) -> Result<(), PipeErr>
         ensures none { OnOk result (first_unbound self.now.names.now (holds self.now.layout.now) columns.now ≡ None) }
@@ -153,50 +184,80 @@ impl<'a> Binder<'a> {
     }
 }
 
+impl<'a> Binder<'a> {
+    /// What a stage with these options does, where these are its ferries.
+    fn stage(&self, options: &Options, ferries: Assignments) -> Result<BoundStage, PipeErr>
+        ensures bound { IfOk result (λ b. b ≡ bound_with self.now.names.now ferries options.now) }
+        ensures ok { OnOk result (own_refused self.now.stage self.now.names.now (holds self.now.layout.now) options.now ≡ None) }
+        ensures fault { IfErr result (IsFaultOf (own_refused self.now.stage self.now.names.now (holds self.now.layout.now) options.now)) }
+    {
+        let filter = match options {
+            Options::ReadersLas(_) => return Ok(BoundStage::Reads),
+            Options::WritersLas(o) => return Ok(BoundStage::Writes(self.only(&o.only)?)),
+            Options::WritersText(o) => {
+                self.columns(o.columns.as_slice())?;
+                return Ok(BoundStage::Writes(self.only(&o.only)?));
+            }
+            Options::FiltersRange(o) => {
+                let limits = self.limits(o.limits.as_slice())?;
+                BoundFilter::Range(limits, self.only(&o.only)?)
+            }
+            Options::FiltersCrop(o) => {
+                let shape = o.shape.try_copy(self.alloc)?;
+                BoundFilter::Crop(shape, o.outside, self.only(&o.only)?)
+            }
+            Options::FiltersAssign(o) => {
+                let assignments = self.assignments(o.assignments.as_slice())?;
+                BoundFilter::Assign(assignments, self.only(&o.only)?)
+            }
+            Options::FiltersFerry(o) => BoundFilter::Assign(ferries, self.only(&o.only)?),
+            Options::FiltersExpression(o) => {
+                let expression = self.expression(&o.expression)?;
+                BoundFilter::Expression(expression, self.only(&o.only)?)
+            }
+            Options::FiltersDecimation(o) => {
+                BoundFilter::Decimation(o.step, o.offset, o.limit, self.only(&o.only)?)
+            }
+            Options::FiltersHead(o) => BoundFilter::Head(o.count, self.only(&o.only)?),
+            Options::FiltersReturns(o) => BoundFilter::Returns(o.groups, self.only(&o.only)?),
+            Options::FiltersMerge(_) => BoundFilter::Merge,
+        };
+        Ok(BoundStage::Filters(filter))
+    }
+}
+
 /// Binds the names of dimensions in the options of stage i, where the points that it takes have the dimensions of this set, and
-/// the pipeline has these extra names.
+/// the stages before it have added these extra names. The set becomes that of the points that it gives on, and the names those
+/// behind the stage.
 ///
-/// It is refused exactly where a name is none of them, or stands in an expression and is that of GPS time: `DimUnknown` or
-/// `DimNotNumeric` with the first such name, in the order of the options and of their texts, as it is spelled there. `Memory`
-/// comes only where there was none.
+/// It is refused exactly where a name that isn't a ferry's target is none of them, or a ferry's new target has more than 32 bytes,
+/// which is `DimUnknown`, or where GPS time stands in an expression or a ferry, which is `DimNotNumeric`, each with the first such
+/// name, in the order of the options and of their texts, as it is spelled there; and where a ferry's new target would be the ninth
+/// extra name, which is `TooManyDims`. `Memory` comes only where there was none. After a refusal the set is as before, and a ferry
+/// may have added some of its names.
 pub fn bind(
     alloc: Global,
     options: &Options,
     i: u32,
-    layout: &Layout,
-    names: &ExtraNames,
+    layout: &mut Layout,
+    names: &mut ExtraNames,
 ) -> Result<BoundStage, PipeErr>
-    ensures bound { IfOk result (λ b. b ≡ bound_stage names.now options.now) }
-    ensures ok { OnOk result (binding_fault i names.now (holds layout.now) options.now ≡ None) }
-    ensures fault { IfErr result (IsFaultOf (binding_fault i names.now (holds layout.now) options.now)) }
+    ensures bound { IfOk result (λ b. b ≡ bound_stage names.old options.now) }
+    ensures names { OnOk result (names.new ≡ names_behind names.old options.now) }
+    ensures layout { OnOk result ((dim : Dim) → holds layout.new dim ≡ (holds layout.old dim || adds names.old options.now dim)) }
+    ensures ok { OnOk result (binding_fault i names.old (holds layout.old) options.now ≡ None) }
+    ensures fault { IfErr result (IsFaultOf (binding_fault i names.old (holds layout.old) options.now)) }
+    ensures same { OnErr result (layout.new ≡ layout.old) }
 {
+    let ferries = bind_ferries(alloc, i, options.ferries(), layout, names)?;
+    let given = with_targets(layout, ferries.as_slice());
     let binder = Binder {
         alloc,
         stage: i,
         layout,
         names,
     };
-    match options {
-        Options::ReadersLas(_) => Ok(BoundStage::Reads),
-        Options::FiltersAssign(o) => {
-            let assignments = binder.assignments(o.assignments.as_slice())?;
-            let only = binder.only(&o.only)?;
-            Ok(BoundStage::Filters(BoundFilter::Assign(assignments, only)))
-        }
-        Options::FiltersExpression(o) => {
-            let expression = binder.expression(&o.expression)?;
-            let only = binder.only(&o.only)?;
-            Ok(BoundStage::Filters(BoundFilter::Expression(expression, only)))
-        }
-        Options::FiltersHead(o) => {
-            let only = binder.only(&o.only)?;
-            Ok(BoundStage::Filters(BoundFilter::Head(o.count, only)))
-        }
-        Options::FiltersMerge(_) => Ok(BoundStage::Filters(BoundFilter::Merge)),
-        Options::WritersLas(o) => Ok(BoundStage::Writes(binder.only(&o.only)?)),
-        Options::WritersText(o) => {
-            binder.columns(o.columns.as_slice())?;
-            Ok(BoundStage::Writes(binder.only(&o.only)?))
-        }
-    }
+    let stage = binder.stage(options, ferries)?;
+    *layout = given;
+    Ok(stage)
 }

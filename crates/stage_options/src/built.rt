@@ -12,9 +12,14 @@ pub fn is_built(kind: KindName) -> bool
     matches!(
         kind,
         KindName::ReadersLas
+            | KindName::FiltersRange
+            | KindName::FiltersCrop
             | KindName::FiltersAssign
+            | KindName::FiltersFerry
             | KindName::FiltersExpression
+            | KindName::FiltersDecimation
             | KindName::FiltersHead
+            | KindName::FiltersReturns
             | KindName::FiltersMerge
             | KindName::WritersLas
             | KindName::WritersText

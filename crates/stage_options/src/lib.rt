@@ -5,6 +5,7 @@ mod assignments;
 mod binding;
 mod bounded;
 mod built;
+mod ferries;
 mod laws;
 mod members;
 mod names;
@@ -26,8 +27,9 @@ pub use built::is_built;
 pub use laws::roles_follow_types;
 pub use names::{SourceName, TargetName};
 pub use options::{
-    AssignOptions, ExpressionOptions, HeadOptions, LasReaderOptions, LasWriterOptions,
-    MergeOptions, Options, TextOptions,
+    AssignOptions, CropOptions, DecimationOptions, ExpressionOptions, FerryOptions, HeadOptions,
+    LasReaderOptions, LasWriterOptions, MergeOptions, Options, RangeOptions, ReturnsOptions,
+    TextOptions,
 };
 pub use outputs::first_same_output;
 pub use role::Role;

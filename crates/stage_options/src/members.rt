@@ -8,7 +8,7 @@ ghost use Rattle.las_header.specs.Offsets.{IsOffset};
 ghost use Rattle.las_header.specs.ScaleWords.{scale_of_nano};
 ghost use Rattle.stage_options.specs.Expressions.{condition_with};
 ghost use Rattle.stage_options.specs.Seen.{given_view};
-ghost use Rattle.stage_options.specs.Typed.{option_in, whole_in, text_in, scale_in, offset_in, columns_in, forward_in, las_fields_in, text_options_in, where_in, expression_in, assignments_in};
+ghost use Rattle.stage_options.specs.Typed.{option_in, whole_in, text_in, scale_in, offset_in, columns_in, forward_in, las_fields_in, text_options_in, where_in, expression_in, assignments_in, ranges_in, box_in, ring_in, disc_in, shape_in, ferries_in, groups_in, last_returns};
 ghost use Rattle.stage_options.specs.Values.{whole_of, format_with, decimal_of, truth_of};
 
 use crate::assignments::AssignList;
@@ -21,14 +21,24 @@ use decimal_coords::Scale;
 use expr_lang::{Expr, ExprTree};
 use file_devices::Name;
 use forward_rules::{LasOpts, NameList};
+use geo_tests::{Area, Disc, Shape};
 use las_header::Format;
-use option_texts::{NamedColumns, columns_of, forward_of};
+use limits_text::{Polygon, RangeList};
+use option_texts::{Groups, NamedColumns, NamedFerries, columns_of, forward_of, groups_of};
 use pipeline_json::member;
 use serde_json::{Map, Value};
 use std::alloc::{AllocError, Global};
 
 /// The greatest offset, in nanounits.
 const MOST_OFFSET: i64 = 999_999_999_999_999_999;
+
+/// The last of several returns.
+const LAST_RETURNS: Groups = Groups {
+    first: false,
+    last: true,
+    intermediate: false,
+    only: false,
+};
 
 /// What an option is given.
 fn given<'a>(options: &'a Map<String, Value>, name: &str) -> Option<Given<'a>>
@@ -124,13 +134,13 @@ fn offset_in(options: &Map<String, Value>, name: &str) -> Option<i64>
     }
 }
 
-/// The truth value that an option is, or else true.
-fn truth_in(options: &Map<String, Value>, name: &str) -> bool
-    ensures { result ≡ unwrap_or (option_in truth_of name.now (members_view options.now.entries)) true }
+/// The truth value that an option is, or else this one.
+pub(crate) fn truth_or(options: &Map<String, Value>, name: &str, default: bool) -> bool
+    ensures { result ≡ unwrap_or (option_in truth_of name.now (members_view options.now.entries)) default }
 {
     given(options, name)
         .and_then(|given| given.truth())
-        .unwrap_or(true)
+        .unwrap_or(default)
 }
 
 /// The text that an option is.
@@ -269,6 +279,102 @@ pub(crate) fn assignments_in(
     }
 }
 
+/// The whole number that an option is.
+pub(crate) fn number_in(options: &Map<String, Value>, name: &str) -> Option<u32>
+    ensures { result ≡ option_in whole_of name.now (members_view options.now.entries) }
+{
+    given(options, name)?.whole()
+}
+
+/// Ranges of the values of dimensions.
+pub(crate) fn ranges_in(
+    alloc: Global,
+    options: &Map<String, Value>,
+) -> Result<RangeList, AllocError>
+    ensures { IfOk result (λ list. list ≡ ranges_in (members_view options.now.entries)) }
+{
+    let Some(given) = given(options, "limits") else {
+        return Ok(RangeList::new(Vec::new(alloc)));
+    };
+    match given.ranges(alloc)? {
+        Some(ranges) => Ok(ranges),
+        None => Ok(RangeList::new(Vec::new(alloc))),
+    }
+}
+
+/// The box of a crop.
+fn box_in(options: &Map<String, Value>) -> Option<Shape>
+    ensures { result ≡ box_in (members_view options.now.entries) }
+{
+    match given(options, "bounds")?.bounds() {
+        Some(bounds) => Some(Shape::Box(bounds)),
+        None => None,
+    }
+}
+
+/// The ring of a crop.
+fn ring_in(alloc: Global, options: &Map<String, Value>) -> Result<Option<Shape>, AllocError>
+    ensures { IfOk result (λ o. o ≡ ring_in (members_view options.now.entries)) }
+{
+    let Some(given) = given(options, "polygon") else {
+        return Ok(None);
+    };
+    match given.polygon(alloc)? {
+        Some(polygon) => Ok(Some(Shape::Polygon(Area::new(polygon)))),
+        None => Ok(None),
+    }
+}
+
+/// The disc of a crop.
+fn disc_in(options: &Map<String, Value>) -> Option<Shape>
+    ensures { result ≡ disc_in (members_view options.now.entries) }
+{
+    let (x, y) = given(options, "point")?.point()?;
+    let radius = decimal_in(options, "distance")?;
+    Some(Shape::Disc(Disc { x, y, radius }))
+}
+
+/// The shape of a crop.
+pub(crate) fn shape_in(alloc: Global, options: &Map<String, Value>) -> Result<Shape, AllocError>
+    ensures { IfOk result (λ shape. shape ≡ shape_in (members_view options.now.entries)) }
+{
+    if let Some(shape) = box_in(options) {
+        return Ok(shape);
+    }
+    if let Some(shape) = ring_in(alloc, options)? {
+        return Ok(shape);
+    }
+    match disc_in(options) {
+        Some(shape) => Ok(shape),
+        None => Ok(Shape::Polygon(Area::new(Polygon::new(Vec::new(alloc))))),
+    }
+}
+
+/// From which dimensions values go to which.
+pub(crate) fn ferries_in(
+    alloc: Global,
+    options: &Map<String, Value>,
+) -> Result<NamedFerries, AllocError>
+    ensures { IfOk result (λ list. list ≡ ferries_in (members_view options.now.entries)) }
+{
+    let Some(given) = given(options, "dimensions") else {
+        return Ok(NamedFerries::none(alloc));
+    };
+    match given.ferries(alloc)? {
+        Some(ferries) => Ok(ferries),
+        None => Ok(NamedFerries::none(alloc)),
+    }
+}
+
+/// The groups of returns that go on: by default the last of several.
+pub(crate) fn groups_in(options: &Map<String, Value>) -> Groups
+    ensures { result ≡ groups_in (members_view options.now.entries) }
+{
+    text_of(options, "groups")
+        .and_then(|text| groups_of(text))
+        .unwrap_or(LAST_RETURNS)
+}
+
 /// The columns of a text file: by default X, Y and Z.
 fn columns_in(alloc: Global, options: &Map<String, Value>) -> Result<NamedColumns, AllocError>
     ensures { IfOk result (λ columns. columns ≡ columns_in (members_view options.now.entries)) }
@@ -297,8 +403,8 @@ pub(crate) fn text_options(
         columns,
         precision: Places::new(precision),
         delimiter: Delimiter::new(delimiter),
-        quote_header: truth_in(options, "quote_header"),
-        write_header: truth_in(options, "write_header"),
+        quote_header: truth_or(options, "quote_header", true),
+        write_header: truth_or(options, "write_header", true),
         only,
     })
 }

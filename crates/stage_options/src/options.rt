@@ -1,6 +1,7 @@
 //! The options of a stage, by its type.
 
 ghost use Rattle.std.specs.Prelude.{◌≡◌};
+ghost use Rattle.stage_options.specs.Ferries.{ferries_in};
 ghost use Rattle.stage_options.specs.Kinds.{kind_of};
 ghost use Rattle.stage_options.specs.Roles.{role_of};
 ghost use Rattle.stage_options.specs.Seen.{role_view};
@@ -10,7 +11,9 @@ use crate::bounded::{Delimiter, LasFields, Places};
 use crate::names::{SourceName, TargetName};
 use crate::role::Role;
 use expr_lang::Expr;
-use option_texts::NamedColumns;
+use geo_tests::Shape;
+use limits_text::RangeList;
+use option_texts::{Groups, NamedColumns, NamedFerries, NamedFerry};
 use stage_names::KindName;
 
 /// The options of a stage, with their defaults put in.
@@ -19,14 +22,29 @@ pub enum Options {
     /// Of `readers.las`.
     ReadersLas(LasReaderOptions),
 
+    /// Of `filters.range`.
+    FiltersRange(RangeOptions),
+
+    /// Of `filters.crop`.
+    FiltersCrop(CropOptions),
+
     /// Of `filters.assign`.
     FiltersAssign(AssignOptions),
+
+    /// Of `filters.ferry`.
+    FiltersFerry(FerryOptions),
 
     /// Of `filters.expression`.
     FiltersExpression(ExpressionOptions),
 
     /// Of `filters.head`.
     FiltersHead(HeadOptions),
+
+    /// Of `filters.decimation`.
+    FiltersDecimation(DecimationOptions),
+
+    /// Of `filters.returns`.
+    FiltersReturns(ReturnsOptions),
 
     /// Of `filters.merge`.
     FiltersMerge(MergeOptions),
@@ -45,6 +63,29 @@ pub struct LasReaderOptions {
     pub filename: SourceName,
 }
 
+/// The options of `filters.range`.
+#[derive(Drop)]
+pub struct RangeOptions {
+    /// Ranges of the values of dimensions; of each dimension that is named one has to hold.
+    pub limits: RangeList,
+
+    /// The points that are judged, the others go on; None is all.
+    pub only: Option<Expr>,
+}
+
+/// The options of `filters.crop`.
+#[derive(Drop)]
+pub struct CropOptions {
+    /// The shape of the points that go on.
+    pub shape: Shape,
+
+    /// Whether the points outside go on in place of those inside.
+    pub outside: bool,
+
+    /// The points that are judged, the others go on; None is all.
+    pub only: Option<Expr>,
+}
+
 /// The options of `filters.assign`.
 #[derive(Drop)]
 pub struct AssignOptions {
@@ -52,6 +93,16 @@ pub struct AssignOptions {
     pub assignments: AssignList,
 
     /// The points at which they are made; None is all.
+    pub only: Option<Expr>,
+}
+
+/// The options of `filters.ferry`.
+#[derive(Drop)]
+pub struct FerryOptions {
+    /// From which dimensions values go to which, one after the other.
+    pub ferries: NamedFerries,
+
+    /// The points whose values go; None is all.
     pub only: Option<Expr>,
 }
 
@@ -72,6 +123,32 @@ pub struct HeadOptions {
     pub count: u32,
 
     /// The points that are counted, the others go on; None is all.
+    pub only: Option<Expr>,
+}
+
+/// The options of `filters.decimation`.
+#[derive(Drop)]
+pub struct DecimationOptions {
+    /// From one position that goes on to the next.
+    pub step: u32,
+
+    /// The first position that goes on.
+    pub offset: u32,
+
+    /// No position from here on goes on; None is no limit.
+    pub limit: Option<u32>,
+
+    /// The points that are counted, the others go on; None is all.
+    pub only: Option<Expr>,
+}
+
+/// The options of `filters.returns`.
+#[derive(Drop)]
+pub struct ReturnsOptions {
+    /// The groups of returns that go on.
+    pub groups: Groups,
+
+    /// The points that are judged, the others go on; None is all.
     pub only: Option<Expr>,
 }
 
@@ -124,9 +201,14 @@ impl Options {
     {
         match self {
             Options::ReadersLas(_) => KindName::ReadersLas,
+            Options::FiltersRange(_) => KindName::FiltersRange,
+            Options::FiltersCrop(_) => KindName::FiltersCrop,
             Options::FiltersAssign(_) => KindName::FiltersAssign,
+            Options::FiltersFerry(_) => KindName::FiltersFerry,
             Options::FiltersExpression(_) => KindName::FiltersExpression,
+            Options::FiltersDecimation(_) => KindName::FiltersDecimation,
             Options::FiltersHead(_) => KindName::FiltersHead,
+            Options::FiltersReturns(_) => KindName::FiltersReturns,
             Options::FiltersMerge(_) => KindName::FiltersMerge,
             Options::WritersLas(_) => KindName::WritersLas,
             Options::WritersText(_) => KindName::WritersText,
@@ -139,12 +221,19 @@ impl Options {
     {
         match self {
             Options::ReadersLas(options) => Role::Reads(options.filename.as_str()),
-            Options::FiltersAssign(_)
-            | Options::FiltersExpression(_)
-            | Options::FiltersHead(_)
-            | Options::FiltersMerge(_) => Role::Filters,
             Options::WritersLas(options) => Role::Writes(options.filename.as_str()),
             Options::WritersText(options) => Role::Writes(options.filename.as_str()),
+            _ => Role::Filters,
+        }
+    }
+
+    /// The ferries of a stage with these options, in the order in which they go; only `filters.ferry` has some.
+    pub fn ferries(&self) -> &[NamedFerry]
+        ensures { result.now ≡ ferries_in self.now }
+    {
+        match self {
+            Options::FiltersFerry(options) => options.ferries.as_slice(),
+            _ => &[],
         }
     }
 }

@@ -30,6 +30,24 @@ pub(crate) enum Allowed {
     /// The names of what is forwarded.
     Forward,
 
+    /// Ranges of the values of dimensions.
+    Ranges,
+
+    /// A box.
+    Bounds,
+
+    /// A ring of corners.
+    Polygon,
+
+    /// A point.
+    Point,
+
+    /// From which dimensions values go to which.
+    Ferries,
+
+    /// Groups of returns.
+    Groups,
+
     /// The text of a condition.
     Condition,
 
@@ -51,6 +69,12 @@ pub(crate) enum Rule {
 
     /// It may be there.
     Optional(&'static str, Allowed),
+
+    /// Just one of several has to be there: of those before it, itself, and those behind it.
+    OneOf(&'static str, Allowed, &'static [&'static str], &'static [&'static str]),
+
+    /// It has to be there where the other one is, and may not be there else.
+    AlongWith(&'static str, Allowed, &'static str),
 }
 
 impl Rule {
@@ -59,15 +83,11 @@ impl Rule {
         ensures { result.now ≡ (rule_view self.now).name }
     {
         match self {
-            Rule::Required(name, _) | Rule::Optional(name, _) => name,
+            Rule::Required(name, _)
+            | Rule::Optional(name, _)
+            | Rule::OneOf(name, _, _, _)
+            | Rule::AlongWith(name, _, _) => name,
         }
-    }
-
-    /// Whether it has to be there.
-    pub(crate) fn is_required(&self) -> bool
-        ensures { result ≡ (rule_view self.now).is_required }
-    {
-        matches!(self, Rule::Required(_, _))
     }
 
     /// What it may hold.
@@ -75,7 +95,10 @@ impl Rule {
         ensures { allowed_view result ≡ (rule_view self.now).allowed }
     {
         match self {
-            Rule::Required(_, allowed) | Rule::Optional(_, allowed) => *allowed,
+            Rule::Required(_, allowed)
+            | Rule::Optional(_, allowed)
+            | Rule::OneOf(_, allowed, _, _)
+            | Rule::AlongWith(_, allowed, _) => *allowed,
         }
     }
 }
@@ -86,6 +109,9 @@ const SCALE: Allowed = Allowed::Decimal(1, 1_000_000_000);
 /// An offset, below 10^9 in size.
 const OFFSET: Allowed = Allowed::Decimal(-999_999_999_999_999_999, 999_999_999_999_999_999);
 
+/// A radius, up to 4 * 10^9.
+const DISTANCE: Allowed = Allowed::Decimal(0, 4_000_000_000_000_000_000);
+
 /// A field of 16 bits.
 const SHORT: Allowed = Allowed::Whole(0, 65_535);
 
@@ -95,17 +121,44 @@ const READERS_LAS: &[Rule] = &[Rule::Required("filename", Allowed::Source)];
 /// Which points a stage judges or writes.
 const WHERE: Rule = Rule::Optional("where", Allowed::Condition);
 
+/// The options of `filters.range`.
+const FILTERS_RANGE: &[Rule] = &[Rule::Required("limits", Allowed::Ranges), WHERE];
+
+/// The options of `filters.crop`.
+const FILTERS_CROP: &[Rule] = &[
+    Rule::OneOf("bounds", Allowed::Bounds, &[], &["polygon", "point"]),
+    Rule::OneOf("polygon", Allowed::Polygon, &["bounds"], &["point"]),
+    Rule::OneOf("point", Allowed::Point, &["bounds", "polygon"], &[]),
+    Rule::AlongWith("distance", DISTANCE, "point"),
+    Rule::Optional("outside", Allowed::Truth),
+    WHERE,
+];
+
 /// The options of `filters.assign`.
 const FILTERS_ASSIGN: &[Rule] = &[Rule::Required("value", Allowed::Assignments), WHERE];
 
+/// The options of `filters.ferry`.
+const FILTERS_FERRY: &[Rule] = &[Rule::Required("dimensions", Allowed::Ferries), WHERE];
+
 /// The options of `filters.expression`.
 const FILTERS_EXPRESSION: &[Rule] = &[Rule::Required("expression", Allowed::Condition), WHERE];
+
+/// The options of `filters.decimation`.
+const FILTERS_DECIMATION: &[Rule] = &[
+    Rule::Optional("step", Allowed::Whole(1, 4_294_967_295)),
+    Rule::Optional("offset", Allowed::Whole(0, 4_294_967_295)),
+    Rule::Optional("limit", Allowed::Whole(0, 4_294_967_295)),
+    WHERE,
+];
 
 /// The options of `filters.head`.
 const FILTERS_HEAD: &[Rule] = &[
     Rule::Optional("count", Allowed::Whole(0, 4_294_967_295)),
     WHERE,
 ];
+
+/// The options of `filters.returns`.
+const FILTERS_RETURNS: &[Rule] = &[Rule::Optional("groups", Allowed::Groups), WHERE];
 
 /// The options of `writers.las`.
 const WRITERS_LAS: &[Rule] = &[
@@ -145,9 +198,14 @@ pub(crate) fn rules(kind: KindName) -> &'static [Rule]
 {
     match kind {
         KindName::ReadersLas => READERS_LAS,
+        KindName::FiltersRange => FILTERS_RANGE,
+        KindName::FiltersCrop => FILTERS_CROP,
         KindName::FiltersAssign => FILTERS_ASSIGN,
+        KindName::FiltersFerry => FILTERS_FERRY,
         KindName::FiltersExpression => FILTERS_EXPRESSION,
+        KindName::FiltersDecimation => FILTERS_DECIMATION,
         KindName::FiltersHead => FILTERS_HEAD,
+        KindName::FiltersReturns => FILTERS_RETURNS,
         KindName::WritersLas => WRITERS_LAS,
         KindName::WritersText => WRITERS_TEXT,
         _ => &[],

@@ -8,11 +8,14 @@ ghost use Rattle.stage_options.specs.Typed.{typed_of, is_built};
 ghost use Rattle.stage_options.specs.Faults.{first_fault, IsFaultOf};
 ghost use Rattle.stage_options.specs.Values.{is_source, is_target};
 
-use crate::members::{assignments_in, expression_in, las_fields, text_options, where_in, whole_or};
+use crate::members::{
+    assignments_in, expression_in, ferries_in, groups_in, las_fields, number_in, ranges_in,
+    shape_in, text_options, truth_or, where_in, whole_or,
+};
 use crate::names::{SourceName, TargetName};
 use crate::options::{
-    AssignOptions, ExpressionOptions, HeadOptions, LasReaderOptions, LasWriterOptions,
-    MergeOptions, Options,
+    AssignOptions, CropOptions, DecimationOptions, ExpressionOptions, FerryOptions, HeadOptions,
+    LasReaderOptions, LasWriterOptions, MergeOptions, Options, RangeOptions, ReturnsOptions,
 };
 use crate::rules::rules;
 use crate::walks::{name_of, refuse};
@@ -31,6 +34,29 @@ fn readers_las(alloc: Global, filename: Option<&str>) -> Result<Options, AllocEr
     }))
 }
 
+/// The options of a filter by ranges.
+fn filters_range(alloc: Global, options: &Map<String, Value>) -> Result<Options, AllocError>
+    ensures { (filename : Option (List ℕ)) → IfOk result (λ o. Some o ≡ typed_of KindName.FiltersRange filename (members_view options.now.entries)) }
+{
+    let limits = ranges_in(alloc, options)?;
+    let only = where_in(alloc, options)?;
+    Ok(Options::FiltersRange(RangeOptions { limits, only }))
+}
+
+/// The options of a filter by a shape.
+fn filters_crop(alloc: Global, options: &Map<String, Value>) -> Result<Options, AllocError>
+    ensures { (filename : Option (List ℕ)) → IfOk result (λ o. Some o ≡ typed_of KindName.FiltersCrop filename (members_view options.now.entries)) }
+{
+    let shape = shape_in(alloc, options)?;
+    let outside = truth_or(options, "outside", false);
+    let only = where_in(alloc, options)?;
+    Ok(Options::FiltersCrop(CropOptions {
+        shape,
+        outside,
+        only,
+    }))
+}
+
 /// The options of assignments.
 fn filters_assign(alloc: Global, options: &Map<String, Value>) -> Result<Options, AllocError>
     ensures { (filename : Option (List ℕ)) → IfOk result (λ o. Some o ≡ typed_of KindName.FiltersAssign filename (members_view options.now.entries)) }
@@ -40,6 +66,15 @@ fn filters_assign(alloc: Global, options: &Map<String, Value>) -> Result<Options
     Ok(Options::FiltersAssign(AssignOptions { assignments, only }))
 }
 
+/// The options of ferries.
+fn filters_ferry(alloc: Global, options: &Map<String, Value>) -> Result<Options, AllocError>
+    ensures { (filename : Option (List ℕ)) → IfOk result (λ o. Some o ≡ typed_of KindName.FiltersFerry filename (members_view options.now.entries)) }
+{
+    let ferries = ferries_in(alloc, options)?;
+    let only = where_in(alloc, options)?;
+    Ok(Options::FiltersFerry(FerryOptions { ferries, only }))
+}
+
 /// The options of a filter by a condition.
 fn filters_expression(alloc: Global, options: &Map<String, Value>) -> Result<Options, AllocError>
     ensures { (filename : Option (List ℕ)) → IfOk result (λ o. Some o ≡ typed_of KindName.FiltersExpression filename (members_view options.now.entries)) }
@@ -47,6 +82,27 @@ fn filters_expression(alloc: Global, options: &Map<String, Value>) -> Result<Opt
     let expression = expression_in(alloc, options)?;
     let only = where_in(alloc, options)?;
     Ok(Options::FiltersExpression(ExpressionOptions { expression, only }))
+}
+
+/// The options of a decimation.
+fn filters_decimation(alloc: Global, options: &Map<String, Value>) -> Result<Options, AllocError>
+    ensures { (filename : Option (List ℕ)) → IfOk result (λ o. Some o ≡ typed_of KindName.FiltersDecimation filename (members_view options.now.entries)) }
+{
+    Ok(Options::FiltersDecimation(DecimationOptions {
+        step: whole_or(options, "step", 1),
+        offset: whole_or(options, "offset", 0),
+        limit: number_in(options, "limit"),
+        only: where_in(alloc, options)?,
+    }))
+}
+
+/// The options of a filter by groups of returns.
+fn filters_returns(alloc: Global, options: &Map<String, Value>) -> Result<Options, AllocError>
+    ensures { (filename : Option (List ℕ)) → IfOk result (λ o. Some o ≡ typed_of KindName.FiltersReturns filename (members_view options.now.entries)) }
+{
+    let groups = groups_in(options);
+    let only = where_in(alloc, options)?;
+    Ok(Options::FiltersReturns(ReturnsOptions { groups, only }))
 }
 
 /// The options of a head.
@@ -108,9 +164,14 @@ pub(crate) fn type_options(
     refuse(alloc, rules(kind), filename, options, i)?;
     match kind {
         KindName::ReadersLas => Ok(readers_las(alloc, filename)?),
+        KindName::FiltersRange => Ok(filters_range(alloc, options)?),
+        KindName::FiltersCrop => Ok(filters_crop(alloc, options)?),
         KindName::FiltersAssign => Ok(filters_assign(alloc, options)?),
+        KindName::FiltersFerry => Ok(filters_ferry(alloc, options)?),
         KindName::FiltersExpression => Ok(filters_expression(alloc, options)?),
+        KindName::FiltersDecimation => Ok(filters_decimation(alloc, options)?),
         KindName::FiltersHead => Ok(filters_head(alloc, options)?),
+        KindName::FiltersReturns => Ok(filters_returns(alloc, options)?),
         KindName::FiltersMerge => Ok(Options::FiltersMerge(MergeOptions {})),
         KindName::WritersLas => Ok(writers_las(alloc, filename, options)?),
         KindName::WritersText => Ok(writers_text(alloc, filename, options)?),

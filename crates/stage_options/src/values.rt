@@ -5,6 +5,8 @@ ghost use Rattle.serde_json.specs.Data.{number, string};
 ghost use Rattle.serde_json.specs.Find.{as_str};
 ghost use Rattle.serde_json.specs.View.{view, items_view, members_view, number_view};
 ghost use Rattle.expr_lang.specs.Said.{condition_of, assignment_of_text};
+ghost use Rattle.limits_text.specs.Texts.{ranges_of, bounds_of, polygon_of, point_of};
+ghost use Rattle.option_texts.specs.Ferries.{ferries_of};
 ghost use Rattle.stage_options.specs.Expressions.{condition_with, assignment_with, all_assignments, some_and_few, assignments_with};
 ghost use Rattle.stage_options.specs.Values.{text_whole, whole_of, format_with, whole_nano, decimal_of, text_truth, truth_of, is_part, is_source, is_target};
 ghost use Rattle.stage_options.specs.Faults.{value_of};
@@ -13,6 +15,10 @@ ghost use Rattle.stage_options.specs.Seen.{given_view};
 use decimal_coords::parse_decimal;
 use expr_lang::{Assign, Expr, ExprErr, parse_assign, parse_expr};
 use las_header::Format;
+use limits_text::{
+    Box3, Polygon, RangeList, TextErr, parse_bounds, parse_point, parse_polygon, parse_ranges,
+};
+use option_texts::{NamedFerries, ferries_of};
 use pipeline_json::member;
 use serde_json::{Map, Number, Value};
 use std::alloc::{AllocError, Global};
@@ -125,6 +131,48 @@ fn assignment(alloc: Global, text: &str) -> Result<Option<Assign>, AllocError>
         Ok(assignment) => Ok(Some(assignment)),
         Err(ExprErr::Fault(_)) => Ok(None),
         Err(ExprErr::Memory) => Err(AllocError),
+    }
+}
+
+/// The box that a text is.
+fn bounds(text: &str) -> Option<Box3>
+    ensures { result ≡ bounds_of text.now }
+{
+    match parse_bounds(text) {
+        Ok(bounds) => Some(bounds),
+        Err(_) => None,
+    }
+}
+
+/// The point that a text is.
+fn point(text: &str) -> Option<(i64, i64)>
+    ensures { result ≡ point_of text.now }
+{
+    match parse_point(text) {
+        Ok(point) => Some(point),
+        Err(_) => None,
+    }
+}
+
+/// The ranges that a text is.
+fn ranges(alloc: Global, text: &str) -> Result<Option<RangeList>, AllocError>
+    ensures { IfOk result (λ o. o ≡ ranges_of text.now) }
+{
+    match parse_ranges(alloc, text) {
+        Ok(ranges) => Ok(Some(ranges)),
+        Err(TextErr::Fault(_)) => Ok(None),
+        Err(TextErr::Memory) => Err(AllocError),
+    }
+}
+
+/// The ring that a text is.
+fn polygon(alloc: Global, text: &str) -> Result<Option<Polygon>, AllocError>
+    ensures { IfOk result (λ o. o ≡ polygon_of text.now) }
+{
+    match parse_polygon(alloc, text) {
+        Ok(polygon) => Ok(Some(polygon)),
+        Err(TextErr::Fault(_)) => Ok(None),
+        Err(TextErr::Memory) => Err(AllocError),
     }
 }
 
@@ -243,6 +291,50 @@ impl<'a> Given<'a> {
                 Ok(some_and_few(assignments(alloc, values.as_slice())?))
             }
             _ => one_assignment(alloc, self.text()),
+        }
+    }
+
+    /// The box that is given.
+    pub(crate) fn bounds(self) -> Option<Box3>
+        ensures { result ≡ option_and_then bounds_of (as_str (given_view self.entry)) }
+    {
+        bounds(self.text()?)
+    }
+
+    /// The point that is given, in nanounits.
+    pub(crate) fn point(self) -> Option<(i64, i64)>
+        ensures { result ≡ option_and_then point_of (as_str (given_view self.entry)) }
+    {
+        point(self.text()?)
+    }
+
+    /// The ranges that are given. Refused only where memory is wanting.
+    pub(crate) fn ranges(self, alloc: Global) -> Result<Option<RangeList>, AllocError>
+        ensures { IfOk result (λ o. o ≡ option_and_then ranges_of (as_str (given_view self.entry))) }
+    {
+        match self.text() {
+            Some(text) => ranges(alloc, text),
+            None => Ok(None),
+        }
+    }
+
+    /// The ring that is given. Refused only where memory is wanting.
+    pub(crate) fn polygon(self, alloc: Global) -> Result<Option<Polygon>, AllocError>
+        ensures { IfOk result (λ o. o ≡ option_and_then polygon_of (as_str (given_view self.entry))) }
+    {
+        match self.text() {
+            Some(text) => polygon(alloc, text),
+            None => Ok(None),
+        }
+    }
+
+    /// The ferries that are given. Refused only where memory is wanting.
+    pub(crate) fn ferries(self, alloc: Global) -> Result<Option<NamedFerries>, AllocError>
+        ensures { IfOk result (λ o. o ≡ option_and_then ferries_of (as_str (given_view self.entry))) }
+    {
+        match self.text() {
+            Some(text) => ferries_of(alloc, text),
+            None => Ok(None),
         }
     }
 

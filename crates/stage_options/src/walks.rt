@@ -1,18 +1,18 @@
 //! The faults of options: unknown names, then missing options, then wrong values.
 
-ghost use Rattle.std.specs.Prelude.{◌≡◌, ◌&&◌, not, option_map, is_none, string_bytes, find, None, IfOk, IfErr, OnOk};
+ghost use Rattle.std.specs.Prelude.{◌≡◌, not, map, option_map, string_bytes, find, None, IfOk, IfErr, OnOk};
 ghost use Rattle.std.specs.BTreeMap.{keys, IsOrdered};
 ghost use Rattle.std.specs.String.{string_cmp};
-ghost use Rattle.std.specs.List.{filter};
+ghost use Rattle.std.specs.List.{filter, list_any};
 ghost use Rattle.serde_json.specs.View.{members_view};
 ghost use Rattle.stage_options.specs.Rules.{is_within, is_between, has_size, fits};
-ghost use Rattle.stage_options.specs.Faults.{value_of, names_of, lesser, least, is_known, first_unknown, first_missing, is_wrong, first_wrong, fault_by, IsFaultOf};
+ghost use Rattle.stage_options.specs.Faults.{value_of, names_of, lesser, least, is_known, first_unknown, stands, is_missing, first_missing, is_wrong, is_barred, first_wrong, fault_by, IsFaultOf};
 ghost use Rattle.stage_options.specs.Seen.{allowed_view, rule_view, rules_view, given_view};
 
 use crate::rules::{Allowed, Rule};
 use crate::values::{Given, is_source, is_target, value_of};
 use file_devices::Name;
-use option_texts::{is_columns, is_forward};
+use option_texts::{groups_of, is_columns, is_forward};
 use serde_json::{Map, Value};
 use stage_names::{PipeErr, PipeFault};
 use std::alloc::{AllocError, Global};
@@ -53,9 +53,34 @@ fn fits(alloc: Global, allowed: Allowed, given: Given<'_>) -> Result<bool, Alloc
         Allowed::Forward => given.text().is_some_and(|text| is_forward(text)),
         Allowed::Source => given.text().is_some_and(|name| is_source(name)),
         Allowed::Target => given.text().is_some_and(|name| is_target(name)),
+        Allowed::Bounds => given.bounds().is_some(),
+        Allowed::Point => given.point().is_some(),
+        Allowed::Ranges => given.ranges(alloc)?.is_some(),
+        Allowed::Polygon => given.polygon(alloc)?.is_some(),
+        Allowed::Groups => given.text().is_some_and(|text| groups_of(text).is_some()),
+        Allowed::Ferries => given.ferries(alloc)?.is_some(),
         Allowed::Condition => given.condition(alloc)?.is_some(),
         Allowed::Assignments => given.assignments(alloc)?.is_some(),
     })
+}
+
+/// Whether an option is there.
+fn stands(filename: Option<&str>, options: &Map<String, Value>, name: &str) -> bool
+    ensures { result ≡ stands (option_map (λ s. s.now) filename.entry) (members_view options.now.entries) name.now }
+{
+    value_of(filename, options, name).is_some()
+}
+
+/// Whether one of these options is there.
+fn any_stands(filename: Option<&str>, options: &Map<String, Value>, names: &[&str]) -> bool
+    ensures { result ≡ list_any (stands (option_map (λ s. s.now) filename.entry) (members_view options.now.entries)) (map (λ s. s.now) names.now) }
+{
+    for name in names {
+        if stands(filename, options, name) {
+            return true;
+        }
+    }
+    false
 }
 
 /// Whether an option is there with a value that it may not hold.
@@ -76,9 +101,36 @@ fn is_wrong(
 
 /// Whether an option that has to be there isn't.
 fn is_missing(rule: &Rule, filename: Option<&str>, options: &Map<String, Value>) -> bool
-    ensures { result ≡ ((rule_view rule.now).is_required && is_none (value_of (rule_view rule.now).name (option_map (λ s. s.now) filename.entry) (members_view options.now.entries))) }
+    ensures { result ≡ is_missing ((rule_view rule.now).presence) ((rule_view rule.now).name) (option_map (λ s. s.now) filename.entry) (members_view options.now.entries) }
 {
-    rule.is_required() && value_of(filename, options, rule.name()).is_none()
+    match rule {
+        Rule::Required(name, _) => !stands(filename, options, name),
+        Rule::Optional(_, _) => false,
+        Rule::OneOf(name, _, before, behind) => {
+            before.is_empty()
+                && !(stands(filename, options, name) || any_stands(filename, options, behind))
+        }
+        Rule::AlongWith(name, _, other) => {
+            stands(filename, options, other) && !stands(filename, options, name)
+        }
+    }
+}
+
+/// Whether an option is there that may not be.
+fn is_barred(rule: &Rule, filename: Option<&str>, options: &Map<String, Value>) -> bool
+    ensures { result ≡ is_barred ((rule_view rule.now).presence) ((rule_view rule.now).name) (option_map (λ s. s.now) filename.entry) (members_view options.now.entries) }
+{
+    match rule {
+        Rule::Required(_, _) | Rule::Optional(_, _) => false,
+        Rule::OneOf(name, _, before, behind) => {
+            stands(filename, options, name)
+                && any_stands(filename, options, before)
+                && !any_stands(filename, options, behind)
+        }
+        Rule::AlongWith(name, _, other) => {
+            stands(filename, options, name) && !stands(filename, options, other)
+        }
+    }
 }
 
 /// Whether one of the options has this name.
@@ -109,7 +161,7 @@ fn first_missing(
     None
 }
 
-/// The first option with a value that it may not hold.
+/// The first option with a value that it may not hold, or that may not be there.
 fn first_wrong(
     alloc: Global,
     table: &[Rule],
@@ -120,7 +172,7 @@ fn first_wrong(
         ≡ first_wrong (rules_view table.now) (option_map (λ s. s.now) filename.entry) (members_view options.now.entries)) }
 {
     for rule in table {
-        if is_wrong(alloc, rule, filename, options)? {
+        if is_wrong(alloc, rule, filename, options)? || is_barred(rule, filename, options) {
             return Ok(Some(rule.name()));
         }
     }

@@ -31,7 +31,7 @@ use Rattle.stage_options.specs.Roles as role
 use Rattle.cloud_points.specs.declared.faults.PointFault.{PointFault}
 use Rattle.stage_kinds.specs.declared.stage_work.StageWork.TheVariants.{Reader, Filter, Writer}
 use Rattle.stage_options.specs.declared.stage.StageSpec.{StageSpec}
-use Rattle.answer_model.specs.Values.{LasFile, Opened, IsDown, options_at, role_at, row_at, reads_at, stage_value, stage_input, stage_fault}
+use Rattle.answer_model.specs.Values.{LasFile, Opened, IsDown, options_at, role_at, row_at, setting_at, stage_value, stage_input, stage_fault}
 use Rattle.answer_model.specs.Rows as rows
 use Rattle.answer_model.proofs.Values.{value-input}
 use Rattle.stage_runs.specs.Works.{as_works, form_for, ins_of, op_for, HaveRead, IsAtStart, AreNewStages, ReadersTell}
@@ -75,14 +75,14 @@ module _ {S K : Type 0} (s : source.Ghosts S) (k : sink.Ghosts K) (stages : List
     have-read : HaveRead (map work_of old) opened
     have-read i r e = let n = mapped-at work_of old i (Reader r) e in ap (λ (x : LasFile). x.read) (tell i n.0 r n.1 n.2).holds
 
-    start-at : (i : ℕ) (n : Node (StageWork S K)) → slice_get old i ≡ Some n → IsAtStart k.bytes (options_at stages i) (reads_at stages opened i) n.work
+    start-at : (i : ℕ) (n : Node (StageWork S K)) → slice_get old i ≡ Some n → IsAtStart k.bytes (options_at stages i) (setting_at stages opened i) n.work
     start-at i n e = new.works opened have-read i n.work (map-at work_of old i n e)
 
     leaf-at : (i : ℕ) (n : Node (StageWork S K)) → slice_get old i ≡ Some n → is_reader n.work ≡ true → IsLeaf s (options_at stages i) (opened i).las n.work
-    leaf-at i n e l = leaf-is s k.bytes (options_at stages i) (reads_at stages opened i) opened i n.work (start-at i n e) l (λ r w. tell i n r e w)
+    leaf-at i n e l = leaf-is s k.bytes (options_at stages i) (setting_at stages opened i) opened i n.work (start-at i n e) l (λ r w. tell i n r e w)
 
-    inner-at : (i : ℕ) (n : Node (StageWork S K)) → slice_get old i ≡ Some n → is_reader n.work ≡ false → IsInner (options_at stages i) (reads_at stages opened i) n.work
-    inner-at i n e l = inner-is s k.bytes (options_at stages i) (reads_at stages opened i) n.work (start-at i n e) l
+    inner-at : (i : ℕ) (n : Node (StageWork S K)) → slice_get old i ≡ Some n → is_reader n.work ≡ false → IsInner (options_at stages i) (setting_at stages opened i) n.work
+    inner-at i n e l = inner-is s k.bytes (options_at stages i) (setting_at stages opened i) n.work (start-at i n e) l
 
     -- by whether it reads
     value-leaf : (i : ℕ) → is_reading (role_at stages i) ≡ true → stage_value stages opened i ≡ las_flow (opened i).las
@@ -131,13 +131,13 @@ module _ {S K : Type 0} (s : source.Ghosts S) (k : sink.Ghosts K) (stages : List
               by_role true e = inr e
               by_role false e = inl (no-point _ (sym sound ∙ fault-is ∙ ap (λ b. option_map stage.Point (cond b (las_fault (opened i).las) (rows.fault_on (row_at stages opened i) (stage_input stages opened i)))) e))
 
-          holds-so : m.fault ≡ None → (writing : Writing) → form_for (options_at stages i) (reads_at stages opened i) ≡ Makes writing → HoldsAll k.bytes writing (points (stage_input stages opened i)) m.work
+          holds-so : m.fault ≡ None → (writing : Writing) → form_for (options_at stages i) (setting_at stages opened i) ≡ Makes writing → HoldsAll k.bytes writing (points (stage_input stages opened i)) m.work
           holds-so sound writing is = by_kind (is_reader was.0.work) refl
             where
               writes : is_writing (role_at stages i) ≡ true
-              writes = ap is_writing ((writer-row (options_at stages i) (reads_at stages opened i) writing is).does)
+              writes = ap is_writing ((writer-row (options_at stages i) (setting_at stages opened i) writing is).does)
 
-              start : IsAtStart k.bytes (options_at stages i) (reads_at stages opened i) was.0.work
+              start : IsAtStart k.bytes (options_at stages i) (setting_at stages opened i) was.0.work
               start = start-at i was.0 was.1
 
               by_kind : (b : Bool) → is_reader was.0.work ≡ b → HoldsAll k.bytes writing (points (stage_input stages opened i)) m.work
@@ -146,23 +146,23 @@ module _ {S K : Type 0} (s : source.Ghosts S) (k : sink.Ghosts K) (stages : List
                   let took = over.took i was.0 m was.1 f l in
                   record {
                     is = writing-kept was.0.work m.work (input_at (ins_of stages) (stage_value stages opened) i) took.state
-                        ∙ writing-at-start s k.bytes (options_at stages i) (reads_at stages opened i) was.0.work start writing is;
+                        ∙ writing-at-start s k.bytes (options_at stages i) (setting_at stages opened i) was.0.work start writing is;
                     holds = ap (λ flow. holds_of k.bytes m.work (points flow)) (sym (input-is i))
-                        ∙ took.holds sound (holds-nothing s k.bytes (options_at stages i) (reads_at stages opened i) was.0.work start);
-                    nowhere = nowhere-is (options_at stages i) (reads_at stages opened i) writing (stage_input stages opened i) is
+                        ∙ took.holds sound (holds-nothing s k.bytes (options_at stages i) (setting_at stages opened i) was.0.work start);
+                    nowhere = nowhere-is (options_at stages i) (setting_at stages opened i) writing (stage_input stages opened i) is
                         (elim (sound-so sound) [ inl e ↦ e | inr e ↦ absurd (not-both (role_at stages i) e writes) ]);
                   }
 
-          wrote-so : m.fault ≡ None → written_by m.work ≡ wrote_of (form_for (options_at stages i) (reads_at stages opened i)) (points (stage_input stages opened i))
-          wrote-so sound = by_form (form_for (options_at stages i) (reads_at stages opened i)) refl
+          wrote-so : m.fault ≡ None → written_by m.work ≡ wrote_of (form_for (options_at stages i) (setting_at stages opened i)) (points (stage_input stages opened i))
+          wrote-so sound = by_form (form_for (options_at stages i) (setting_at stages opened i)) refl
             where
               device : op_of m.work ≡ op_for (role_at stages i)
-              device = (ran.calm i was.0 m was.1 f).op ∙ op-at-start s k.bytes (options_at stages i) (reads_at stages opened i) was.0.work (start-at i was.0 was.1)
+              device = (ran.calm i was.0 m was.1 f).op ∙ op-at-start s k.bytes (options_at stages i) (setting_at stages opened i) was.0.work (start-at i was.0 was.1)
 
-              row : (form : StageForm) → form_for (options_at stages i) (reads_at stages opened i) ≡ form → IsRow form (options_at stages i) (reads_at stages opened i)
-              row form is = subst (λ g. IsRow g (options_at stages i) (reads_at stages opened i)) is (row-is (options_at stages i) (reads_at stages opened i))
+              row : (form : StageForm) → form_for (options_at stages i) (setting_at stages opened i) ≡ form → IsRow form (options_at stages i) (setting_at stages opened i)
+              row form is = subst (λ g. IsRow g (options_at stages i) (setting_at stages opened i)) is (row-is (options_at stages i) (setting_at stages opened i))
 
-              by_form : (form : StageForm) → form_for (options_at stages i) (reads_at stages opened i) ≡ form → written_by m.work ≡ wrote_of form (points (stage_input stages opened i))
+              by_form : (form : StageForm) → form_for (options_at stages i) (setting_at stages opened i) ≡ form → written_by m.work ≡ wrote_of form (points (stage_input stages opened i))
               by_form (Makes x) is = let all = holds-so sound x is in wrote-all m.work k.bytes x (points (stage_input stages opened i)) all.is all.holds all.nowhere
               by_form Reads is = wrote-none m.work (device ∙ (row Reads is).1) (λ e. absurd cc)
               by_form (Filters g) is = wrote-none m.work (device ∙ ap op_for (row (Filters g) is).does) (λ e. absurd cc)

@@ -10,7 +10,6 @@ use Rattle.cloud_points.specs.declared.faults.StageFault.TheVariants as stage
 use Rattle.cloud_points.specs.Flows.{Flow, points}
 use Rattle.cloud_points.specs.Queue.{up_to_limit}
 use Rattle.cloud_points.specs.Marks.{flow_marks}
-use Rattle.forward_rules.specs.Forwarded.{ReadFile}
 use Rattle.las_reader.specs.Files.{Las as LasPoints}
 use Rattle.las_reader.specs.Flows.{las_flow, las_fault}
 use Rattle.las_reader.specs.declared.reader.LasReader.{LasReader}
@@ -32,10 +31,10 @@ use Rattle.stage_kinds.specs.Reads.{tells_of, told_of, told_fault_of}
 use Rattle.stage_kinds.proofs.Streams.{filter_gives, filter_fault, writer_gives, writer_fault, sound_nowhere}
 use Rattle.stage_kinds.proofs.Telling.{reader_starts}
 use Rattle.stage_options.specs.declared.options.Options.{Options}
-use Rattle.stage_options.specs.declared.options.Options.TheVariants.{ReadersLas, FiltersAssign, FiltersExpression, FiltersHead, FiltersMerge, WritersLas, WritersText}
+use Rattle.stage_options.specs.declared.options.Options.TheVariants.{ReadersLas, WritersLas, WritersText}
 use Rattle.stage_options.specs.Roles.{Role, role_of, target_of, is_reading, is_writing}
 use Rattle.stage_options.specs.Roles as role
-use Rattle.answer_model.specs.Rows.{row_of, value_on}
+use Rattle.answer_model.specs.Rows.{Setting, row_of, value_on}
 use Rattle.answer_model.specs.Rows as rows
 use Rattle.answer_model.specs.Values.{LasFile, Opened}
 use Rattle.stage_runs.specs.Ran.{wrote_of}
@@ -49,46 +48,43 @@ pub record IsLeaf {S K : Type 0} (s : source.Ghosts S) (o : Options) (las : LasP
   pub fault : told_fault_of s.bytes w ≡ option_map stage.Point (las_fault las)
 
 -- any other work makes the value of its stage, and has the stage's fault
-pub record IsInner {S K : Type 0} (o : Options) (reads : List ReadFile) (w : StageWork S K) : Type 0 where
+pub record IsInner {S K : Type 0} (o : Options) (setting : Setting) (w : StageWork S K) : Type 0 where
   pub inner : is_reading (role_of o) ≡ false
-  pub makes : (flow : Flow Point) → made_of (meaning_of w) (state_of w) flow ≡ flow_marks (value_on (row_of o reads) flow)
-  pub fault : (flow : Flow Point) → fault_on (meaning_of w) (state_of w) flow ≡ option_map stage.Point (rows.fault_on (row_of o reads) flow)
+  pub makes : (flow : Flow Point) → made_of (meaning_of w) (state_of w) flow ≡ flow_marks (value_on (row_of o setting) flow)
+  pub fault : (flow : Flow Point) → fault_on (meaning_of w) (state_of w) flow ≡ option_map stage.Point (rows.fault_on (row_of o setting) flow)
 
 -- ---- what a stage's work is made of is what its row says
 
-pub record IsFilterRow (f : Filtering) (o : Options) (reads : List ReadFile) : Type 0 where
+pub record IsFilterRow (f : Filtering) (o : Options) (setting : Setting) : Type 0 where
   pub does : role_of o ≡ role.Filters
   pub begins : spot_of f ≡ spot_at 0
-  pub filtering : filtering_of f ≡ (row_of o reads).filtering
+  pub filtering : filtering_of f ≡ (row_of o setting).filtering
 
-pub record IsWriterRow (x : Writing) (o : Options) (reads : List ReadFile) : Type 0 where
+pub record IsWriterRow (x : Writing) (o : Options) (setting : Setting) : Type 0 where
   pub name : List ℕ
   pub does : role_of o ≡ role.Writes name
-  pub filtering : writing_filter x ≡ (row_of o reads).filtering
-  pub chooses : (ps : List Point) → chosen x.only ps ≡ filter ((row_of o reads).writes) ps
-  pub bytes : (ps : List Point) → file_bytes x.form ps ≡ (row_of o reads).bytes ps
+  pub filtering : writing_filter x ≡ (row_of o setting).filtering
+  pub chooses : (ps : List Point) → chosen x.only ps ≡ filter ((row_of o setting).writes) ps
+  pub bytes : (ps : List Point) → file_bytes x.form ps ≡ (row_of o setting).bytes ps
 
-abbrev pub IsRow : StageForm → Options → List ReadFile → Type 0
-IsRow Reads o reads = (is_reading (role_of o) ≡ true) × (op_for (role_of o) ≡ op_for (role.Reads []))
-IsRow (Filters f) o reads = IsFilterRow f o reads
-IsRow (Writes x) o reads = IsWriterRow x o reads
+abbrev pub IsRow : StageForm → Options → Setting → Type 0
+IsRow Reads o setting = (is_reading (role_of o) ≡ true) × (op_for (role_of o) ≡ op_for (role.Reads []))
+IsRow (Filters f) o setting = IsFilterRow f o setting
+IsRow (Writes x) o setting = IsWriterRow x o setting
 
-pub row-is : (o : Options) (reads : List ReadFile) → IsRow (form_for o reads) o reads
-row-is (ReadersLas o) reads = (refl, refl)
-row-is (FiltersAssign o) reads = record { does = refl; begins = refl; filtering = refl }
-row-is (FiltersExpression o) reads = record { does = refl; begins = refl; filtering = refl }
-row-is (FiltersHead o) reads = record { does = refl; begins = refl; filtering = refl }
-row-is (FiltersMerge o) reads = record { does = refl; begins = refl; filtering = refl }
-row-is (WritersLas o) reads = record { name = o.filename; does = refl; filtering = refl; chooses = λ ps. refl; bytes = λ ps. refl }
-row-is (WritersText o) reads = record { name = o.filename; does = refl; filtering = refl; chooses = λ ps. refl; bytes = λ ps. refl }
+pub row-is : (o : Options) (setting : Setting) → IsRow (form_for o setting) o setting
+row-is (ReadersLas o) setting = (refl, refl)
+row-is (WritersLas o) setting = record { name = o.filename; does = refl; filtering = refl; chooses = λ ps. refl; bytes = λ ps. refl }
+row-is (WritersText o) setting = record { name = o.filename; does = refl; filtering = refl; chooses = λ ps. refl; bytes = λ ps. refl }
+row-is o setting = record { does = refl; begins = refl; filtering = refl }
 
 -- ---- works at their start
 
 module _ {S K : Type 0} (s : source.Ghosts S) (bytes : K → Option (List ℕ)) where
-  pub leaf-is : (o : Options) (reads : List ReadFile) (opened : Opened) (i : ℕ) (w : StageWork S K) → IsAtStart bytes o reads w → is_reader w ≡ true → ((r : LasReader S) → w ≡ Reader r → Tells s opened i r) → IsLeaf s o (opened i).las w
-  leaf-is o reads opened i w start leaf tell = go (form_for o reads) (row-is o reads) w start leaf tell
+  pub leaf-is : (o : Options) (setting : Setting) (opened : Opened) (i : ℕ) (w : StageWork S K) → IsAtStart bytes o setting w → is_reader w ≡ true → ((r : LasReader S) → w ≡ Reader r → Tells s opened i r) → IsLeaf s o (opened i).las w
+  leaf-is o setting opened i w start leaf tell = go (form_for o setting) (row-is o setting) w start leaf tell
     where
-      go : (form : StageForm) → IsRow form o reads → (w : StageWork S K) → IsStarted bytes form w → is_reader w ≡ true → ((r : LasReader S) → w ≡ Reader r → Tells s opened i r) → IsLeaf s o (opened i).las w
+      go : (form : StageForm) → IsRow form o setting → (w : StageWork S K) → IsStarted bytes form w → is_reader w ≡ true → ((r : LasReader S) → w ≡ Reader r → Tells s opened i r) → IsLeaf s o (opened i).las w
       go Reads row (Reader r) start leaf tell = (
           let t = tell r refl in
           let f = reader_starts {K = K} s.bytes r t.file start t.told in
@@ -104,14 +100,14 @@ module _ {S K : Type 0} (s : source.Ghosts S) (bytes : K → Option (List ℕ)) 
       go form row (Filter f) start leaf tell = absurd (true≢false (sym leaf))
       go form row (Writer w) start leaf tell = absurd (true≢false (sym leaf))
 
-  pub inner-is : (o : Options) (reads : List ReadFile) (w : StageWork S K) → IsAtStart bytes o reads w → is_reader w ≡ false → IsInner o reads w
-  inner-is o reads w start inner = go (form_for o reads) (row-is o reads) w start inner
+  pub inner-is : (o : Options) (setting : Setting) (w : StageWork S K) → IsAtStart bytes o setting w → is_reader w ≡ false → IsInner o setting w
+  inner-is o setting w start inner = go (form_for o setting) (row-is o setting) w start inner
     where
-      go : (form : StageForm) → IsRow form o reads → (w : StageWork S K) → IsStarted bytes form w → is_reader w ≡ false → IsInner o reads w
+      go : (form : StageForm) → IsRow form o setting → (w : StageWork S K) → IsStarted bytes form w → is_reader w ≡ false → IsInner o setting w
       go form row (Reader r) start inner = absurd (true≢false inner)
       go Reads row (Filter g) start inner = absurd start
       go (Writes x) row (Filter g) start inner = absurd start
-      go (Filters f) row (Filter g) start inner = subst (λ h. IsInner {S = S} {K = K} o reads (Filter h)) (sym start) (record {
+      go (Filters f) row (Filter g) start inner = subst (λ h. IsInner {S = S} {K = K} o setting (Filter h)) (sym start) (record {
         inner = ap is_reading row.does;
         makes = λ flow. ap (λ t. made_of (filter_work (filtering_of f)) (At t) flow) row.begins ∙ filter_gives (filtering_of f) flow ∙ ap (λ h. flow_marks (filtered h flow)) row.filtering;
         fault = λ flow. ap (λ t. fault_on (filter_work (filtering_of f)) (At t) flow) row.begins ∙ filter_fault (filtering_of f) flow ∙ ap (λ h. option_map stage.Point (filtered_stop h flow)) row.filtering;
@@ -125,8 +121,8 @@ module _ {S K : Type 0} (s : source.Ghosts S) (bytes : K → Option (List ℕ)) 
       }
 
   -- a work at its start holds nothing
-  pub holds-nothing : (o : Options) (reads : List ReadFile) (w : StageWork S K) → IsAtStart bytes o reads w → holds_of bytes w [] ≡ true
-  holds-nothing o reads w start = go (form_for o reads) w start
+  pub holds-nothing : (o : Options) (setting : Setting) (w : StageWork S K) → IsAtStart bytes o setting w → holds_of bytes w [] ≡ true
+  holds-nothing o setting w start = go (form_for o setting) w start
     where
       go : (form : StageForm) (w : StageWork S K) → IsStarted bytes form w → holds_of bytes w [] ≡ true
       go form (Reader r) start = refl
@@ -136,10 +132,10 @@ module _ {S K : Type 0} (s : source.Ghosts S) (bytes : K → Option (List ℕ)) 
       go (Writes x) (Writer v) start = start.holds
 
   -- and the device of its stage's role
-  pub op-at-start : (o : Options) (reads : List ReadFile) (w : StageWork S K) → IsAtStart bytes o reads w → op_of w ≡ op_for (role_of o)
-  op-at-start o reads w start = go (form_for o reads) (row-is o reads) w start
+  pub op-at-start : (o : Options) (setting : Setting) (w : StageWork S K) → IsAtStart bytes o setting w → op_of w ≡ op_for (role_of o)
+  op-at-start o setting w start = go (form_for o setting) (row-is o setting) w start
     where
-      go : (form : StageForm) → IsRow form o reads → (w : StageWork S K) → IsStarted bytes form w → op_of w ≡ op_for (role_of o)
+      go : (form : StageForm) → IsRow form o setting → (w : StageWork S K) → IsStarted bytes form w → op_of w ≡ op_for (role_of o)
       go Reads row (Reader r) start = sym row.1
       go (Filters f) row (Reader r) start = absurd start
       go (Writes x) row (Reader r) start = absurd start
@@ -151,10 +147,10 @@ module _ {S K : Type 0} (s : source.Ghosts S) (bytes : K → Option (List ℕ)) 
       go (Writes x) row (Writer v) start = sym (ap op_for row.does)
 
   -- its work is a reader's exactly where the stage reads
-  reads-at-start : (o : Options) (reads : List ReadFile) (w : StageWork S K) → IsAtStart bytes o reads w → is_reader w ≡ is_reading (role_of o)
-  reads-at-start o reads w start = go (form_for o reads) (row-is o reads) w start
+  reads-at-start : (o : Options) (setting : Setting) (w : StageWork S K) → IsAtStart bytes o setting w → is_reader w ≡ is_reading (role_of o)
+  reads-at-start o setting w start = go (form_for o setting) (row-is o setting) w start
     where
-      go : (form : StageForm) → IsRow form o reads → (w : StageWork S K) → IsStarted bytes form w → is_reader w ≡ is_reading (role_of o)
+      go : (form : StageForm) → IsRow form o setting → (w : StageWork S K) → IsStarted bytes form w → is_reader w ≡ is_reading (role_of o)
       go Reads row (Reader r) start = sym row.0
       go (Filters f) row (Reader r) start = absurd start
       go (Writes x) row (Reader r) start = absurd start
@@ -166,21 +162,16 @@ module _ {S K : Type 0} (s : source.Ghosts S) (bytes : K → Option (List ℕ)) 
       go (Writes x) row (Writer v) start = sym (ap is_reading row.does)
 
   -- so it is where its type is a reader's
-  pub start-reads : (o : Options) (reads : List ReadFile) (w : StageWork S K) → IsAtStart bytes o reads w → is_reader w ≡ names.is_reader (kind_of o)
-  start-reads o reads w start = reads-at-start o reads w start ∙ same o
+  pub start-reads : (o : Options) (setting : Setting) (w : StageWork S K) → IsAtStart bytes o setting w → is_reader w ≡ names.is_reader (kind_of o)
+  start-reads o setting w start = reads-at-start o setting w start ∙ same o
     where
       same : (o : Options) → is_reading (role_of o) ≡ names.is_reader (kind_of o)
       same (ReadersLas o) = refl
-      same (FiltersAssign o) = refl
-      same (FiltersExpression o) = refl
-      same (FiltersHead o) = refl
-      same (FiltersMerge o) = refl
-      same (WritersLas o) = refl
-      same (WritersText o) = refl
+      same o = refl
 
   -- a writer writes what its stage does
-  pub writing-at-start : (o : Options) (reads : List ReadFile) (w : StageWork S K) → IsAtStart bytes o reads w → (x : Writing) → form_for o reads ≡ Writes x → writing_of w ≡ Some x
-  writing-at-start o reads w start x e = go w (subst (λ form. IsStarted bytes form w) e start)
+  pub writing-at-start : (o : Options) (setting : Setting) (w : StageWork S K) → IsAtStart bytes o setting w → (x : Writing) → form_for o setting ≡ Writes x → writing_of w ≡ Some x
+  writing-at-start o setting w start x e = go w (subst (λ form. IsStarted bytes form w) e start)
     where
       go : (w : StageWork S K) → IsStarted bytes (Writes x) w → writing_of w ≡ Some x
       go (Reader r) start = absurd start
@@ -188,10 +179,10 @@ module _ {S K : Type 0} (s : source.Ghosts S) (bytes : K → Option (List ℕ)) 
       go (Writer v) start = start.is
 
   -- a reader that gave nothing yet is the work of a stage that reads
-  pub reader-start : (o : Options) (reads : List ReadFile) (r : LasReader S) → is_reading (role_of o) ≡ true → r.progress ≡ Records 0 → IsAtStart bytes o reads (Reader r)
-  reader-start o files r reads start = go (form_for o files) (row-is o files) reads start
+  pub reader-start : (o : Options) (setting : Setting) (r : LasReader S) → is_reading (role_of o) ≡ true → r.progress ≡ Records 0 → IsAtStart bytes o setting (Reader r)
+  reader-start o setting r reads start = go (form_for o setting) (row-is o setting) reads start
     where
-      go : (form : StageForm) → IsRow form o files → is_reading (role_of o) ≡ true → r.progress ≡ Records 0 → IsStarted {S = S} {K = K} bytes form (Reader r)
+      go : (form : StageForm) → IsRow form o setting → is_reading (role_of o) ≡ true → r.progress ≡ Records 0 → IsStarted {S = S} {K = K} bytes form (Reader r)
       go Reads row reads start = start
       go (Filters f) row reads start = absurd (true≢false (sym reads ∙ ap is_reading row.does))
       go (Writes x) row reads start = absurd (true≢false (sym reads ∙ ap is_reading row.does))
@@ -199,42 +190,33 @@ module _ {S K : Type 0} (s : source.Ghosts S) (bytes : K → Option (List ℕ)) 
 -- ---- what writers write
 
 -- a stage that writes is one whose work is made of a file
-pub writes-form : (o : Options) (reads : List ReadFile) → is_writing (role_of o) ≡ true → (x : Writing) × (form_for o reads ≡ Writes x)
-writes-form o reads writes = go (form_for o reads) refl (row-is o reads)
+pub writes-form : (o : Options) (setting : Setting) → is_writing (role_of o) ≡ true → (x : Writing) × (form_for o setting ≡ Writes x)
+writes-form o setting writes = go (form_for o setting) refl (row-is o setting)
   where
     not-both : (r : Role) → is_reading r ≡ true → is_writing r ≡ true → ⊥
     not-both (role.Reads name) a b = absurd (true≢false (sym b))
     not-both role.Filters a b = absurd (true≢false (sym b))
     not-both (role.Writes name) a b = absurd (true≢false (sym a))
 
-    go : (form : StageForm) → form_for o reads ≡ form → IsRow form o reads → (x : Writing) × (form_for o reads ≡ Writes x)
+    go : (form : StageForm) → form_for o setting ≡ form → IsRow form o setting → (x : Writing) × (form_for o setting ≡ Writes x)
     go Reads e row = absurd (not-both (role_of o) row.0 writes)
     go (Filters f) e row = absurd (true≢false (sym writes ∙ ap is_writing row.does))
     go (Writes x) e row = (x, e)
 
-pub writer-row : (o : Options) (reads : List ReadFile) (x : Writing) → form_for o reads ≡ Writes x → IsWriterRow x o reads
-writer-row o reads x e = subst (λ form. IsRow form o reads) e (row-is o reads)
+pub writer-row : (o : Options) (setting : Setting) (x : Writing) → form_for o setting ≡ Writes x → IsWriterRow x o setting
+writer-row o setting x e = subst (λ form. IsRow form o setting) e (row-is o setting)
 
 -- where its stage has no fault on a flow, a writer stops at none of its points
-pub nowhere-is : (o : Options) (reads : List ReadFile) (x : Writing) (flow : Flow Point) → form_for o reads ≡ Writes x → rows.fault_on (row_of o reads) flow ≡ None → stops_nowhere x (points flow) ≡ true
-nowhere-is o reads x flow e sound = sound_nowhere x flow (ap (λ f. filtered_stop f flow) ((writer-row o reads x e).filtering) ∙ sound)
+pub nowhere-is : (o : Options) (setting : Setting) (x : Writing) (flow : Flow Point) → form_for o setting ≡ Writes x → rows.fault_on (row_of o setting) flow ≡ None → stops_nowhere x (points flow) ≡ true
+nowhere-is o setting x flow e sound = sound_nowhere x flow (ap (λ f. filtered_stop f flow) ((writer-row o setting x e).filtering) ∙ sound)
 
 -- a stage wrote what its row writes
-pub wrote-is : (o : Options) (reads : List ReadFile) (ps : List Point) → wrote_of (form_for o reads) ps ≡ option_map (λ (name : List ℕ). up_to_limit (length (filter ((row_of o reads).writes) ps))) (target_of (role_of o))
-wrote-is (ReadersLas o) reads ps = refl
-wrote-is (FiltersAssign o) reads ps = refl
-wrote-is (FiltersExpression o) reads ps = refl
-wrote-is (FiltersHead o) reads ps = refl
-wrote-is (FiltersMerge o) reads ps = refl
-wrote-is (WritersLas o) reads ps = refl
-wrote-is (WritersText o) reads ps = refl
+pub wrote-is : (o : Options) (setting : Setting) (ps : List Point) → wrote_of (form_for o setting) ps ≡ option_map (λ (name : List ℕ). up_to_limit (length (filter ((row_of o setting).writes) ps))) (target_of (role_of o))
+wrote-is (WritersLas o) setting ps = refl
+wrote-is (WritersText o) setting ps = refl
+wrote-is o setting ps = refl
 
 -- a reader has no fault on what it would take
-pub reader-sound : (o : Options) (reads : List ReadFile) (flow : Flow Point) → is_reading (role_of o) ≡ true → rows.fault_on (row_of o reads) flow ≡ None
-reader-sound (ReadersLas o) files flow reads = refl
-reader-sound (FiltersAssign o) files flow reads = absurd (true≢false (sym reads))
-reader-sound (FiltersExpression o) files flow reads = absurd (true≢false (sym reads))
-reader-sound (FiltersHead o) files flow reads = absurd (true≢false (sym reads))
-reader-sound (FiltersMerge o) files flow reads = absurd (true≢false (sym reads))
-reader-sound (WritersLas o) files flow reads = absurd (true≢false (sym reads))
-reader-sound (WritersText o) files flow reads = absurd (true≢false (sym reads))
+pub reader-sound : (o : Options) (setting : Setting) (flow : Flow Point) → is_reading (role_of o) ≡ true → rows.fault_on (row_of o setting) flow ≡ None
+reader-sound (ReadersLas o) setting flow reads = refl
+reader-sound o setting flow reads = absurd (true≢false (sym reads))

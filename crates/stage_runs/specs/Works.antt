@@ -5,7 +5,7 @@ use Rattle.file_devices.specs.declared.devices.Op.TheVariants.{Read, Write}
 use Rattle.file_devices.specs.declared.devices.Source as source
 use Rattle.file_devices.specs.declared.devices.Sink as sink
 use Rattle.cloud_points.specs.declared.work.Work.{Ghosts}
-use Rattle.forward_rules.specs.Forwarded.{ReadFile, form_of}
+use Rattle.forward_rules.specs.Forwarded.{form_of}
 use Rattle.las_reader.specs.Files.{las_with}
 use Rattle.las_reader.specs.declared.reader.LasReader.{LasReader}
 use Rattle.las_reader.specs.declared.reader.Progress.TheVariants.{Records}
@@ -30,6 +30,7 @@ use Rattle.stage_options.specs.declared.binding.BoundFilter.TheVariants as bound
 use Rattle.stage_options.specs.declared.binding.BoundStage.{BoundStage}
 use Rattle.stage_options.specs.declared.binding.BoundStage.TheVariants as does
 use Rattle.stage_options.specs.Binding.{bound_stage}
+use Rattle.stage_options.specs.Ferries.{names_behind}
 use Rattle.stage_meanings.specs.ByRule.{spot_at}
 use Rattle.stream_filters.specs.declared.filter.Filter.{Filter as Filtering}
 use Rattle.stream_filters.specs.declared.filter.Filter.TheVariants as filter
@@ -38,8 +39,9 @@ use Rattle.network_theory.specs.Opening.{IsFresh}
 use Rattle.network_core.specs.declared.node.Node.{Node}
 use Rattle.network_core.specs.Shown.{shown, work_of}
 use Rattle.stage_forms.specs.Below.{read_of}
-use Rattle.answer_model.specs.Forms.{extra_names, text_form}
-use Rattle.answer_model.specs.Values.{Opened, stage_at, options_at, reads_at}
+use Rattle.answer_model.specs.Forms.{text_form}
+use Rattle.answer_model.specs.Rows.{Setting}
+use Rattle.answer_model.specs.Values.{Opened, stage_at, options_at, setting_at}
 
 -- what the stages are as works, by what their sources and sinks tell
 abbrev pub as_works : {S K : Type 0} → source.Ghosts S → sink.Ghosts K → Ghosts (StageWork S K) StageState
@@ -62,16 +64,20 @@ as_works source sink = record {
 
 -- a filter before all points
 abbrev pub started : BoundFilter → Filtering
+started (bound.Range limits only) = filter.Range (record { rule = limits; only = only; spot = spot_at 0 })
+started (bound.Crop shape outside only) = filter.Crop (record { rule = record { shape = shape; outside = outside }; only = only; spot = spot_at 0 })
 started (bound.Assign list only) = filter.Assign (record { rule = list; only = only; spot = spot_at 0 })
 started (bound.Expression condition only) = filter.Expression (record { rule = record { 0 = condition }; only = only; spot = spot_at 0 })
+started (bound.Decimation step offset limit only) = filter.Decimation (record { rule = record { step = step; offset = offset; limit = limit }; only = only; spot = spot_at 0 })
 started (bound.Head count only) = filter.Head (record { rule = record { count = count }; only = only; spot = spot_at 0 })
+started (bound.Returns groups only) = filter.Returns (record { rule = groups; only = only; spot = spot_at 0 })
 started bound.Merge = filter.Merge
 
--- the form of a writer's file, by its options and the files that are read below it
-abbrev pub file_for : Options → List ReadFile → Option FileForm
-file_for (WritersLas o) reads = Some (file.Las (form_of o.fields reads))
-file_for (WritersText o) reads = Some (file.Text (text_form o))
-file_for _ reads = None
+-- the form of a writer's file, by its options and where it stands
+abbrev pub file_for : Options → Setting → Option FileForm
+file_for (WritersLas o) setting = Some (file.Las (form_of o.fields setting.reads))
+file_for (WritersText o) setting = Some (file.Text (text_form setting.names o))
+file_for _ setting = None
 
 -- by what a stage does; each that writes has a file
 abbrev pub does_with : BoundStage → Option FileForm → StageForm
@@ -79,9 +85,14 @@ does_with (does.Filters f) form = Filters (started f)
 does_with (does.Writes only) (Some form) = Writes (record { form = form; only = only })
 does_with _ form = Reads
 
--- by its options, and the files that are read below it
-abbrev pub form_for : Options → List ReadFile → StageForm
-form_for o reads = does_with (bound_stage extra_names o) (file_for o reads)
+-- by its options, and where it stands
+abbrev pub form_for : Options → Setting → StageForm
+form_for o setting = does_with (bound_stage setting.names o) (file_for o setting)
+
+-- its options are bound beside the extra names before it, and these are the ones behind it
+pub record IsBoundBehind (o : Options) (b : BoundStage) (before after : List (List ℕ)) : Type 0 where
+  pub bound : b ≡ bound_stage before o
+  pub behind : after ≡ names_behind before o
 
 -- a file that it writes can be written
 abbrev pub IsGood : StageForm → Type 0
@@ -103,9 +114,9 @@ IsStarted bytes (Filters f) (Filter g) = g ≡ f
 IsStarted {S} {K} bytes (Writes writing) (Writer w) = IsBegun {S = S} {K = K} bytes writing (Writer w)
 IsStarted bytes _ _ = ⊥
 
--- a work does what a stage with these options does behind these files, and had no turn yet
-abbrev pub IsAtStart : {S K : Type 0} → (K → Option (List ℕ)) → Options → List ReadFile → StageWork S K → Type 0
-IsAtStart bytes o reads w = IsStarted bytes (form_for o reads) w
+-- a work does what a stage with these options does where it stands, and had no turn yet
+abbrev pub IsAtStart : {S K : Type 0} → (K → Option (List ℕ)) → Options → Setting → StageWork S K → Type 0
+IsAtStart bytes o setting w = IsStarted bytes (form_for o setting) w
 
 -- what a stage that does this does with its device while the stages take turns
 abbrev pub op_for : Role → Option Op
@@ -124,7 +135,7 @@ HaveRead {S} works opened = (i : ℕ) (r : LasReader S) → slice_get works i �
 -- the works of the first stages, as many as there are, are at their start behind the files of the readers among them
 abbrev pub AreAtStart : {S K : Type 0} → (K → Option (List ℕ)) → List StageSpec → List (StageWork S K) → Type 0
 AreAtStart {S} {K} bytes stages works = (opened : Opened) → HaveRead works opened
-    → (i : ℕ) (w : StageWork S K) → slice_get works i ≡ Some w → IsAtStart bytes (options_at stages i) (reads_at stages opened i) w
+    → (i : ℕ) (w : StageWork S K) → slice_get works i ≡ Some w → IsAtStart bytes (options_at stages i) (setting_at stages opened i) w
 
 -- a new node for each stage, over its work
 pub record AreNewStages {S K : Type 0} (s : source.Ghosts S) (k : sink.Ghosts K) (stages : List StageSpec) (nodes : List (Node (StageWork S K))) : Type 0 where

@@ -23,7 +23,7 @@ returns-in-Filters-clause-ok g c =
     let does : role_of o ≡ role.Filters = subst (IsForm (role_of o)) c.in-Filters.is c.requires.form in
     subst (λ r. IsWork s k map c.args.number o r c.args.form (Filter f)) (sym c.in_default.is)
     (other-work s k map c.args.number o c.args.form (Filter f) (ap is_reading does) (sym (ap op_for does))
-    (λ reads e. subst (λ form. IsStarted {S = g.row.F-In.Denot} k.bytes form (Filter f)) (sym c.in-Filters.is ∙ e) refl))
+    (λ setting e. subst (λ form. IsStarted {S = g.row.F-In.Denot} k.bytes form (Filter f)) (sym c.in-Filters.is ∙ e) refl))
 
 pub returns-in-Filters-clause-lent_ok : goal.returns-in-Filters-clause-lent_ok
 returns-in-Filters-clause-lent_ok g c = let nothing = ap there c.in_default.is in omega (arith, nothing)

@@ -1,29 +1,56 @@
-use Rattle.std.proofs.Common.{◌≡◌, ◌<◌, length, refl, ap, sym, subst, ◌∙◌, arith}
+use Rattle.std.proofs.Common.{◌≡◌, ◌+◌, ◌||◌, ◌<◌, ◌≤◌, All, length, Err, IfErr, refl, ap, sym, subst, ◌∙◌, arith, rules}
 use Rattle.std.specs.Prelude.{slice_get}
 use Rattle.std.proofs.lemmas.Option.{slice_get_read}
 use Rattle.stage_kinds.specs.declared.file_form.StageForm.{StageForm}
+use Rattle.answer_model.proofs.Values.{tree-down}
+use Rattle.answer_model.specs.Values.{options_at, role_at, names_at, setting_at}
 use Rattle.stage_options.specs.Binding.{binding_fault}
+use Rattle.stage_options.specs.Ferries.{names_behind, adds}
 use Rattle.stage_options.specs.declared.stage.StageSpec.{StageSpec}
-use Rattle.stage_forms.specs.Below.{reads_in}
+use Rattle.stage_forms.specs.Below.{reads_in, AreBelow, AreInside, IsBelow, StandsBelow}
+use Rattle.stage_forms.specs.declared.below.Below.{Below}
+use Rattle.stage_forms.proofs.Joined.{behind-stage}
 use Rattle.cloud_points.specs.Layouts.{holds}
-use Rattle.answer_model.specs.Values.{options_at, role_at, reads_at}
 use Rattle.stage_runs.specs.Works.{form_for}
-use Rattle.run_engine.specs.Begun.{IsForm}
+use Rattle.run_engine.specs.Begun.{IsForm, IsUnbound}
 use Rattle.run_engine.proofs.Lists.{each-push}
 use Rattle.run_engine.proofs.Opening.{stage-is, role-is}
-use Rattle.run_engine.proofs.Binding.{bound-is, more-bound, unbound-here}
+use Rattle.run_engine.proofs.Binding.{bound-is, names-more, more-bound, unbound-here}
 use Rattle.run_engine.proofs.bind.bind_stages.Goals as goal
 
-pub returns-in-Err-clause-err : goal.returns-in-Err-clause-err
-returns-in-Err-clause-err g c =
-    let lt : c.loop-i.i < length c.args.stages.now = (let a = c.loop-i-test.true in omega (arith, a)) in
-    let at = slice_get_read c.args.stages.now (length c.args.stages.now) c.loop-i.i c.index-stages-i.result refl lt c.index-stages-i.is in
-    let o = ap (λ (s : StageSpec). s.options) (stage-is c.args.stages.now c.loop-i.i c.index-stages-i.result at) in
-    let b = slice_get_read c.in-Ok.belows.items (length c.in-Ok.belows.items) c.loop-i.i c.index.result.now refl (let n = c.in-Ok.ensures.count in omega (arith, lt, n)) c.index.ensures in
-    unbound-here c.args.stages.now c.args.readers.now c.loop-i.i _ c.in-Err.refusal lt c.loop-i.invariant.bound
-    (λ opened have. ap (binding_fault c.loop-i.i c.none-names.result (holds c.index.result.now.layout)) (sym o)
-    ∙ bound-is c.args.stages.now c.args.readers.now opened c.loop-i.i c.index.result.now c.none-names.result c.none-names.ensures (c.in-Ok.ensures.below opened have c.loop-i.i c.index.result.now b))
-    c.in-Err.ensures.err
+pub next_below-requires-clause-next : goal.next_below-requires-clause-next
+next_below-requires-clause-next g c =
+    let a = c.as_slice.ensures.len in
+    let n = c.loop-i.invariant.belows_count in
+    let lt = c.loop-i-test.true in
+    omega (arith, a, n, lt)
+
+pub next_below-requires-clause-behind : goal.next_below-requires-clause-behind
+next_below-requires-clause-behind g c = subst (AreBelow c.args.stages.now c.args.readers.now) (sym c.as_slice.ensures.value) c.loop-i.invariant.below
+
+pub next_below-requires-clause-inside : goal.next_below-requires-clause-inside
+next_below-requires-clause-inside g c = subst (AreInside (length c.args.readers.now)) (sym c.as_slice.ensures.value) c.loop-i.invariant.inside
+
+pub returns-in_err-form-clause-err : goal.returns-in_err-form-clause-err
+returns-in_err-form-clause-err g c =
+    let now = c.loop-i.invariant in
+    let stages = c.args.stages.now in
+    let readers = c.args.readers.now in
+    let i = c.loop-i.i in
+    let lt : i < length stages = c.loop-i-test.true in
+    let stage = c.index-stages-i.result in
+    let at = slice_get_read stages (length stages) i stage refl lt c.index-stages-i.is in
+    let o = ap (λ (s : StageSpec). s.options) (stage-is stages i stage at) in
+    let below = c.in-Ok-next_below.below in
+    let as_many : length c.as_slice.result.now ≡ i = c.as_slice.ensures.len ∙ now.belows_count in
+    let stands = subst (λ k. StandsBelow stages readers k below) as_many c.in-Ok-next_below.ensures.below in
+    let refusal = c.in_err-form.field-0.0 in
+    let refused : c.from_residual.result ≡ Err refusal = search rules in
+    subst (λ r. IfErr r (IsUnbound stages readers)) (sym refused)
+    (unbound-here stages readers i (binding_fault i c.loop-i.names (holds below.layout) stage.options) refusal lt now.bound
+    (λ opened have. ap (binding_fault i c.loop-i.names (holds below.layout)) (sym o)
+    ∙ ap (λ n. binding_fault i n (holds below.layout) (options_at stages i)) now.names ∙ bound-is stages readers opened i below (stands opened have))
+    c.in_err-form.ensures.err)
 
 pub loop-i-preserved : goal.loop-i-preserved
 loop-i-preserved g c =
@@ -31,23 +58,41 @@ loop-i-preserved g c =
     let stages = c.args.stages.now in
     let readers = c.args.readers.now in
     let i = c.loop-i.i in
-    let lt : i < length stages = (let a = c.loop-i-test.true in omega (arith, a)) in
-    let at = slice_get_read stages (length stages) i c.index-stages-i.result refl lt c.index-stages-i.is in
-    let o = ap (λ (s : StageSpec). s.options) (stage-is stages i c.index-stages-i.result at) in
-    let below = c.index.result.now in
-    let b = slice_get_read c.in-Ok.belows.items (length c.in-Ok.belows.items) i below refl (let n = c.in-Ok.ensures.count in omega (arith, lt, n)) c.index.ensures in
+    let lt : i < length stages = c.loop-i-test.true in
+    let stage = c.index-stages-i.result in
+    let at = slice_get_read stages (length stages) i stage refl lt c.index-stages-i.is in
+    let o = ap (λ (s : StageSpec). s.options) (stage-is stages i stage at) in
+    let below = c.in-Ok-next_below.below in
+    let after = c.bind_stage.new.below in
+    let done = c.in_ok-form.ensures in
+    let form = c.in_ok-form.form in
+    let as_many : length c.as_slice.result.now ≡ i = c.as_slice.ensures.len ∙ now.belows_count in
+    let stands = subst (λ k. StandsBelow stages readers k below) as_many c.in-Ok-next_below.ensures.below in
     let size : i ≡ length c.loop-i.forms.items = (let a = now.count in let k = c.loop-i.forms.ok in omega (arith, a, k)) in
-    let pushed = c.push_reserved.ensures.items in
-    let done = c.in-Ok-bind_stage.ensures in
+    let below_size : i ≡ length c.loop-i.belows.items = (let a = now.belows_count in let k = c.loop-i.belows.ok in omega (arith, a, k)) in
+    let forms_are = c.push_reserved.ensures.items in
+    let belows_are = c.push_reserved-in-loop-i.ensures.items in
     record {
-      forms = λ opened have k x e. each-push (λ j (y : StageForm). y ≡ form_for (options_at stages j) (reads_at stages opened j)) c.loop-i.forms.items c.in-Ok-bind_stage.form i size
-          (now.forms opened have) (done.form ∙ ap (λ p. form_for p (reads_in readers below.readers.items)) (sym o) ∙ ap (form_for (options_at stages i)) ((c.in-Ok.ensures.below opened have i below b).reads))
-          k x (ap (λ xs. slice_get xs k) (sym pushed) ∙ e);
-      fits = λ k x e. each-push (λ j y. IsForm (role_at stages j) y) c.loop-i.forms.items c.in-Ok-bind_stage.form i size now.fits
-          (subst (λ r. IsForm r c.in-Ok-bind_stage.form) (role-is stages i c.index-stages-i.result at) done.fits) k x (ap (λ xs. slice_get xs k) (sym pushed) ∙ e);
+      forms = λ opened have k x e. each-push (λ j (y : StageForm). y ≡ form_for (options_at stages j) (setting_at stages opened j)) c.loop-i.forms.items form i size (now.forms opened have)
+          (done.form ∙ ap (λ p. form_for p (record { names = c.loop-i.names; reads = reads_in readers below.readers.items })) (sym o)
+          ∙ ap (λ n. form_for (options_at stages i) (record { names = n; reads = reads_in readers below.readers.items })) now.names
+          ∙ ap (λ r. form_for (options_at stages i) (record { names = names_at stages i; reads = r })) ((stands opened have).reads))
+          k x (ap (λ xs. slice_get xs k) (sym forms_are) ∙ e);
+      fits = λ k x e. each-push (λ j y. IsForm (role_at stages j) y) c.loop-i.forms.items form i size now.fits
+          (subst (λ r. IsForm r form) (role-is stages i stage at) done.fits) k x (ap (λ xs. slice_get xs k) (sym forms_are) ∙ e);
       bound = more-bound stages readers i now.bound (λ opened have.
-          sym (bound-is stages readers opened i below c.none-names.result c.none-names.ensures (c.in-Ok.ensures.below opened have i below b))
-          ∙ ap (binding_fault i c.none-names.result (holds below.layout)) o ∙ done.bound);
+          sym (bound-is stages readers opened i below (stands opened have))
+          ∙ ap (λ n. binding_fault i n (holds below.layout) (options_at stages i)) (sym now.names)
+          ∙ ap (binding_fault i c.loop-i.names (holds below.layout)) o ∙ done.bound);
+      names = done.names ∙ ap (λ n. names_behind n stage.options) now.names ∙ sym (names-more stages i stage at);
+      below = λ opened have k x e. each-push (λ j (y : Below). IsBelow stages readers opened j y) c.loop-i.belows.items after i below_size (now.below opened have)
+          (behind-stage stages readers opened (tree-down stages c.requires.tree) c.requires.fit have i below after (stands opened have) (ap (λ v. v.items) done.readers)
+          (λ dim. done.layout dim ∙ ap (λ a. holds below.layout dim || a) (ap (λ n. adds n stage.options dim) now.names ∙ ap (λ p. adds (names_at stages i) p dim) (sym o))))
+          k x (ap (λ xs. slice_get xs k) (sym belows_are) ∙ e);
+      inside = λ k x e. each-push (λ j (y : Below). All (λ m. m < length readers) y.readers.items) c.loop-i.belows.items after i below_size now.inside
+          (subst (λ v. All (λ m. m < length readers) v.items) (sym done.readers) c.in-Ok-next_below.ensures.inside) k x (ap (λ xs. slice_get xs k) (sym belows_are) ∙ e);
       count = (let a = c.push_reserved.ensures.len in let n = now.count in omega (arith, a, n));
+      belows_count = (let a = c.push_reserved-in-loop-i.ensures.len in let n = now.belows_count in omega (arith, a, n));
       room = (let a = c.push_reserved.ensures.capacity in let n = now.room in omega (arith, a, n));
+      belows_room = (let a = c.push_reserved-in-loop-i.ensures.capacity in let n = now.belows_room in omega (arith, a, n));
     }

@@ -22,6 +22,26 @@ pub returns-in_ok-filters_head-in-FiltersHead-clause-ok :
     goal.returns-in_ok-filters_head-in-FiltersHead-clause-ok
 returns-in_ok-filters_head-in-FiltersHead-clause-ok c = rw c.in-FiltersHead.is (c.in_ok-filters_head-in-FiltersHead.ensures (option_map (λ s. s.now) c.args.filename))
 
+pub returns-in_ok-filters_ferry-in-FiltersFerry-clause-ok :
+    goal.returns-in_ok-filters_ferry-in-FiltersFerry-clause-ok
+returns-in_ok-filters_ferry-in-FiltersFerry-clause-ok c = rw c.in-FiltersFerry.is (c.in_ok-filters_ferry-in-FiltersFerry.ensures (option_map (λ s. s.now) c.args.filename))
+
+pub returns-in_ok-filters_decimation-in-FiltersDecimation-clause-ok :
+    goal.returns-in_ok-filters_decimation-in-FiltersDecimation-clause-ok
+returns-in_ok-filters_decimation-in-FiltersDecimation-clause-ok c = rw c.in-FiltersDecimation.is (c.in_ok-filters_decimation-in-FiltersDecimation.ensures (option_map (λ s. s.now) c.args.filename))
+
+pub returns-in_ok-filters_returns-in-FiltersReturns-clause-ok :
+    goal.returns-in_ok-filters_returns-in-FiltersReturns-clause-ok
+returns-in_ok-filters_returns-in-FiltersReturns-clause-ok c = rw c.in-FiltersReturns.is (c.in_ok-filters_returns-in-FiltersReturns.ensures (option_map (λ s. s.now) c.args.filename))
+
+pub returns-in_ok-filters_range-in-FiltersRange-clause-ok :
+    goal.returns-in_ok-filters_range-in-FiltersRange-clause-ok
+returns-in_ok-filters_range-in-FiltersRange-clause-ok c = rw c.in-FiltersRange.is (c.in_ok-filters_range-in-FiltersRange.ensures (option_map (λ s. s.now) c.args.filename))
+
+pub returns-in_ok-filters_crop-in-FiltersCrop-clause-ok :
+    goal.returns-in_ok-filters_crop-in-FiltersCrop-clause-ok
+returns-in_ok-filters_crop-in-FiltersCrop-clause-ok c = rw c.in-FiltersCrop.is (c.in_ok-filters_crop-in-FiltersCrop.ensures (option_map (λ s. s.now) c.args.filename))
+
 pub writers_las-requires : goal.writers_las-requires
 writers_las-requires c =
     let ms = members_view c.args.options.now.entries in
