@@ -32,8 +32,8 @@ struct Row {
 
 const REDS: [u16; 6] = [0, 1, 0, 1, 1, 0];
 
-/// The first two of the points that pass, and those that don't; every so many of them; of points that pass those for which a condition holds; each
-/// assignment in its turn, where its own `where` holds.
+/// The first two of the points that pass, and those that don't; every so many of them; of points that pass those for which a
+/// condition holds; each assignment in its turn, where its own `where` holds.
 const ROWS: [Row; 15] = [
     Row {
         does: Does::Head(2),
