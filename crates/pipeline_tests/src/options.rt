@@ -10,11 +10,22 @@ use std::test::Fail;
 fn shown_options(alloc: Global, options: &Options) -> Result<String, AllocError> {
     match options {
         Options::ReadersLas(options) => { format!(in alloc; "read {}", options.filename.as_str()) }
+        Options::FiltersRange(options) => {
+            format!(in alloc; "range {}", options.limits.as_slice().len())
+        }
+        Options::FiltersCrop(_) => String::from_str(alloc, "crop"),
         Options::FiltersAssign(options) => {
             format!(in alloc; "assign {}", options.assignments.as_slice().len())
         }
+        Options::FiltersFerry(options) => {
+            format!(in alloc; "ferry {}", options.ferries.as_slice().len())
+        }
         Options::FiltersExpression(_) => String::from_str(alloc, "keep"),
+        Options::FiltersDecimation(options) => {
+            format!(in alloc; "every {} from {}", options.step, options.offset)
+        }
         Options::FiltersHead(options) => format!(in alloc; "head {}", options.count),
+        Options::FiltersReturns(_) => String::from_str(alloc, "returns"),
         Options::FiltersMerge(_) => String::from_str(alloc, "merge"),
         Options::WritersLas(options) => { format!(in alloc; "write {}", options.filename.as_str()) }
         Options::WritersText(options) => {
@@ -81,6 +92,24 @@ const STAGES: &[(&str, &str)] = &[
     (r#",{"type":"filters.head"}"#, "head 10"),
     (r#",{"type":"filters.head","count":3}"#, "head 3"),
     (r#",{"type":"filters.merge"}"#, "merge"),
+    (r#",{"type":"filters.decimation"}"#, "every 1 from 0"),
+    (r#",{"type":"filters.returns"}"#, "returns"),
+    (
+        r#",{"type":"filters.range","limits":"X[0:1],Y(:2)"}"#,
+        "range 2",
+    ),
+    (
+        r#",{"type":"filters.ferry","dimensions":"X=>A,Y=>B"}"#,
+        "ferry 2",
+    ),
+    (
+        r#",{"type":"filters.crop","bounds":"([0,1],[0,1])"}"#,
+        "crop",
+    ),
+    (
+        r#",{"type":"filters.crop","distance":-1}"#,
+        "missing 1 bounds",
+    ),
     (
         r#",{"type":"filters.merge","where":"X > 1"}"#,
         "unknown 1 where",
