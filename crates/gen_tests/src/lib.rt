@@ -1,0 +1,5 @@
+//! Tests of generated points.
+#![tactic(auto)]
+
+#[cfg(test)]
+mod points;
