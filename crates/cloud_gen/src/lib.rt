@@ -1,6 +1,10 @@
-//! Points that are made of a number: large jobs and trials need no file for theirs.
+//! Points that are made of a number, and their LAS file: large jobs and trials need no file of others.
 #![tactic(auto)]
 
+mod faults;
+mod file;
 mod points;
 
+pub use faults::GenerateError;
+pub use file::generate;
 pub use points::{first_point_is_known, gen_point};
