@@ -1,0 +1,38 @@
+//! What a stage does that needs whole views.
+
+ghost use Rattle.std.specs.Prelude.{◌≡◌, false, [], IfOk};
+ghost use Rattle.whole_filters.specs.Gathered.{gathered};
+
+use crate::{Views, groupby, sort, tail};
+use cloud_points::Dim;
+use std::alloc::{AllocError, Global};
+
+/// What a stage does with whole views.
+#[derive(Clone, Copy, Debug, PartialEq, Eq)]
+pub enum Gathering {
+    /// Orders the points of each view by a dimension, downwards where it says so.
+    Sort(Dim, bool),
+    /// Keeps so many of the last points of each view.
+    Tail(u32),
+    /// Parts each view by the values of a dimension.
+    GroupBy(Dim),
+}
+
+/// What becomes of views, by `sort`, `tail` or `groupby`. It is refused for want of memory alone, and then drops its views.
+pub fn gather(alloc: Global, views: Views, how: Gathering) -> Result<Views, AllocError>
+    requires { views.cut ≡ false → views.open_view ≡ [] }
+    ensures { IfOk result (λ made. made ≡ gathered how views) }
+{
+    let mut views = views;
+    match how {
+        Gathering::Sort(dim, down) => {
+            sort(alloc, &mut views, dim, down)?;
+            Ok(views)
+        }
+        Gathering::Tail(count) => {
+            tail(&mut views, count as u64);
+            Ok(views)
+        }
+        Gathering::GroupBy(dim) => groupby(alloc, views, dim),
+    }
+}

@@ -1,0 +1,34 @@
+//! Laws of the whole filters.
+
+ghost use Rattle.std.specs.Prelude.{◌≡◌, ◌<◌, ℤ, Bool, List, [], ◌∷◌, ◌++◌, All, AllPairs, IsPermutation, IsSortedBy, false, length, if◌then◌else◌};
+ghost use Rattle.std.specs.List.{list_any};
+ghost use Rattle.std.specs.List.Sorted.{IsStableBy};
+ghost use Rattle.std.specs.Ordering.{int_eq};
+ghost use Rattle.cloud_points.specs.Flows.{all_of};
+ghost use Rattle.cloud_points.specs.declared.point.Point.{Point};
+ghost use Rattle.whole_filters.specs.Whole.{before, sorted_by, distinct, groups};
+
+/// A sorted view has the points of the view, in the order of the key, upwards or downwards; points of one key stay in their
+/// order; and no other list does both.
+pub fn sort_laws()
+    ensures permutes { (key : Point → ℤ) (down : Bool) (view : List Point)
+        → IsPermutation view (sorted_by (before key down) view) }
+    ensures in_order { (key : Point → ℤ) (down : Bool) (view : List Point)
+        → IsSortedBy (before key down) (sorted_by (before key down) view) }
+    ensures ties_stay { (key : Point → ℤ) (down : Bool) (view : List Point)
+        → IsStableBy (before key down) view (sorted_by (before key down) view) }
+    ensures only { (key : Point → ℤ) (down : Bool) (view other : List Point)
+        → IsSortedBy (before key down) other → IsStableBy (before key down) view other
+        → other ≡ sorted_by (before key down) view }
+{}
+
+/// The groups of a view hold each of its points once; no group is empty; each value of the key has one group, and a value
+/// that comes later stands behind those that came before.
+pub fn group_laws()
+    ensures each_point_once { (key : Point → ℤ) (view : List Point) → IsPermutation view (all_of (groups key view)) }
+    ensures not_empty { (key : Point → ℤ) (view : List Point) → All (λ group. 0 < length group) (groups key view) }
+    ensures all_values { (v : ℤ) (vs : List ℤ) → list_any (int_eq v) (distinct vs) ≡ list_any (int_eq v) vs }
+    ensures values_once { (vs : List ℤ) → AllPairs (λ v w. int_eq v w ≡ false) (distinct vs) }
+    ensures in_order { (vs : List ℤ) (v : ℤ)
+        → distinct (vs ++ v ∷ []) ≡ (if list_any (int_eq v) vs then distinct vs else distinct vs ++ v ∷ []) }
+{}

@@ -1,0 +1,129 @@
+//! What becomes of views that are sorted, cut to their tails and grouped.
+
+ghost use Rattle.std.specs.Prelude.{◌≡◌, [], OnOk};
+
+use crate::views::are_told;
+use cloud_points::{Dim, Point};
+use std::alloc::{AllocError, Global};
+use whole_filters::{Gathering, Views, gather};
+
+/// The X and Z of the points of some views, in nanounits.
+type Held = &'static [&'static [(i64, i64)]];
+
+/// The X of the points of some views.
+type Told = &'static [&'static [i64]];
+
+const BOTH: [(i64, i64); 4] = [(1, 5), (2, -1), (3, 5), (4, 3)];
+
+const PAIR: [(i64, i64); 2] = [(5, 3), (6, -1)];
+
+/// Views, what is done with them, and the views that come of it.
+const ROWS: [(Held, Gathering, Told); 12] = [
+    (&[&BOTH], Gathering::Sort(Dim::Z, false), &[&[2, 4, 1, 3]]),
+    // points of one Z stay in their order downwards too
+    (&[&BOTH], Gathering::Sort(Dim::Z, true), &[&[1, 3, 4, 2]]),
+    (
+        &[&BOTH, &[], &PAIR],
+        Gathering::Sort(Dim::Z, false),
+        &[&[2, 4, 1, 3], &[], &[6, 5]],
+    ),
+    (&[&BOTH], Gathering::Sort(Dim::Y, true), &[&[1, 2, 3, 4]]),
+    (&[&BOTH, &PAIR], Gathering::Tail(0), &[&[], &[]]),
+    (&[&BOTH, &PAIR], Gathering::Tail(1), &[&[4], &[6]]),
+    (&[&BOTH, &PAIR], Gathering::Tail(3), &[&[2, 3, 4], &[5, 6]]),
+    (&[&PAIR, &[]], Gathering::Tail(u32::MAX), &[&[5, 6], &[]]),
+    (&[&BOTH], Gathering::GroupBy(Dim::Z), &[&[1, 3], &[2], &[4]]),
+    (
+        &[&BOTH, &[], &PAIR],
+        Gathering::GroupBy(Dim::Z),
+        &[&[1, 3], &[2], &[4], &[5], &[6]],
+    ),
+    (&[&BOTH], Gathering::GroupBy(Dim::Y), &[&[1, 2, 3, 4]]),
+    (&[&[]], Gathering::GroupBy(Dim::Z), &[]),
+];
+
+/// Binary64 words of times, each with its place in their order.
+const TIMES: [(i64, u64); 8] = [
+    // 1 and -1
+    (5, 0x3FF0_0000_0000_0000),
+    (2, 0xBFF0_0000_0000_0000),
+    // one that is no number, and -0
+    (7, 0x7FF8_0000_0000_0000),
+    (3, 0x8000_0000_0000_0000),
+    // one that is no number and has a sign, and 0
+    (0, 0xFFF8_0000_0000_0000),
+    (4, 0),
+    // -2 and infinity
+    (1, 0xC000_0000_0000_0000),
+    (6, 0x7FF0_0000_0000_0000),
+];
+
+/// Puts a view of points with these X and Z behind the others.
+fn hold(held: &mut Views, view: &[(i64, i64)]) -> Result<(), AllocError>
+    ensures { OnOk result (held.new.open_view ≡ []) }
+{
+    for (x, z) in view {
+        let mut point = Point::zero();
+        (point.x, point.z) = (*x, *z);
+        held.push(&point)?;
+    }
+    held.end_view()
+}
+
+fn gathered(alloc: Global, views: Held, how: Gathering) -> Result<Views, AllocError> {
+    let mut held = Views::none(alloc);
+    for view in views {
+        hold(&mut held, view)?;
+    }
+    gather(alloc, held, how)
+}
+
+#[test]
+fn views_are_gathered(rt: HostRuntime) -> Result<(), AllocError> {
+    for (views, how, told) in ROWS {
+        let held = gathered(rt.alloc(), views, how)?;
+        assert!(rt; are_told(&held, told), "{how:?} {told:?}");
+    }
+    Ok(())
+}
+
+fn by_time(alloc: Global, down: bool) -> Result<Views, AllocError> {
+    let mut held = Views::none(alloc);
+    for (x, word) in TIMES {
+        let mut point = Point::zero();
+        (point.x, point.gps_time) = (x, word);
+        held.push(&point)?;
+    }
+    held.end_view()?;
+    gather(alloc, held, Gathering::Sort(Dim::GpsTime, down))
+}
+
+#[test]
+fn times_stand_in_the_order_of_their_words(rt: HostRuntime) -> Result<(), AllocError> {
+    let up = by_time(rt.alloc(), false)?;
+    assert!(rt; are_told(&up, &[&[0, 1, 2, 3, 4, 5, 6, 7]]));
+    let down = by_time(rt.alloc(), true)?;
+    assert!(rt; are_told(&down, &[&[7, 6, 5, 4, 3, 2, 1, 0]]));
+    Ok(())
+}
+
+fn of_cut(alloc: Global, how: Gathering) -> Result<Views, AllocError> {
+    let mut held = Views::none(alloc);
+    hold(&mut held, &BOTH)?;
+    held.push(&Point::zero())?;
+    held.set_cut();
+    gather(alloc, held, how)
+}
+
+#[test]
+fn of_cut_views_nothing_goes_on(rt: HostRuntime) -> Result<(), AllocError> {
+    for how in [
+        Gathering::Sort(Dim::Z, false),
+        Gathering::Tail(1),
+        Gathering::GroupBy(Dim::Z),
+    ] {
+        let held = of_cut(rt.alloc(), how)?;
+        assert_eq!(rt; (held.views(), held.len(0), held.is_cut()), (0, 0, true));
+    }
+    Ok(())
+}

@@ -1,0 +1,7 @@
+//! Tests of held views, and of the filters that need whole views.
+#![tactic(auto)]
+
+#[cfg(test)]
+mod gathers;
+#[cfg(test)]
+mod views;
