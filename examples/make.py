@@ -75,12 +75,11 @@ def columns(points):
     return "".join(line + "\n" for line in lines)
 
 
-def report(*stages, last_views=1):
-    """A report of stages, each with its type, the points that it gave on, and for a writer the points that it wrote. The last
-    one gave on so many views, each other one a single one."""
+def report(*stages, two_views=()):
+    """A report of stages, each with its type, the points that it gave on, and for a writer the points that it wrote. The stages
+    with these numbers gave on two views, each other one a single one."""
     lines = [
-        f"stage {number} {kind} views {last_views if number == len(stages) - 1 else 1} points {count}"
-        + (f" wrote {wrote[0]}" if wrote else "")
+        f"stage {number} {kind} views {2 if number in two_views else 1} points {count}" + (f" wrote {wrote[0]}" if wrote else "")
         for number, (kind, count, *wrote) in enumerate(stages)
     ]
     return "".join(line + "\n" for line in lines + [f"outputs {sum(len(stage) == 3 for stage in stages)}"])
@@ -165,6 +164,8 @@ def main():
     every, some = len(hill_points), 5
     high = [point for point in hill_points if point[2] > Fraction(225, 2)]
     raised = [(x, y, z + Fraction(35, 100) if x < 500003 else z) for x, y, z in hill_points]
+    # Points of one height stay in their order: `sorted` keeps it too.
+    highest = sorted(hill_points, key=lambda point: -point[2])[:3]
     reader, head, writer, las_writer = "readers.las", "filters.head", "writers.text", "writers.las"
 
     # By pipeline: the exit code, what is printed, what is said on standard error, and the files that are kept.
@@ -178,6 +179,27 @@ def main():
             {"high.txt": text(high)},
         ),
         "raised": (0, report((reader, every), ("filters.assign", every), (writer, every, every)), "", {"raised.txt": text(raised)}),
+        "highest": (
+            0,
+            report((reader, every), ("filters.sort", every), (head, 3), (writer, 3, 3)),
+            "",
+            {"highest.txt": text(highest)},
+        ),
+        # All points of the hill are of one class, and all of the coast of another.
+        "kinds": (
+            0,
+            report(
+                (reader, every),
+                (reader, 5),
+                ("filters.merge", every + 5),
+                ("filters.groupby", every + 5),
+                (head, 2),
+                (writer, 2, 2),
+                two_views=[3, 4, 5],
+            ),
+            "",
+            {"kinds.txt": text([hill_points[0], coast_points[0]])},
+        ),
         "split": (
             0,
             report((reader, every), (writer, every, len(high)), (writer, every, every - len(high))),
@@ -192,7 +214,7 @@ def main():
         ),
         "joined": (
             0,
-            report((reader, every), (reader, 5), (writer, every + 5, every + 5), last_views=2),
+            report((reader, every), (reader, 5), (writer, every + 5, every + 5), two_views=[2]),
             "",
             {"all.txt": text(hill_points + coast_points)},
         ),
@@ -200,7 +222,7 @@ def main():
         "copy": (0, report((reader, 5), (head, 3), (las_writer, 3, 3)), "", {"copy.las": copied(coast_points[:3])}),
         "grid": (
             0,
-            report((reader, every), (reader, 5), (las_writer, every + 5, every + 5), last_views=2),
+            report((reader, every), (reader, 5), (las_writer, every + 5, every + 5), two_views=[2]),
             "",
             {"grid.las": joined6(hill_points, coast_points)},
         ),

@@ -4,11 +4,11 @@ use Rattle.cloud_points.specs.declared.point.Point.{Point}
 use Rattle.cloud_points.specs.declared.faults.PointFault.{PointFault}
 use Rattle.cloud_points.specs.Flows.{Flow}
 use Rattle.expr_lang.specs.Formula.{Formula}
-use Rattle.expr_eval.specs.Bindings.{assign_of}
+use Rattle.expr_eval.specs.Bindings.{assign_of, dim_of}
 use Rattle.stage_options.specs.Binding.{bound, bound_where, limit_of}
 use Rattle.stage_options.specs.Ferries.{with_targets, ferries_bound}
 use Rattle.stage_options.specs.declared.options.Options.{Options}
-use Rattle.stage_options.specs.declared.options.Options.TheVariants.{ReadersLas, FiltersRange, FiltersCrop, FiltersAssign, FiltersFerry, FiltersExpression, FiltersDecimation, FiltersHead, FiltersReturns, FiltersMerge, WritersLas, WritersText}
+use Rattle.stage_options.specs.declared.options.Options.TheVariants.{ReadersLas, FiltersRange, FiltersCrop, FiltersAssign, FiltersFerry, FiltersExpression, FiltersDecimation, FiltersHead, FiltersReturns, FiltersMerge, FiltersSort, FiltersTail, FiltersGroupby, WritersLas, WritersText}
 use Rattle.forward_rules.specs.Forwarded.{ReadFile, form_of}
 use Rattle.las_writer.specs.LasOutput.{las_output}
 use Rattle.las_writer.specs.Records.{written}
@@ -19,12 +19,19 @@ use Rattle.stage_meanings.specs.Rules.{range, crop, decimation, head, returns, e
 use Rattle.stage_meanings.specs.Records.{unrecorded}
 use Rattle.stage_meanings.specs.declared.reason.Reason.{Reason}
 use Rattle.text_writer.specs.TextOutput.{text_output}
+use Rattle.whole_filters.specs.Gathered.{gathered}
+use Rattle.whole_filters.specs.declared.gathering.Gathering.{Gathering}
+use Rattle.whole_filters.specs.declared.gathering.Gathering.TheVariants.{Sort, Tail, GroupBy}
 use Rattle.answer_model.specs.Forms.{text_form}
+
+-- what a stage makes of the flow that it takes: it judges its points one after the other, or it needs whole views
+pub data Making : Type 0 where
+  Judging : Filtering → Making
+  Gathered : Gathering → Making
 
 -- a type of stage
 pub record Row : Type 0 where
-  -- what it makes of the flow that it takes
-  pub filtering : Filtering
+  pub making : Making
   -- whether it writes a point, and the bytes of its file of those that it writes
   pub writes : Point → Bool
   pub bytes : List Point → List ℕ
@@ -36,7 +43,11 @@ pub record Setting : Type 0 where
 
 -- a filter, which has no file
 abbrev pub filters : Filtering → Row
-filters f = record { filtering = f; writes = λ p. false; bytes = λ points. [] }
+filters f = record { making = Judging f; writes = λ p. false; bytes = λ points. [] }
+
+-- nor has a stage that needs whole views
+abbrev pub gathers : Gathering → Row
+gathers g = record { making = Gathered g; writes = λ p. false; bytes = λ points. [] }
 
 -- it judges by this rule the points for which a condition holds, beside these extra names
 abbrev pub by : List (List ℕ) → Rule Point Reason → Option (Formula (List ℕ)) → Row
@@ -46,7 +57,7 @@ by names rule only = filters (By rule (bound_where names only))
 -- in its file
 abbrev pub writes : List (List ℕ) → (Point → Option Reason) → (List Point → List ℕ) → Option (Formula (List ℕ)) → Row
 writes names reason bytes only = record {
-  filtering = By (admitted reason) (bound_where names only);
+  making = Judging (By (admitted reason) (bound_where names only));
   writes = λ p. is_true (passes (bound_where names only) p);
   bytes = bytes;
 }
@@ -63,12 +74,24 @@ row_of (FiltersDecimation o) s = by s.names (decimation o.step o.offset o.limit)
 row_of (FiltersHead o) s = by s.names (head o.count) o.only
 row_of (FiltersReturns o) s = by s.names (returns o.groups) o.only
 row_of (FiltersMerge o) s = filters Merge
+row_of (FiltersSort o) s = gathers (Sort (dim_of s.names o.dimension) o.down)
+row_of (FiltersTail o) s = gathers (Tail o.count)
+row_of (FiltersGroupby o) s = gathers (GroupBy (dim_of s.names o.dimension))
 row_of (WritersLas o) s = writes s.names (λ p. unrecorded (written (form_of o.fields s.reads) p)) (las_output (form_of o.fields s.reads)) o.only
 row_of (WritersText o) s = writes s.names (λ p. None) (text_output (text_form s.names o)) o.only
 
+-- a stage that needs whole views has no fault
+abbrev pub made : Making → Flow Point → Flow Point
+made (Judging f) flow = filtered f flow
+made (Gathered g) flow = gathered g flow
+
+abbrev pub stop : Making → Flow Point → Option PointFault
+stop (Judging f) flow = filtered_stop f flow
+stop (Gathered g) flow = None
+
 -- the value of a stage on the flow that it takes, and its fault there
 abbrev pub value_on : Row → Flow Point → Flow Point
-value_on row flow = filtered row.filtering flow
+value_on row flow = made row.making flow
 
 abbrev pub fault_on : Row → Flow Point → Option PointFault
-fault_on row flow = filtered_stop row.filtering flow
+fault_on row flow = stop row.making flow

@@ -5,7 +5,7 @@ use Rattle.file_devices.specs.declared.devices.Op.TheVariants.{Open, Read, Creat
 use Rattle.file_devices.specs.Named.{Names}
 use Rattle.stage_options.specs.declared.stage.StageSpec.{StageSpec}
 use Rattle.run_report.specs.declared.refusal.Place.{Place}
-use Rattle.run_report.specs.declared.refusal.Place.TheVariants.{PipelineFile, Stage, Out}
+use Rattle.run_report.specs.declared.refusal.Place.TheVariants.{PipelineFile, Generated, Stage, Out}
 use Rattle.run_report.specs.declared.refusal.Refusal.{Refusal}
 use Rattle.run_report.specs.declared.refusal.Refusal.TheVariants.{Usage, Pipeline, Data, Device, Memory, NotBuilt}
 use Rattle.answer_model.specs.Runs.{Run}
@@ -34,6 +34,7 @@ no_out out right Patch none h = h
 no_out out right Keep none h = h
 
 no_device : (files out : Type 0) (m : Names) (plan : Result (List StageSpec) Refusal) (right : Type 0) (p : Place) (o : Op) → (files → ⊥) → (out → ⊥) → AtRun files out m plan right p o → ⊥
+no_device files out m plan right Generated o no_files no_output h = absurd h
 no_device files out m plan right PipelineFile o no_files no_output h = no_text files o no_files h
 no_device files out m plan right (Stage i) o no_files no_output h = no_files h.0
 no_device files out m plan right Out o no_files no_output h = no_out out right o no_output h

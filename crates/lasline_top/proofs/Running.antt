@@ -75,6 +75,7 @@ run-because file m stages rose files out map refusal plan told more cause = go r
       | inr d ↦ inr (more d.0, subst (λ p. IsOkAnd p (λ ts. MayFail m ts i o)) (sym plan) (d.1 m told))
     ]
     go (of.Device at.PipelineFile o) c = absurd c
+    go (of.Device at.Generated o) c = absurd c
     go (of.Device at.Out o) c = absurd c
     go (of.Pipeline f) c = run-is ∙ c m told
     go (of.Usage k) c = absurd c
@@ -86,6 +87,7 @@ run-inside rose map stages of.Memory c = tt
 run-inside rose map stages (of.Data i f) c = tt
 run-inside rose map stages (of.Device (at.Stage i) o) c = tt
 run-inside rose map stages (of.Device at.PipelineFile o) c = absurd c
+run-inside rose map stages (of.Device at.Generated o) c = absurd c
 run-inside rose map stages (of.Device at.Out o) c = absurd c
 run-inside rose map stages (of.Pipeline f) c = tt
 run-inside rose map stages (of.Usage k) c = absurd c
@@ -96,6 +98,7 @@ inside-files of.Memory c = tt
 inside-files (of.Data i f) c = tt
 inside-files (of.Device (at.Stage i) o) c = tt
 inside-files (of.Device at.PipelineFile o) c = tt
+inside-files (of.Device at.Generated o) c = tt
 inside-files (of.Device at.Out o) c = absurd c
 inside-files (of.Pipeline f) c = tt
 inside-files (of.Usage k) c = absurd c
@@ -110,6 +113,7 @@ run-risen rose files out map stages (of.Device (at.Stage i) o) none more c = eli
   | inr d ↦ more d.0
 ]
 run-risen rose files out map stages (of.Device at.PipelineFile o) none more c = absurd c
+run-risen rose files out map stages (of.Device at.Generated o) none more c = absurd c
 run-risen rose files out map stages (of.Device at.Out o) none more c = absurd c
 run-risen rose files out map stages (of.Pipeline f) none more c = tt
 run-risen rose files out map stages (of.Usage k) none more c = absurd c

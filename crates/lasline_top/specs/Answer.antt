@@ -1,14 +1,14 @@
 -- What a command answers, over the map of the files.
-use Rattle.std.specs.Prelude.{ℕ, List, [], Result, Ok, Err, if◌then◌else◌}
+use Rattle.std.specs.Prelude.{ℕ, List, [], Result, Ok, Err}
 use Rattle.file_devices.specs.Named.{Names}
 use Rattle.stage_names.specs.declared.faults.PipeFault.{PipeFault}
 use Rattle.pipeline_json.specs.Stages.{Stage}
 use Rattle.pipeline_json.specs.Trees.{tree_of}
 use Rattle.stage_options.specs.declared.stage.StageSpec.{StageSpec}
-use Rattle.stage_options.specs.TypedTree.{are_built, typed_tree}
+use Rattle.stage_options.specs.TypedTree.{typed_tree}
 use Rattle.run_report.specs.declared.refusal.Place.TheVariants.{PipelineFile}
 use Rattle.run_report.specs.declared.refusal.Refusal.{Refusal}
-use Rattle.run_report.specs.declared.refusal.Refusal.TheVariants.{Pipeline, NotBuilt}
+use Rattle.run_report.specs.declared.refusal.Refusal.TheVariants.{Pipeline}
 use Rattle.answer_model.specs.Steps.{and_then}
 use Rattle.answer_model.specs.Runs.{Run, file_at, run_of}
 use Rattle.lasline_top.specs.declared.status.Status.{Status}
@@ -25,9 +25,9 @@ piped (Err f) = Err (Pipeline f)
 abbrev pub raw_in : Names → List ℕ → Result (List Stage) Refusal
 raw_in m file = and_then (file_at (m file) PipelineFile) (λ text. piped (tree_of text))
 
--- stages with their options, as far as they are built
+-- stages with their options
 abbrev pub typed : List Stage → Result (List StageSpec) Refusal
-typed stages = if are_built stages then piped (typed_tree stages) else Err (NotBuilt 4)
+typed stages = piped (typed_tree stages)
 
 -- the pipeline that a file names
 abbrev pub plan_in : Names → List ℕ → Result (List StageSpec) Refusal

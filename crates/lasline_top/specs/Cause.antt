@@ -48,6 +48,7 @@ AtOut rose o = ⊥
 abbrev pub AtRun : Type 0 → Type 0 → Names → Result (List StageSpec) Refusal → Type 0 → Place → Op → Type 0
 AtRun files_rose out_rose m plan right at.PipelineFile o = AtText files_rose at.PipelineFile o
 AtRun files_rose out_rose m plan right (at.Stage i) o = files_rose × IsOkAnd plan (λ stages. MayFail m stages i o)
+AtRun files_rose out_rose m plan right at.Generated o = ⊥
 AtRun files_rose out_rose m plan right at.Out o = AtOut (out_rose × right) o
 
 -- that of a command that runs this file

@@ -25,7 +25,7 @@ use pipeline_json::read_pipeline;
 use run_engine::{Shape, run_pipeline};
 use run_report::{Place, Refusal, fault_text, report_text};
 use stage_names::PipeErr;
-use stage_options::{Tree, is_tree_built, type_tree};
+use stage_options::{Tree, type_tree};
 use std::alloc::Global;
 
 /// The refusal for a pipeline.
@@ -53,9 +53,6 @@ fn read_plan<F: Files>(alloc: Global, files: &mut F, name: &str) -> Result<Tree,
         Ok(raw) => raw,
         Err(e) => return Err(refusal_of(e)),
     };
-    if !is_tree_built(&raw) {
-        return Err(Refusal::NotBuilt(4));
-    }
     match type_tree(alloc, &raw) {
         Ok(tree) => Ok(tree),
         Err(e) => Err(refusal_of(e)),

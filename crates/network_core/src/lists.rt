@@ -62,6 +62,14 @@ impl InsList {
         InsList { lists }
     }
 
+    /// The children of a node, in the order of its inputs.
+    pub fn children(&self, node: usize) -> &[u32]
+        requires { node < length self.now }
+        ensures { result.now ≡ children self.now node }
+    {
+        self.lists[node].as_slice()
+    }
+
     /// The child of a node at an input.
     pub(crate) fn child(&self, node: usize, input: u32) -> u32
         requires node { node < length self.now }

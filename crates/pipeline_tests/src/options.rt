@@ -2,7 +2,7 @@
 
 use pipeline_json::read_pipeline;
 use stage_names::{PipeErr, PipeFault};
-use stage_options::{Options, Role, Tree, is_tree_built, type_tree};
+use stage_options::{Options, Role, Tree, type_tree};
 use std::alloc::{AllocError, Global};
 use std::test::Fail;
 
@@ -27,6 +27,13 @@ fn shown_options(alloc: Global, options: &Options) -> Result<String, AllocError>
         Options::FiltersHead(options) => format!(in alloc; "head {}", options.count),
         Options::FiltersReturns(_) => String::from_str(alloc, "returns"),
         Options::FiltersMerge(_) => String::from_str(alloc, "merge"),
+        Options::FiltersSort(options) => {
+            format!(in alloc; "sort {} {}", options.dimension.as_str(), options.down)
+        }
+        Options::FiltersTail(options) => format!(in alloc; "tail {}", options.count),
+        Options::FiltersGroupby(options) => {
+            format!(in alloc; "group {}", options.dimension.as_str())
+        }
         Options::WritersLas(options) => { format!(in alloc; "write {}", options.filename.as_str()) }
         Options::WritersText(options) => {
             format!(in alloc; "write {}", options.filename.as_str())
@@ -65,9 +72,6 @@ fn answer(alloc: Global, text: &str) -> Result<String, AllocError> {
     let Ok(raw) = read_pipeline(alloc, text.as_bytes()) else {
         return String::from_str(alloc, "no tree");
     };
-    if !is_tree_built(&raw) {
-        return String::from_str(alloc, "not built");
-    }
     match type_tree(alloc, &raw) {
         Ok(tree) => shown_last(alloc, &tree),
         Err(error) => shown_fault(alloc, &error),
@@ -166,7 +170,61 @@ const STAGES: &[(&str, &str)] = &[
         r#",{"type":"writers.text","filename":"a.las"},{"type":"writers.text","filename":"b"},{"type":"writers.text","filename":"a.las"},{"type":"writers.text","filename":"b"}"#,
         "same 3",
     ),
-    (r#",{"type":"filters.tail"}"#, "not built"),
+    (r#",{"type":"filters.tail"}"#, "tail 10"),
+    (
+        r#",{"type":"filters.tail","count":3,"where":"X > 1"}"#,
+        "unknown 1 where",
+    ),
+    (
+        r#",{"type":"filters.sort","dimension":"Z"}"#,
+        "sort Z false",
+    ),
+    (
+        r#",{"type":"filters.sort","dimension":"","order":"DESC","algorithm":"stable"}"#,
+        "sort  true",
+    ),
+    (
+        r#",{"type":"filters.sort","dimension":"Z","order":"desc"}"#,
+        "wrong 1 order",
+    ),
+    (
+        r#",{"type":"filters.sort","dimension":"Z","algorithm":""}"#,
+        "wrong 1 algorithm",
+    ),
+    (
+        r#",{"type":"filters.sort","order":"up"}"#,
+        "missing 1 dimension",
+    ),
+    (
+        r#",{"type":"filters.groupby","dimension":"Classification"}"#,
+        "group Classification",
+    ),
+    (
+        r#",{"type":"filters.groupby","dimension":1}"#,
+        "wrong 1 dimension",
+    ),
+    (r#",{"type":"filters.head","cuont":1}"#, "unknown 1 cuont"),
+    (
+        r#",{"type":"filters.merge","filename":"a"}"#,
+        "unknown 1 filename",
+    ),
+    (
+        r#",{"type":"writers.text","x":1,"precision":10}"#,
+        "unknown 1 x",
+    ),
+    (
+        r#",{"type":"writers.text","precision":10}"#,
+        "missing 1 filename",
+    ),
+    (
+        r#",{"type":"writers.text","filename":"a","where":1,"delimiter":1,"precision":10}"#,
+        "wrong 1 precision",
+    ),
+    (
+        r#",{"type":"writers.text","filename":"a#","order":1}"#,
+        "wrong 1 filename",
+    ),
+    (r#",{"type":"writers.text","filename":""}"#, "write "),
     (r#",{"type":"filters.head","where":"X > 1"}"#, "head 10"),
     (r#",{"type":"filters.head","where":1}"#, "wrong 1 where"),
     (r#",{"type":"filters.head","where":"X"}"#, "wrong 1 where"),
@@ -254,6 +312,55 @@ const READERS: &[(&str, &str)] = &[
     ),
 ];
 
+/// An option of a text writer to `o`, and its options or the first fault.
+const TEXT_VALUES: &[(&str, &str)] = &[
+    (r#""order":"""#, "wrong 1 order"),
+    (r#""order":"X:2, Intensity""#, "write o"),
+    (r#""order":["X"]"#, "wrong 1 order"),
+    (r#""precision":9"#, "write o"),
+    (r#""precision":"0""#, "write o"),
+    (r#""precision":10"#, "wrong 1 precision"),
+    (r#""delimiter":"12345678""#, "write o"),
+    (r#""delimiter":"""#, "wrong 1 delimiter"),
+    (r#""delimiter":"123456789""#, "wrong 1 delimiter"),
+    (r#""delimiter":1"#, "wrong 1 delimiter"),
+    (r#""quote_header":"true""#, "write o"),
+    (r#""quote_header":"True""#, "wrong 1 quote_header"),
+    (r#""quote_header":0"#, "wrong 1 quote_header"),
+    (r#""write_header":"false""#, "write o"),
+    (r#""write_header":null"#, "wrong 1 write_header"),
+    (r#""where":true"#, "wrong 1 where"),
+];
+
+/// An option of a LAS writer to `o`, and its options or the first fault.
+const LAS_VALUES: &[(&str, &str)] = &[
+    (r#""dataformat_id":"6""#, "write o"),
+    (r#""dataformat_id":4"#, "wrong 1 dataformat_id"),
+    (r#""minor_version":4"#, "write o"),
+    (r#""minor_version":3"#, "wrong 1 minor_version"),
+    (r#""scale_x":"0.000000001","scale_z":1"#, "write o"),
+    (r#""scale_x":0.01"#, "wrong 1 scale_x"),
+    (r#""scale_y":"0""#, "wrong 1 scale_y"),
+    (r#""scale_z":"1.1""#, "wrong 1 scale_z"),
+    (r#""offset_x":-999999999,"offset_y":"+.5""#, "write o"),
+    (r#""offset_y":1000000000"#, "wrong 1 offset_y"),
+    (r#""offset_z":"-1000000000""#, "wrong 1 offset_z"),
+    (r#""forward":"all, scale""#, "write o"),
+    (r#""forward":"All""#, "wrong 1 forward"),
+    (r#""filesource_id":65535"#, "write o"),
+    (r#""creation_year":65536"#, "wrong 1 creation_year"),
+    (
+        r#""system_id":"123456789012345678901234567890123""#,
+        "wrong 1 system_id",
+    ),
+];
+
+/// Whether a writer of this type to `o` behind a reader, with this option, is answered so.
+fn writes(alloc: Global, kind: &str, option: &str, words: &str) -> Result<bool, AllocError> {
+    let stages = format!(in alloc; ",{{\"type\":\"writers.{kind}\",\"filename\":\"o\",{option}}}")?;
+    answers(alloc, stages.as_str(), words)
+}
+
 #[test]
 fn options_are_typed(rt: HostRuntime) -> Result<(), Fail> {
     let alloc = rt.alloc();
@@ -262,6 +369,12 @@ fn options_are_typed(rt: HostRuntime) -> Result<(), Fail> {
     }
     for (count, words) in COUNTS {
         assert!(rt; counts(alloc, count, words)?, "{count}");
+    }
+    for (option, words) in TEXT_VALUES {
+        assert!(rt; writes(alloc, "text", option, words)?, "{option}");
+    }
+    for (option, words) in LAS_VALUES {
+        assert!(rt; writes(alloc, "las", option, words)?, "{option}");
     }
     for (text, words) in READERS {
         assert!(rt; answer(alloc, text)?.as_str() == *words, "{text}");
@@ -277,6 +390,7 @@ fn shown_stage(alloc: Global, tree: &Tree, i: usize) -> Result<String, AllocErro
     let (does, name) = match stage.options.role() {
         Role::Reads(name) => ("reads", name),
         Role::Filters => ("filters", ""),
+        Role::Gathers => ("gathers", ""),
         Role::Writes(name) => ("writes", name),
     };
     let takes = stage.ins.as_slice().len();
@@ -299,10 +413,6 @@ fn stages_keep_their_types_and_inputs(rt: HostRuntime) -> Result<(), Fail> {
         assert!(rt; false, "no tree");
         return Ok(());
     };
-    if !is_tree_built(&raw) {
-        assert!(rt; false, "not built");
-        return Ok(());
-    }
     let Ok(tree) = type_tree(alloc, &raw) else {
         assert!(rt; false, "a fault");
         return Ok(());

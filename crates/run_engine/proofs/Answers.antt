@@ -15,7 +15,7 @@ use Rattle.stage_kinds.specs.declared.stage_work.StageWork.{StageWork}
 use Rattle.stage_kinds.specs.declared.held.Held.{Held}
 use Rattle.stage_kinds.specs.declared.held.Held.TheVariants.{Nothing, Source, Sink}
 use Rattle.stage_kinds.specs.Held.{op_of, held_by, op_on}
-use Rattle.stage_options.specs.Roles.{Role, Reads, Filters, Writes, is_writing}
+use Rattle.stage_options.specs.Roles.{Role, Reads, Filters, Gathers, Writes, is_writing}
 use Rattle.stage_options.specs.declared.stage.StageSpec.{StageSpec}
 use Rattle.run_report.specs.Reports.{report_of}
 use Rattle.run_report.specs.declared.refusal.Refusal.{Refusal}
@@ -42,6 +42,7 @@ early-left (of.Pipeline f) old new expected early same = same
 early-left (of.Usage k) old new expected early same = same
 early-left (of.NotBuilt k) old new expected early same = same
 early-left (of.Device at.PipelineFile o) old new expected early same = same
+early-left (of.Device at.Generated o) old new expected early same = same
 early-left (of.Device at.Out o) old new expected early same = absurd early
 early-left (of.Device (at.Stage i) op.Open) old new expected early same = same
 early-left (of.Device (at.Stage i) op.Read) old new expected early same = same
@@ -80,6 +81,7 @@ at-turns earlier all right (Reads name) op.Write e a is = cc
 at-turns earlier all right (Reads name) op.Patch e a is = cc
 at-turns earlier all right (Reads name) op.Keep e a is = cc
 at-turns earlier all right Filters o e a is = cc
+at-turns earlier all right Gathers o e a is = cc
 at-turns earlier all right (Writes name) op.Write e a is = a
 at-turns earlier all right (Writes name) op.Create e a is = a
 at-turns earlier all right (Writes name) op.Open e a is = cc
@@ -90,12 +92,14 @@ at-turns earlier all right (Writes name) op.Keep e a is = cc
 pub at-keeping : (earlier all right : Type 0) (role : Role) → is_writing role ≡ true → right → AtRole earlier all right role op.Keep
 at-keeping earlier all right (Reads name) w r = cc
 at-keeping earlier all right Filters w r = cc
+at-keeping earlier all right Gathers w r = cc
 at-keeping earlier all right (Writes name) w r = r
 
 -- a writer's device may fail as its file is finished
 at-finishing : (earlier all right : Type 0) (role : Role) (o : Op) → all → right → op_for role ≡ Some op.Write → (o ≡ op.Write) ⊎ (o ≡ op.Patch) → AtRole earlier all right role o
 at-finishing earlier all right (Reads name) o a r is named = cc
 at-finishing earlier all right Filters o a r is named = cc
+at-finishing earlier all right Gathers o a r is named = cc
 at-finishing earlier all right (Writes name) o a r is named = elim named [
   | inl e ↦ subst (AtRole earlier all right (Writes name)) (sym e) a
   | inr e ↦ subst (AtRole earlier all right (Writes name)) (sym e) r
@@ -125,6 +129,7 @@ module _ {S K : Type 0} (s : source.Ghosts S) (faults : StageWork S K → ℕ) (
     }),
   )
   turns-to-cause (of.Device at.PipelineFile o) c = absurd c
+  turns-to-cause (of.Device at.Generated o) c = absurd c
   turns-to-cause (of.Device at.Out o) c = absurd c
   turns-to-cause (of.Pipeline f) c = absurd c
   turns-to-cause (of.Usage k) c = absurd c
@@ -140,6 +145,7 @@ module _ {S K : Type 0} (s : source.Ghosts S) (faults : StageWork S K → ℕ) (
     },
   )
   unfinished-to-cause (of.Device at.PipelineFile o) c sound = absurd c
+  unfinished-to-cause (of.Device at.Generated o) c sound = absurd c
   unfinished-to-cause (of.Device at.Out o) c sound = absurd c
   unfinished-to-cause (of.Data i f) c sound = absurd c
   unfinished-to-cause of.Memory c sound = absurd c
@@ -166,6 +172,7 @@ turns-early s faults stages old new of.Memory c = tt
 turns-early s faults stages old new (of.Data i f) c = tt
 turns-early s faults stages old new (of.Device (at.Stage i) o) c = op-early i (held_by c.before) o c.does
 turns-early s faults stages old new (of.Device at.PipelineFile o) c = tt
+turns-early s faults stages old new (of.Device at.Generated o) c = tt
 turns-early s faults stages old new (of.Device at.Out o) c = absurd c
 turns-early s faults stages old new (of.Pipeline f) c = tt
 turns-early s faults stages old new (of.Usage k) c = tt
@@ -180,6 +187,7 @@ named-early i o named = elim named [
 unfinished-early : {S K : Type 0} (faults : StageWork S K → ℕ) (old new : List (StageWork S K)) (r : Refusal) → IsUnfinished faults old new r → IsEarly r
 unfinished-early faults old new (of.Device (at.Stage i) o) c = named-early i o c.named
 unfinished-early faults old new (of.Device at.PipelineFile o) c = tt
+unfinished-early faults old new (of.Device at.Generated o) c = tt
 unfinished-early faults old new (of.Device at.Out o) c = absurd c
 unfinished-early faults old new of.Memory c = tt
 unfinished-early faults old new (of.Data i f) c = tt

@@ -2,7 +2,7 @@
 use Rattle.std.proofs.Common.{◌≡◌, ℕ, ◌<◌, true, List, length, Option, Some, IsOk, sym, subst, inr}
 use Rattle.file_devices.specs.Named.{Names}
 use Rattle.file_devices.specs.declared.devices.Op.TheVariants as op
-use Rattle.stage_options.specs.Roles.{Role, Reads, Filters, Writes, is_writing}
+use Rattle.stage_options.specs.Roles.{Role, Reads, Filters, Gathers, Writes, is_writing}
 use Rattle.stage_options.specs.declared.stage.StageSpec.{StageSpec}
 use Rattle.run_report.specs.declared.refusal.Refusal.{Refusal}
 use Rattle.run_report.specs.declared.refusal.Refusal.TheVariants as of
@@ -14,6 +14,7 @@ use Rattle.run_engine.specs.Cause.{CanBegin, IsCause, IsUncreated, AtRole}
 at-writer : (earlier all right : Type 0) (role : Role) → is_writing role ≡ true → all → AtRole earlier all right role op.Create × AtRole earlier all right role op.Write
 at-writer earlier all right (Reads name) w a = cc
 at-writer earlier all right Filters w a = cc
+at-writer earlier all right Gathers w a = cc
 at-writer earlier all right (Writes name) w a = (a, a)
 
 -- a writer whose file couldn't be created is the cause, once all readers' files were read and all names are bound
@@ -29,6 +30,7 @@ uncreated-cause rose map stages i (of.Device (at.Stage j) op.Read) lt come write
 uncreated-cause rose map stages i (of.Device (at.Stage j) op.Patch) lt come writes why = absurd why
 uncreated-cause rose map stages i (of.Device (at.Stage j) op.Keep) lt come writes why = absurd why
 uncreated-cause rose map stages i (of.Device at.PipelineFile o) lt come writes why = absurd why
+uncreated-cause rose map stages i (of.Device at.Generated o) lt come writes why = absurd why
 uncreated-cause rose map stages i (of.Device at.Out o) lt come writes why = absurd why
 uncreated-cause rose map stages i (of.Data j f) lt come writes why = absurd why
 uncreated-cause rose map stages i (of.Pipeline f) lt come writes why = absurd why

@@ -10,7 +10,7 @@ use Rattle.stage_forms.specs.Below.{HaveReaders}
 use Rattle.stage_kinds.specs.declared.file_form.StageForm.{StageForm}
 use Rattle.stage_kinds.specs.declared.file_form.StageForm.TheVariants.{Reads}
 use Rattle.stage_kinds.specs.declared.stage_work.StageWork.{StageWork}
-use Rattle.stage_kinds.specs.declared.stage_work.StageWork.TheVariants.{Reader, Filter, Writer}
+use Rattle.stage_kinds.specs.declared.stage_work.StageWork.TheVariants.{Reader, Filter, Collector, Views, Writer}
 use Rattle.stage_options.specs.declared.stage.StageSpec.{StageSpec}
 use Rattle.run_report.specs.declared.refusal.Refusal.{Refusal}
 use Rattle.run_report.specs.declared.refusal.Refusal.TheVariants as of
@@ -26,6 +26,8 @@ use Rattle.run_engine.proofs.Opening.{are-read, have-readers}
 is-reader : {S K : Type 0} (w : StageWork S K) (r : LasReader S) → reader_of w ≡ Some r → w ≡ Reader r
 is-reader (Reader q) r e = ap Reader (same_Some q r e)
 is-reader (Filter f) r e = absurd (none-some r e)
+is-reader (Collector c) r e = absurd (none-some r e)
+is-reader (Views h) r e = absurd (none-some r e)
 is-reader (Writer v) r e = absurd (none-some r e)
 
 -- works over readers and forms are at their start

@@ -17,6 +17,7 @@ cause-weaker map stages of.Memory f c = tt
 cause-weaker map stages (of.Data i f) g c = c
 cause-weaker map stages (of.Device (at.Stage i) o) f c = elim c [ inl a ↦ inl a | inr d ↦ inr (f d.0, d.1) ]
 cause-weaker map stages (of.Device at.PipelineFile o) f c = absurd c
+cause-weaker map stages (of.Device at.Generated o) f c = absurd c
 cause-weaker map stages (of.Device at.Out o) f c = absurd c
 cause-weaker map stages (of.Pipeline f) g c = c
 cause-weaker map stages (of.Usage k) f c = absurd c

@@ -8,7 +8,7 @@ use Rattle.file_devices.specs.Counts.{Rose}
 use Rattle.file_devices.specs.declared.devices.Op.{Op}
 use Rattle.file_devices.specs.declared.devices.Op.TheVariants.{Write, Patch}
 use Rattle.std.proofs.lemmas.Option.{none-some}
-use Rattle.stage_kinds.specs.declared.stage_work.StageWork.TheVariants.{Reader, Filter, Writer}
+use Rattle.stage_kinds.specs.declared.stage_work.StageWork.TheVariants.{Reader, Filter, Collector, Views, Writer}
 use Rattle.std.specs.Prelude.{option_map}
 use Rattle.stage_kinds.specs.declared.file_form.FileForm.{FileForm}
 use Rattle.stage_kinds.specs.declared.file_form.FileForm.TheVariants as file
@@ -63,6 +63,8 @@ module _ {S K : Type 0} (bytes : K → Option (List ℕ)) (faults : StageWork S 
 pub finishing-writes : {S K : Type 0} (w : StageWork S K) (o : Op) → option_map (λ x. finishing_op x.form) (writing_of w) ≡ Some o → (op_of w ≡ Some Write) × ((o ≡ Write) ⊎ (o ≡ Patch))
 finishing-writes (Reader r) o e = absurd (none-some o e)
 finishing-writes (Filter f) o e = absurd (none-some o e)
+finishing-writes (Collector c) o e = absurd (none-some o e)
+finishing-writes (Views h) o e = absurd (none-some o e)
 finishing-writes (Writer v) o e = (refl, by_form (file_form v.file) e)
   where
     by_form : (form : FileForm) → Some (finishing_op form) ≡ Some o → (o ≡ Write) ⊎ (o ≡ Patch)

@@ -1,9 +1,9 @@
 -- The files of writers are kept, one after the other.
-use Rattle.std.proofs.Common.{◌≡◌, ℕ, ◌+◌, ◌≤◌, ◌<◌, List, length, slice_get, Option, Some, ap, sym, ◌∙◌, inl, inr, add-one}
+use Rattle.std.proofs.Common.{◌≡◌, ℕ, zero, suc, ◌+◌, ◌≤◌, ◌<◌, List, length, slice_get, Option, Some, None, refl, ap, sym, ◌∙◌, inl, inr, add-one}
 use Rattle.file_devices.specs.Counts.{Rose}
 use Rattle.file_devices.specs.Named.{Names}
 use Rattle.stage_kinds.specs.declared.stage_work.StageWork.{StageWork}
-use Rattle.stage_options.specs.Roles.{Role, is_writing}
+use Rattle.stage_options.specs.Roles.{Role, Reads, Filters, Gathers, Writes, is_writing}
 use Rattle.stage_options.specs.declared.stage.StageSpec.{StageSpec}
 use Rattle.run_report.specs.declared.refusal.Refusal.{Refusal}
 use Rattle.answer_model.specs.Values.{role_at}
@@ -33,3 +33,26 @@ module _ {S K : Type 0} (bytes : K → Option (List ℕ)) where
       | inr l ↦ inr (kept-next old now end stages works i w role is e was (same ∙ l))
     ];
   }
+
+  -- what isn't told isn't told after a file is kept
+  untold-if : (role : Role) (w : Option (StageWork S K)) → kept_if bytes None role w ≡ None
+  untold-if role None = refl
+  untold-if (Writes name) (Some w) = refl
+  untold-if Filters (Some w) = refl
+  untold-if Gathers (Some w) = refl
+  untold-if (Reads name) (Some w) = refl
+
+  untold-first : (i : ℕ) (stages : List StageSpec) (works : List (StageWork S K)) → kept_first bytes i None stages works ≡ None
+  untold-first zero stages works = refl
+  untold-first (suc i) stages works =
+      ap (λ m. kept_if bytes m (role_at stages i) (slice_get works i)) (untold-first i stages works) ∙ untold-if (role_at stages i) (slice_get works i)
+
+  pub untold-kept : (i : ℕ) (old now new : Option Names) (stages : List StageSpec) (works : List (StageWork S K)) → now ≡ old → new ≡ kept_first bytes i now stages works → old ≡ None → new ≡ None
+  untold-kept i old now new stages works same is none =
+      is ∙ ap (λ m. kept_first bytes i m stages works) (same ∙ none) ∙ untold-first i stages works
+
+  pub untold-broke : (old now new : Option Names) (rose : Type 0) (stages : List StageSpec) (works : List (StageWork S K)) (refusal : Refusal) → now ≡ old → BrokeOff bytes rose now new stages works refusal → old ≡ None → new ≡ None
+  untold-broke old now new rose stages works refusal same broke none = elim broke.left [
+    | inl l ↦ untold-kept broke.stage old now new stages works same l none
+    | inr l ↦ untold-kept (broke.stage + 1) old now new stages works same l none
+  ]

@@ -11,7 +11,7 @@ use Rattle.file_devices.specs.Named.{Names, put, kept}
 use Rattle.file_devices.specs.Told.{IsAsTold}
 use Rattle.stage_kinds.specs.declared.stage_work.StageWork.{StageWork}
 use Rattle.stage_kinds.specs.Held.{told_by}
-use Rattle.stage_options.specs.Roles.{Role, Reads, Filters, Writes, is_writing}
+use Rattle.stage_options.specs.Roles.{Role, Reads, Filters, Gathers, Writes, is_writing}
 use Rattle.stage_options.specs.declared.stage.StageSpec.{StageSpec}
 use Rattle.answer_model.specs.Values.{Opened, Output, role_at, row_at, written, written_at, output_at}
 use Rattle.answer_model.specs.Runs.{put_all}
@@ -53,11 +53,13 @@ below-more stages opened n =
 before-none : (i n : ℕ) (role : Role) (bytes : List ℕ) → i ≤ n → outputs_before i (written n role bytes) ≡ []
 before-none i n (Reads name) bytes h = refl
 before-none i n Filters bytes h = refl
+before-none i n Gathers bytes h = refl
 before-none i n (Writes name) bytes h = let e : nat_lt n i ≡ false = le-ltb n i h in rw e refl
 
 before-one : (i n : ℕ) (role : Role) (bytes : List ℕ) → n < i → outputs_before i (written n role bytes) ≡ written n role bytes
 before-one i n (Reads name) bytes h = refl
 before-one i n Filters bytes h = refl
+before-one i n Gathers bytes h = refl
 before-one i n (Writes name) bytes h = let e : nat_lt n i ≡ true = lt-ltb n i h in rw e refl
 
 before_append : (n : ℕ) (xs ys : List Output) → outputs_before n (xs ++ ys) ≡ outputs_before n xs ++ outputs_before n ys
@@ -102,6 +104,7 @@ module _ (stages : List StageSpec) (opened : Opened) where
         by_role : (role : Role) → role_at stages i ≡ role → IsAsTold (kept_one bytes now role w) (Some (put_all m (written i role ((row_at stages opened i).bytes (written_at stages opened i)))))
         by_role (Reads name) is = before
         by_role Filters is = before
+        by_role Gathers is = before
         by_role (Writes name) is = kept_told m name ((row_at stages opened i).bytes (written_at stages opened i)) now (told_by bytes w) before (told i w e (ap is_writing is))
 
     pub first-put : (count : ℕ) (m : Names) (old : Option Names) → count ≤ length works → IsAsTold old (Some m) → IsAsTold (kept_first bytes count old stages works) (Some (put_all m (outputs_below stages opened count)))

@@ -1,6 +1,6 @@
 -- What the nodes of a tree's stages came to, as what its stages come to.
 use Rattle.std.proofs.Common.{◌≡◌, ℕ, ◌+◌, ◌<◌, false, List, length, map, slice_get, Option, Some, None, refl, ap, sym, subst, ◌∙◌, arith}
-use Rattle.std.specs.Prelude.{is_some, option_map}
+use Rattle.std.specs.Prelude.{option_map}
 use Rattle.std.proofs.lemmas.Option.{slice_get_within}
 use Rattle.std.proofs.lemmas.List.FromFn.{length-map-range_with_len}
 use Rattle.network_core.proofs.Opened.{some_at}
@@ -15,7 +15,6 @@ use Rattle.cloud_points.specs.Flows.{points}
 use Rattle.cloud_points.specs.Queue.{up_to_limit}
 use Rattle.network_core.specs.declared.node.Node.{Node}
 use Rattle.network_core.specs.Shown.{work_of}
-use Rattle.network_solo.specs.Trees.{NoneCame}
 use Rattle.stage_kinds.specs.declared.stage_work.StageWork.{StageWork}
 use Rattle.stage_kinds.specs.Held.{op_of, faults_of, told_by}
 use Rattle.file_devices.specs.Told.{IsAsTold}
@@ -25,9 +24,10 @@ use Rattle.run_report.specs.declared.refusal.Refusal.{Refusal}
 use Rattle.run_report.specs.declared.refusal.Refusal.TheVariants as of
 use Rattle.run_report.specs.declared.refusal.Place.TheVariants as at
 use Rattle.run_report.specs.declared.refusal.Fault.TheVariants as fault
-use Rattle.answer_model.specs.Values.{Opened, IsDown, stage_at, options_at, row_at, setting_at, stage_input, stage_fault, count_at, counts_of, least_fault}
+use Rattle.answer_model.specs.Values.{Opened, stage_at, options_at, row_at, setting_at, stage_input, stage_fault, count_at, counts_of, least_fault}
 use Rattle.answer_model.proofs.Least.{least-at, least-nowhere}
-use Rattle.stage_runs.specs.Works.{as_works, AreNewStages, ReadersTell}
+use Rattle.stage_runs.specs.Works.{AreNewStages, ReadersTell}
+use Rattle.stage_runs.specs.Parts.{AreLater as AreLaterNodes}
 use Rattle.stage_runs.proofs.Places.{mapped-at, map-at}
 use Rattle.stage_kinds.specs.Files.{chosen}
 use Rattle.stage_runs.proofs.Works.{writes-form, writer-row, wrote-is}
@@ -72,7 +72,7 @@ same-count : (i : ℕ) (k l : _) (v v' p p' : ℕ) (w w' : Option ℕ) → k ≡
 same-count i k l v v' p p' w w' a b c d = cc
 
 module _ {S K : Type 0} (s : source.Ghosts S) (k : sink.Ghosts K) (stages : List StageSpec) (old new : List (Node (StageWork S K))) (works : List (StageWork S K))
-    (is_works : map work_of old ≡ works) (fresh : AreNewStages s k stages old) (ran : AreRanStages s k stages old new) where
+    (is_works : map work_of old ≡ works) (fresh : AreNewStages s k stages old) (lasted : AreLaterNodes s k old new) where
   faults : StageWork S K → ℕ
   faults = faults_of s.faults k.faults
 
@@ -81,15 +81,15 @@ module _ {S K : Type 0} (s : source.Ghosts S) (k : sink.Ghosts K) (stages : List
 
   pub later : AreLater (faults_of s.faults k.faults) works (map work_of new)
   later = record {
-    count = length-mapped work_of new ∙ ran.tree.count ∙ sym (length-mapped work_of old) ∙ ap (λ xs. length xs) is_works;
+    count = length-mapped work_of new ∙ lasted.count ∙ sym (length-mapped work_of old) ∙ ap (λ xs. length xs) is_works;
     op = λ i v w e f.
         let n = was i v e in
         let m = mapped-at work_of new i w f in
-        ap op_of (sym m.2) ∙ (ran.tree.calm i n.0 m.0 n.1 m.1).op ∙ ap op_of n.2;
+        ap op_of (sym m.2) ∙ (lasted.each i n.0 m.0 n.1 m.1).op ∙ ap op_of n.2;
     later = λ i v w e f.
         let n = was i v e in
         let m = mapped-at work_of new i w f in
-        let a = (ran.tree.calm i n.0 m.0 n.1 m.1).faults in
+        let a = (lasted.each i n.0 m.0 n.1 m.1).faults in
         let b = ap (faults_of s.faults k.faults) n.2 in
         let c = ap (faults_of s.faults k.faults) m.2 in
         omega (arith, a, b, c);
@@ -97,21 +97,18 @@ module _ {S K : Type 0} (s : source.Ghosts S) (k : sink.Ghosts K) (stages : List
 
   -- the node that stood at a place before the run
   before : (i : ℕ) (m : Node (StageWork S K)) → slice_get new i ≡ Some m → (n : Node (StageWork S K)) × (slice_get old i ≡ Some n)
-  before i m e = some_at old i (let a = slice_get_within new i m e in let b = ran.tree.count in omega (arith, a, b))
+  before i m e = some_at old i (let a = slice_get_within new i m e in let b = lasted.count in omega (arith, a, b))
 
   after : (i : ℕ) → i < length stages → (m : Node (StageWork S K)) × (slice_get new i ≡ Some m)
-  after i lt = some_at new i (let a = ran.tree.count in let b = fresh.count in omega (arith, a, b, lt))
+  after i lt = some_at new i (let a = lasted.count in let b = fresh.count in omega (arith, a, b, lt))
 
-  quiet : ((i : ℕ) (m : Node (StageWork S K)) → slice_get new i ≡ Some m → is_device m.fault ≡ false) → NoneCame (as_works s k) old new
-  quiet none i n m e f = record { fault = none i m f; short = refl }
-
-  module _ (opened : Opened) (tell : WorksTell s works opened) where
+  module _ (ran : AreRanStages s k stages old new) (opened : Opened) (tell : WorksTell s works opened) where
     readers-tell : ReadersTell s old opened
     readers-tell i n r e w = tell i (work_of n) r (ap (λ xs. slice_get xs i) (sym is_works) ∙ map-at work_of old i n e) w
 
-    module _ (down : IsDown stages) (none : (i : ℕ) (m : Node (StageWork S K)) → slice_get new i ≡ Some m → is_device m.fault ≡ false) where
+    module _ (none : (i : ℕ) (m : Node (StageWork S K)) → slice_get new i ≡ Some m → is_device m.fault ≡ false) where
       ends : (i : ℕ) (m : Node (StageWork S K)) → slice_get new i ≡ Some m → EndsAsStage s k stages opened i m
-      ends = ran.ends (quiet none) opened readers-tell
+      ends = ran none opened readers-tell
 
       -- a node without a fault is one of a stage without a fault
       sound-at : (i : ℕ) (m : Node (StageWork S K)) → slice_get new i ≡ Some m → m.fault ≡ None → stage_fault stages opened i ≡ None
@@ -148,7 +145,7 @@ module _ {S K : Type 0} (s : source.Ghosts S) (k : sink.Ghosts K) (stages : List
       first-fault i f has no-devices =
           let m = has.here.node in
           let here = the-point f (stage_fault stages opened i) (sym (a-point m.fault f has.here.is) ∙ (ends i m has.here.at).fault) in
-          let inside : i < length stages = (let a = slice_get_within new i m has.here.at in let b = ran.tree.count in let c = fresh.count in omega (arith, a, b, c)) in
+          let inside : i < length stages = (let a = slice_get_within new i m has.here.at in let b = lasted.count in let c = fresh.count in omega (arith, a, b, c)) in
           least-at (stage_fault stages opened) (length stages) i f inside here
           (λ j lt. let x = after j (omega (arith, lt, inside)) in sound-at j x.0 x.1 (neither x.0.fault (no-devices j x.0 x.1) (has.least j x.0 lt x.1)))
 
@@ -156,31 +153,31 @@ module _ {S K : Type 0} (s : source.Ghosts S) (k : sink.Ghosts K) (stages : List
   failed-at i o has =
       let m = has.here.node in
       let n = before i m has.here.at in
-      let calm = ran.tree.calm i n.0 m n.1 has.here.at in
-      let was_sound : is_some n.0.fault ≡ false = ap is_some (fresh.fresh i n.0 n.1).fault in
+      let later = lasted.each i n.0 m n.1 has.here.at in
       let is = a-device m.fault o has.here.is in
       record {
         before = work_of n.0;
         after = work_of m;
         was = ap (λ xs. slice_get xs i) (sym is_works) ∙ map-at work_of old i n.0 n.1;
         is = map-at work_of new i m has.here.at;
-        does = subst (λ f. IsOf (op_of (work_of n.0)) f) is (calm.named was_sound);
-        rose = calm.cause was_sound (ap is_device is);
+        does = subst (λ f. IsOf (op_of (work_of n.0)) f) is later.named;
+        rose = later.cause (ap is_device is);
       }
 
-  pub turns-cause : IsDown stages → (r : Refusal) → IsOutcome new r → IsTurnsCause s (faults_of s.faults k.faults) stages works (map work_of new) r
-  turns-cause down (of.Device (at.Stage i) o) out = failed-at i o out
-  turns-cause down (of.Data i (fault.Point f)) out = λ opened tell.
+  pub turns-cause : AreRanStages s k stages old new → (r : Refusal) → IsOutcome new r → IsTurnsCause s (faults_of s.faults k.faults) stages works (map work_of new) r
+  turns-cause ran (of.Device (at.Stage i) o) out = failed-at i o out
+  turns-cause ran (of.Data i (fault.Point f)) out = λ opened tell.
       let none : (j : ℕ) (m : Node (StageWork S K)) → slice_get new j ≡ Some m → device_op m.fault ≡ None = λ j m e. out.0 j m (slice_get_within new j m e) e in
-      first-fault opened tell down (λ j m e. no-device m.fault (none j m e)) i f out.1 none
-  turns-cause down of.Memory out = absurd out
-  turns-cause down (of.Device at.PipelineFile o) out = absurd out
-  turns-cause down (of.Device at.Out o) out = absurd out
-  turns-cause down (of.Data i (fault.Header f)) out = absurd out
-  turns-cause down (of.Data i (fault.Vlr f)) out = absurd out
-  turns-cause down (of.Pipeline f) out = absurd out
-  turns-cause down (of.Usage n) out = absurd out
-  turns-cause down (of.NotBuilt n) out = absurd out
+      first-fault ran opened tell (λ j m e. no-device m.fault (none j m e)) i f out.1 none
+  turns-cause ran of.Memory out = absurd out
+  turns-cause ran (of.Device at.PipelineFile o) out = absurd out
+  turns-cause ran (of.Device at.Generated o) out = absurd out
+  turns-cause ran (of.Device at.Out o) out = absurd out
+  turns-cause ran (of.Data i (fault.Header f)) out = absurd out
+  turns-cause ran (of.Data i (fault.Vlr f)) out = absurd out
+  turns-cause ran (of.Pipeline f) out = absurd out
+  turns-cause ran (of.Usage n) out = absurd out
+  turns-cause ran (of.NotBuilt n) out = absurd out
 
 -- works that stay
 pub same-later : {S K : Type 0} (faults : StageWork S K → ℕ) (old new : List (StageWork S K)) → new ≡ old → AreLater faults old new
@@ -227,6 +224,7 @@ module _ {S K : Type 0} (faults : StageWork S K → ℕ) (old now new : List (St
         rose = (let a = first.later i v.0 f.before v.1 f.was in let b = f.rose in omega (arith, a, b));
       }
   unfinished-on (of.Device at.PipelineFile o) u = absurd u
+  unfinished-on (of.Device at.Generated o) u = absurd u
   unfinished-on (of.Device at.Out o) u = absurd u
   unfinished-on (of.Data i f) u = absurd u
   unfinished-on of.Memory u = absurd u

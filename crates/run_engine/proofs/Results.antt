@@ -1,5 +1,5 @@
 -- What holds of the answer of a step, by what held of it.
-use Rattle.std.proofs.Common.{◌≡◌, Result, Ok, Err, IfOk, IfErr, OnOk, subst}
+use Rattle.std.proofs.Common.{◌≡◌, Result, Ok, Err, IfOk, IfErr, OnOk, sym, subst}
 
 pub if-ok : {R E : Type 0} (o : Result R E) {P Q : R → Type 0} → IfOk o P → ((r : R) → P r → Q r) → IfOk o Q
 if-ok (Ok r) p f = f r p
@@ -24,3 +24,7 @@ err-of P (Err g) f e p = let same : g ≡ f = cc in subst P same p
 pub on-ok : {R E : Type 0} (o : Result R E) (r : R) {P : Type 0} → o ≡ Ok r → OnOk o P → P
 on-ok (Ok s) r e p = p
 on-ok (Err f) r e p = cc
+
+-- of the same answer
+pub ok-same : {R E : Type 0} (P : R → Type 0) (o p : Result R E) → o ≡ p → IfOk p P → IfOk o P
+ok-same P o p e h = subst (λ r. IfOk r P) (sym e) h

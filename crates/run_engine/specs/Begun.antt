@@ -14,7 +14,7 @@ use Rattle.stage_kinds.specs.Held.{op_of}
 use Rattle.run_report.specs.declared.refusal.Refusal.{Refusal}
 use Rattle.run_report.specs.declared.refusal.Refusal.TheVariants.{Memory, Pipeline}
 use Rattle.stage_forms.specs.Below.{HaveReaders}
-use Rattle.stage_options.specs.Roles.{Role, Reads, Filters, role_of, is_reading, is_writing}
+use Rattle.stage_options.specs.Roles.{Role, Reads, Filters, Gathers, role_of, is_reading, is_writing}
 use Rattle.stage_options.specs.declared.options.Options.{Options}
 use Rattle.stage_options.specs.declared.stage.StageSpec.{StageSpec}
 use Rattle.answer_model.specs.Rows.{Setting}
@@ -51,6 +51,7 @@ AreForms {S} stages readers forms = (opened : Opened) → HaveReaders readers op
 abbrev pub IsForm : Role → StageForm → Type 0
 IsForm role form.Reads = is_reading role ≡ true
 IsForm role (form.Filters f) = role ≡ Filters
+IsForm role (form.Gathers g) = role ≡ Gathers
 IsForm role (form.Writes x) = (is_writing role ≡ true) × IsFileForm x.form
 
 abbrev pub FitRoles : List StageSpec → List StageForm → Type 0

@@ -18,6 +18,7 @@ use stage_kinds::{BeginErr, StageForm, StageWork, Writing, begin_file};
 use stage_options::{Role, StageSpec};
 use std::alloc::Global;
 use std::mem::replace;
+use view_works::Collector;
 
 /// The work of a writer, the stage with this number, on a new file. Where the file can't be created or begun, it
 /// is given back.
@@ -56,7 +57,7 @@ fn open_writer<F: Files>(
     }
 }
 
-/// The work of a stage: its opened reader, or that of a writer on a new file, or else that of a filter.
+/// The work of a stage: its opened reader, or that of a writer on a new file, or else that of a stage without a file.
 fn begin_work<F: Files>(
     alloc: Global,
     files: &mut F,
@@ -81,9 +82,12 @@ fn begin_work<F: Files>(
         return match form {
             StageForm::Reads => unreachable!(),
             StageForm::Filters(filter) => Ok(StageWork::Filter(filter)),
+            StageForm::Gathers(gathering) => {
+                Ok(StageWork::Collector(Collector::new(alloc, gathering)))
+            }
             StageForm::Writes(writing) => match stage.options.role() {
                 Role::Writes(name) => open_writer(alloc, files, writing, name, number),
-                Role::Reads(_) | Role::Filters => unreachable!(),
+                _ => unreachable!(),
             },
         };
     };

@@ -1,6 +1,6 @@
 //! The files of a run are kept.
 
-ghost use Rattle.std.specs.Prelude.{◌≡◌, ◌≤◌, ◌+◌, ℕ, length, OnOk, OnErr, IfErr};
+ghost use Rattle.std.specs.Prelude.{◌≡◌, ◌≤◌, ◌+◌, ℕ, length, OnOk, IfErr};
 ghost use Rattle.file_devices.specs.Counts.{Rose};
 ghost use Rattle.stage_kinds.specs.Held.{op_of};
 ghost use Rattle.stage_options.specs.Roles.{role_of};

@@ -1,6 +1,6 @@
 //! The files of a tree's readers are opened.
 
-ghost use Rattle.std.specs.Prelude.{◌≡◌, ◌≤◌, ◌+◌, ◌<◌, [], ℕ, length, vec_capacity, None, IfOk, IfErr, OnOk, OnErr};
+ghost use Rattle.std.specs.Prelude.{◌≡◌, ◌≤◌, ◌+◌, ◌<◌, length, None, IfOk, IfErr, OnOk, OnErr};
 ghost use Rattle.file_devices.specs.Counts.{Rose};
 ghost use Rattle.stage_options.specs.Roles.{Reads, role_of};
 ghost use Rattle.run_engine.specs.Begun.{IsReading, IsOpened, AreOpened, there, all_there};
@@ -71,7 +71,7 @@ fn open_stage<F: Files>(
 {
     match stage.options.role() {
         Role::Reads(name) => Ok(Some(open_reader(alloc, files, name, number)?)),
-        Role::Filters | Role::Writes(_) => Ok(None),
+        Role::Filters | Role::Gathers | Role::Writes(_) => Ok(None),
     }
 }
 

@@ -1,6 +1,6 @@
 //! What the stages of a run came to.
 
-ghost use Rattle.std.specs.Prelude.{◌≡◌, ◌<◌, ◌≤◌, ℕ, length, Some, None, IfOk, IfErr, IfSome, IfNone};
+ghost use Rattle.std.specs.Prelude.{◌≡◌, ◌<◌, ◌≤◌, length, Some, None, IfOk, IfErr, IfSome, IfNone};
 ghost use Rattle.run_engine.specs.Outcomes.{device_op, point_fault, NoneHas, HasFirst, NoFault, IsOutcome, node_count, AreCounted};
 
 use cloud_points::{PointFault, StageFault, Work};

@@ -1,6 +1,6 @@
 //! The run of a tree: the points of LAS files go through its stages.
 
-ghost use Rattle.std.specs.Prelude.{◌≡◌, ◌≤◌, ℕ, Some, IsOkAnd, IfOk, IfErr};
+ghost use Rattle.std.specs.Prelude.{◌≡◌, ◌≤◌, Some, None, IsOkAnd, IfOk, IfErr};
 ghost use Rattle.file_devices.specs.Counts.{Rose};
 ghost use Rattle.file_devices.specs.Named.{Names};
 ghost use Rattle.pipeline_json.specs.Trees.{IsTree};
@@ -29,6 +29,7 @@ use std::alloc::Global;
 /// `Pipeline` comes only where a name in the options of a stage isn't bound, `Data` only where the files have that fault, `Device`
 /// only where the device failed or the file to read isn't there, `Memory` where there was none. After a refusal the files are as
 /// before; only where the keeping of a file failed or found no memory are those of the writers before it kept, and that one may be.
+/// Files that don't tell what they have don't tell it after the run.
 pub fn run_pipeline<F: Files>(
     alloc: Global,
     files: &mut F,
@@ -41,6 +42,7 @@ pub fn run_pipeline<F: Files>(
         → IsOkAnd (run_of m stages.now) (IsRun (F.map files.old) (F.map files.new) report.items)) }
     ensures err { IfErr result (IsCause (Rose (F.faults files.old) (F.faults files.new)) (F.map files.old) stages.now) }
     ensures left { IfErr result (λ refusal. (m : Names) → F.map files.old ≡ Some m → IsLeft refusal (F.map files.old) (F.map files.new) (run_of m stages.now)) }
+    ensures untold { F.map files.old ≡ None → F.map files.new ≡ None }
     ensures lent { F.lent files.new ≡ F.lent files.old }
     ensures later { F.faults files.old ≤ F.faults files.new }
 {

@@ -1,6 +1,6 @@
 //! The stages of a tree take turns until all are done.
 
-ghost use Rattle.std.specs.Prelude.{◌≡◌, ◌≤◌, ℕ, length, IfOk, IfErr};
+ghost use Rattle.std.specs.Prelude.{◌≡◌, ◌≤◌, length, IfOk, IfErr};
 ghost use Rattle.pipeline_json.specs.Trees.{IsTree};
 ghost use Rattle.stage_kinds.specs.Held.{faults_of};
 ghost use Rattle.stage_options.specs.Kinds.{HaveOwnOptions};
@@ -20,7 +20,7 @@ use stage_options::StageSpec;
 use stage_runs::run_stages;
 use std::alloc::Global;
 
-/// Lets the stages of a tree take turns until all are done. It answers what each stage gave on, or the first stage whose device
+/// Lets the stages of a tree take turns until all are done, part by part. It answers what each stage gave on, or the first stage whose device
 /// failed, or else the fault of the first stage that has one.
 fn turn_works<S: Source, K: FileSink>(
     alloc: Global,
@@ -47,19 +47,20 @@ fn turn_works<S: Source, K: FileSink>(
         let outcome = Err(Refusal::Memory);
         return Ran { works, outcome };
     };
-    let nodes = nodes_over(works, stages, shape.chunk(), nodes);
-    match run_stages(alloc, nodes, stages, shape.queue()) {
-        Ok(nodes) => {
-            let outcome = outcome(stages, &nodes);
-            let works = works_in(nodes, room);
-            Ran { works, outcome }
-        }
-        Err(nodes) => {
-            let works = works_in(nodes, room);
-            let outcome = Err(Refusal::Memory);
-            Ran { works, outcome }
-        }
-    }
+    let mut nodes = nodes_over(works, stages, shape.chunk(), nodes);
+    let ran = run_stages(
+        alloc,
+        nodes.as_mut_slice(),
+        stages,
+        shape.chunk(),
+        shape.queue(),
+    );
+    let outcome = match ran {
+        Ok(()) => outcome(stages, &nodes),
+        Err(_) => Err(Refusal::Memory),
+    };
+    let works = works_in(nodes, room);
+    Ran { works, outcome }
 }
 
 /// Lets the stages of a tree take turns until all are done; where the run came to its end, the writers finish. It answers what

@@ -14,7 +14,7 @@ use Rattle.cloud_points.specs.Dims.{name_of}
 use Rattle.stage_names.specs.declared.faults.PipeFault.{PipeFault}
 use Rattle.stage_names.specs.declared.faults.PipeFault.TheVariants.{TextTooLong, NotJson, NotAPipeline, Empty, TooManyStages, BadStage, TypeUnknown, CannotInfer, TagTwice, TagUnknown, InputOfReader, NoInput, UsedTwice, Loose, OptionUnknown, OptionMissing, OptionValue, SameOutput, DimUnknown, DimNotNumeric, TooManyDims}
 use Rattle.run_report.specs.declared.refusal.Place.{Place}
-use Rattle.run_report.specs.declared.refusal.Place.TheVariants.{PipelineFile, Stage, Out}
+use Rattle.run_report.specs.declared.refusal.Place.TheVariants.{PipelineFile, Stage, Generated, Out}
 use Rattle.run_report.specs.declared.refusal.Fault.{Fault}
 use Rattle.run_report.specs.declared.refusal.Fault.TheVariants.{Header, Vlr, Point}
 use Rattle.run_report.specs.declared.refusal.Refusal.{Refusal}
@@ -90,6 +90,7 @@ pipe_fault_text (TooManyDims i) = at_stage i (codes "more than 8 extra dimension
 
 abbrev pub place_text : Place → List ℕ
 place_text PipelineFile = codes "pipeline file"
+place_text Generated = codes "generated file"
 place_text (Stage i) = codes "stage " ++ decimal i
 place_text Out = codes "output"
 

@@ -31,6 +31,7 @@ fn push_place(place: Place, text: &mut Text)
 {
     match place {
         Place::PipelineFile => text.push_str("pipeline file"),
+        Place::Generated => text.push_str("generated file"),
         Place::Stage(stage) => {
             text.push_str("stage ");
             push_number(stage as u64, text);

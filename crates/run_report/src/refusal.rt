@@ -15,6 +15,9 @@ pub enum Place {
     /// The stage with this number.
     Stage(u32),
 
+    /// The file that is made of generated points.
+    Generated,
+
     /// The output of the program.
     Out,
 }

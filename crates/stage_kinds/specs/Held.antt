@@ -6,14 +6,14 @@ use Rattle.stage_kinds.specs.Files.{sink_of}
 use Rattle.stage_kinds.specs.declared.held.Held.{Held}
 use Rattle.stage_kinds.specs.declared.held.Held.TheVariants.{Nothing, Source, Sink}
 use Rattle.stage_kinds.specs.declared.stage_work.StageWork.{StageWork}
-use Rattle.stage_kinds.specs.declared.stage_work.StageWork.TheVariants.{Reader, Filter, Writer}
+use Rattle.stage_kinds.specs.declared.stage_work.StageWork.TheVariants.{Reader, Writer}
 
 module _ {S K : Type 0} where
   -- the device that a stage's work holds
   abbrev pub held_by : StageWork S K → Held S K
   held_by (Reader r) = Source r.source
-  held_by (Filter f) = Nothing
   held_by (Writer w) = Sink (sink_of w.file)
+  held_by _ = Nothing
 
   -- what is done with a device while the stages take turns
   abbrev pub op_on : Held S K → Option Op

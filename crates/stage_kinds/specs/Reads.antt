@@ -1,5 +1,5 @@
--- What a reader still gives of its file.
-use Rattle.std.specs.Prelude.{ℕ, ◌-◌, nat_le, Bool, true, false, List, [], ◌∷◌, ◌++◌, length, map, drop, Option, Some, None, option_map}
+-- What a leaf still gives: a reader of its file, another one of its views.
+use Rattle.std.specs.Prelude.{ℕ, ◌-◌, nat_le, Bool, true, false, not, List, [], ◌∷◌, ◌++◌, length, map, drop, Option, Some, None, option_map}
 use Rattle.cloud_points.specs.declared.point.Point.{Point}
 use Rattle.cloud_points.specs.declared.faults.StageFault.{StageFault}
 use Rattle.cloud_points.specs.declared.faults.StageFault.TheVariants as stage
@@ -10,8 +10,10 @@ use Rattle.las_header.specs.Counts.{points_in}
 use Rattle.las_reader.specs.Files.{Las, las_with}
 use Rattle.las_reader.specs.declared.reader.Progress.{Progress}
 use Rattle.las_reader.specs.declared.reader.Progress.TheVariants.{Records, ViewEnded, Ended}
+use Rattle.network_theory.specs.Net.{count_views, count_points}
+use Rattle.view_works.specs.Giving.{still_gives}
 use Rattle.stage_kinds.specs.declared.stage_work.StageWork.{StageWork}
-use Rattle.stage_kinds.specs.declared.stage_work.StageWork.TheVariants.{Reader}
+use Rattle.stage_kinds.specs.declared.stage_work.StageWork.TheVariants.{Reader, Views}
 
 -- the fault of a file as that of a stage
 abbrev pub fault_with : Option PointFault → Option StageFault
@@ -66,14 +68,16 @@ views_left (Records given) = 1
 views_left ViewEnded = 0
 views_left (Ended cut) = 0
 
--- of a stage, by the bytes that a source tells: only a reader has something to give
+-- of a stage, by the bytes that a source tells: a reader has something to give, and one that gives what was made of whole views
 module _ {S K : Type 0} where
   abbrev pub tells_of : (S → Option (List ℕ)) → StageWork S K → Bool
   tells_of bytes (Reader r) = tells_at (bytes r.source) r.header r.progress
+  tells_of bytes (Views h) = not h.ended
   tells_of bytes _ = false
 
   abbrev pub told_of : (S → Option (List ℕ)) → StageWork S K → List (Mark Point)
   told_of bytes (Reader r) = told_at (bytes r.source) r.header r.progress
+  told_of bytes (Views h) = still_gives h.ended h.views h.view h.at
   told_of bytes _ = []
 
   abbrev pub told_fault_of : (S → Option (List ℕ)) → StageWork S K → Option StageFault
@@ -82,8 +86,10 @@ module _ {S K : Type 0} where
 
   abbrev pub points_left_of : StageWork S K → ℕ
   points_left_of (Reader r) = points_left (points_in r.header) r.progress
+  points_left_of (Views h) = count_points (still_gives h.ended h.views h.view h.at)
   points_left_of _ = 0
 
   abbrev pub views_left_of : StageWork S K → ℕ
   views_left_of (Reader r) = views_left r.progress
+  views_left_of (Views h) = count_views (still_gives h.ended h.views h.view h.at)
   views_left_of _ = 0

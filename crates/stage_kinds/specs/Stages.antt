@@ -1,5 +1,5 @@
 -- What the work of each stage means.
-use Rattle.std.specs.Prelude.{ℕ, ◌==◌, Bool, true, false, not, ◌&&◌, ◌||◌, List, [], length, Option, Some, None, is_some}
+use Rattle.std.specs.Prelude.{ℕ, ◌==◌, Bool, true, false, not, ◌&&◌, ◌||◌, List, length, Option, Some, None, is_some}
 use Rattle.std.specs.List.{list_any}
 use Rattle.cloud_points.specs.declared.dims.Dim.{Dim}
 use Rattle.cloud_points.specs.declared.point.Point.{Point}
@@ -18,11 +18,14 @@ use Rattle.stage_meanings.specs.Steps.{Steps, given, reached, stopped}
 use Rattle.stage_meanings.specs.declared.reason.Reason.{Reason}
 use Rattle.stage_meanings.specs.declared.spot.Spot.{Spot}
 use Rattle.stream_filters.specs.Kinds.{filtering_of, spot_of}
+use Rattle.view_works.specs.Collecting.{Held, collecting, held}
+use Rattle.view_works.specs.Giving.{resting}
+use Rattle.whole_filters.specs.declared.gathering.Gathering.{Gathering}
 use Rattle.stage_kinds.specs.declared.file_form.Writing.{Writing as Writes}
 use Rattle.stage_kinds.specs.declared.stage_work.StageState.{StageState}
-use Rattle.stage_kinds.specs.declared.stage_work.StageState.TheVariants.{Reading, Filtering as At, Writing}
+use Rattle.stage_kinds.specs.declared.stage_work.StageState.TheVariants.{Reading, Filtering as At, Collecting, Writing}
 use Rattle.stage_kinds.specs.declared.stage_work.StageWork.{StageWork}
-use Rattle.stage_kinds.specs.declared.stage_work.StageWork.TheVariants.{Reader, Filter, Writer}
+use Rattle.stage_kinds.specs.declared.stage_work.StageWork.TheVariants.{Reader, Filter, Collector, Views, Writer}
 use Rattle.stage_kinds.specs.declared.writer_stage.WriterStage.{WriterStage}
 use Rattle.stage_kinds.specs.Files.{chosen, file_form, file_holds, unwritten}
 
@@ -77,6 +80,10 @@ abbrev pub filtering_in : StageState → Option Spot
 filtering_in (At spot) = Some spot
 filtering_in _ = None
 
+abbrev pub collecting_in : StageState → Option (Gathering × Held)
+collecting_in (Collecting g views) = Some (g, views)
+collecting_in _ = None
+
 abbrev pub writing_in : StageState → Option (Writes × Spot)
 writing_in (Writing x spot) = Some (x, spot)
 writing_in _ = None
@@ -87,30 +94,34 @@ filter_work f = lifted (filter_meaning f) filtering_in At
 abbrev pub writer_work : Meaning StageState Point StageFault
 writer_work = lifted writing_meaning writing_in (λ s. Writing s.0 s.1)
 
--- a reader has no inputs, and gives nothing for what it would take
-abbrev pub reader_work : Meaning StageState Point StageFault
-reader_work = record {
-  emit = λ s points. [];
-  after = λ s points. s;
-  fault = λ s points. None;
-  at_view = λ s. (s, false);
-  at_end = λ s cut. (s, false);
-}
+-- a stage that needs whole views keeps what it takes
+abbrev pub collector_work : Meaning StageState Point StageFault
+collector_work = lifted collecting collecting_in (λ s. Collecting s.0 s.1)
 
 module _ {S K : Type 0} where
   abbrev pub meaning_of : StageWork S K → Meaning StageState Point StageFault
-  meaning_of (Reader r) = reader_work
+  meaning_of (Reader r) = resting
   meaning_of (Filter f) = filter_work (filtering_of f)
+  meaning_of (Collector c) = collector_work
+  meaning_of (Views h) = resting
   meaning_of (Writer w) = writer_work
 
   abbrev pub state_of : StageWork S K → StageState
   state_of (Reader r) = Reading
   state_of (Filter f) = At (spot_of f)
+  state_of (Collector c) = Collecting c.gathering (held c.short c.views)
+  state_of (Views h) = Reading
   state_of (Writer w) = Writing (writes_of w) w.taken.spot
 
-  abbrev pub is_reader : StageWork S K → Bool
-  is_reader (Reader r) = true
-  is_reader _ = false
+  abbrev pub is_leaf : StageWork S K → Bool
+  is_leaf (Reader r) = true
+  is_leaf (Views h) = true
+  is_leaf _ = false
+
+  -- whether memory was wanting for what it takes
+  abbrev pub is_short : StageWork S K → Bool
+  is_short (Collector c) = c.short
+  is_short _ = false
 
   -- what its sink holds, by the bytes that a sink tells
   abbrev pub holds_of : (K → Option (List ℕ)) → StageWork S K → List Point → Bool

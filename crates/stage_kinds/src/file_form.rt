@@ -4,6 +4,7 @@ use expr_eval::Bound;
 use forward_rules::LasForm;
 use stream_filters::Filter;
 use text_writer::TextForm;
+use whole_filters::Gathering;
 
 /// The form of a file that a stage writes.
 #[derive(Drop)]
@@ -33,6 +34,9 @@ pub enum StageForm {
 
     /// It is a filter.
     Filters(Filter),
+
+    /// It needs whole views, and makes this of them.
+    Gathers(Gathering),
 
     /// It writes a file.
     Writes(Writing),

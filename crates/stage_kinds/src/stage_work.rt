@@ -5,16 +5,22 @@ use cloud_points::{Make, Spread, StageFault, Work};
 use file_devices::{FileSink, Op, Source};
 use las_reader::LasReader;
 use stage_meanings::Spot;
+use std::alloc::{AllocError, Global};
 use stream_filters::Filter;
+use view_works::{Collector, HeldViews};
+use whole_filters::{Gathering, Views};
 
 /// What a stage remembers while it runs.
 #[derive(Drop)]
 pub enum StageState {
-    /// A reader takes no points, and remembers nothing of them.
+    /// A reader, or a stage that gives what it made of whole views, takes no points, and remembers nothing of them.
     Reading,
 
     /// A filter remembers where its next point stands.
     Filtering(Spot),
+
+    /// A stage that needs whole views remembers what it is to make of them, and those that it took; None where memory was wanting.
+    Collecting(Gathering, Option<Views>),
 
     /// A writer remembers what it writes, and where its next point stands; of its points nothing but what its sink holds.
     Writing(Writing, Spot),
@@ -28,16 +34,21 @@ pub enum StageWork<S, K: FileSink> {
     /// Judges its points.
     Filter(Filter),
 
+    /// Takes the points of whole views.
+    Collector(Collector),
+
+    /// Gives what was made of whole views.
+    Views(HeldViews),
+
     /// Writes a file of its points, and lets them pass.
     Writer(WriterStage<K>),
 }
 
 impl<S: Source, K: FileSink> Work for StageWork<S, K> {
-    ghost use Rattle.stage_kinds.specs.Stages.{state_of, meaning_of, is_reader, holds_of};
+    ghost use Rattle.stage_kinds.specs.Stages.{state_of, meaning_of, is_leaf, is_short, holds_of};
     ghost use Rattle.stage_kinds.specs.Held.{faults_of, op_of};
     ghost use Rattle.stage_kinds.specs.Reads.{tells_of, told_of, told_fault_of, points_left_of, views_left_of};
     ghost use Rattle.stage_kinds.specs.Keeps.{meaning_keeps};
-    ghost use Rattle.std.specs.Prelude.{false};
 
     type State = StageState;
 
@@ -45,9 +56,9 @@ impl<S: Source, K: FileSink> Work for StageWork<S, K> {
 
     ghost meaning = { λ w. meaning_of w };
 
-    ghost leaf = { λ w. is_reader w };
+    ghost leaf = { λ w. is_leaf w };
 
-    ghost short = { λ _. false };
+    ghost short = { λ w. is_short w };
 
     ghost faults = { λ w. faults_of S.faults K.faults w };
 
@@ -68,28 +79,37 @@ impl<S: Source, K: FileSink> Work for StageWork<S, K> {
     ghost cutting = { λ w. meaning_keeps w };
 
     fn is_leaf(&self) -> bool {
-        matches!(self, StageWork::Reader(_))
+        matches!(self, StageWork::Reader(_) | StageWork::Views(_))
     }
 
     fn make(&mut self, chunk: usize, into: &mut Spread) -> Make {
         match self {
             StageWork::Reader(reader) => reader.next(chunk, into),
+            StageWork::Views(views) => views.make(chunk, into),
             _ => unreachable!(),
         }
     }
 
     fn on_chunk(&mut self, points: &mut Spread) -> Option<StageFault> {
         match self {
-            StageWork::Reader(_) => unreachable!(),
+            StageWork::Reader(_) | StageWork::Views(_) => unreachable!(),
             StageWork::Filter(filter) => filter.on_chunk(points),
+            StageWork::Collector(collector) => {
+                collector.on_chunk(points);
+                None
+            }
             StageWork::Writer(writer) => writer.on_chunk(points),
         }
     }
 
     fn on_end_view(&mut self) -> bool {
         match self {
-            StageWork::Reader(_) => unreachable!(),
+            StageWork::Reader(_) | StageWork::Views(_) => unreachable!(),
             StageWork::Filter(filter) => filter.on_end_view(),
+            StageWork::Collector(collector) => {
+                collector.on_end_view();
+                true
+            }
             StageWork::Writer(writer) => {
                 writer.begin_view();
                 true
@@ -100,21 +120,25 @@ impl<S: Source, K: FileSink> Work for StageWork<S, K> {
     fn on_end(&mut self, cut: bool) -> bool {
         match self {
             StageWork::Filter(filter) => filter.on_end(cut),
+            StageWork::Collector(collector) => {
+                collector.on_end(cut);
+                false
+            }
             _ => false,
         }
     }
 }
 
 impl<S: Source, K: FileSink> StageWork<S, K> {
-    ghost use Rattle.std.specs.Prelude.{◌≡◌, List, Some, None, true, length, option_map, IfErr, OnOk};
-    ghost use Rattle.cloud_points.specs.Queue.{up_to_limit};
+    ghost use Rattle.std.specs.Prelude.{◌≡◌, List, Some, None, true, option_map, IfErr, IfOk, OnOk};
     ghost use Rattle.cloud_points.specs.declared.point.Point as point_type;
     ghost use Rattle.file_devices.specs.Counts.{HasCause};
     ghost use Rattle.file_devices.specs.Told.{IsAsTold};
     ghost use Rattle.stage_kinds.specs.declared.file_form.Writing as writing_type;
     ghost use Rattle.stage_kinds.specs.Held.{held_by, op_of, faults_of, told_by};
     ghost use Rattle.stage_kinds.specs.Files.{chosen, file_bytes, finishing_op};
-    ghost use Rattle.stage_kinds.specs.Stages.{holds_of, stops_nowhere, written_by, writing_of};
+    ghost use Rattle.stage_kinds.specs.Gathers.{IsGathered};
+    ghost use Rattle.stage_kinds.specs.Stages.{holds_of, is_short, stops_nowhere, written_by, writing_of};
 
     /// Makes a writer's file whole: a text writer's sink writes what it holds back, and a LAS writer appends its EVLRs and
     /// puts the totals of its points into the header. Any other stage does nothing.
@@ -131,7 +155,39 @@ impl<S: Source, K: FileSink> StageWork<S, K> {
     {
         match self {
             StageWork::Writer(writer) => writer.file.finish(),
-            StageWork::Reader(_) | StageWork::Filter(_) => Ok(()),
+            _ => Ok(()),
+        }
+    }
+
+    /// Where it took the points of whole views, a leaf that gives what the stage makes of them; any other stage is as it was. It is
+    /// refused only where memory is wanting, or was as the points came.
+    pub fn gather(self, alloc: Global) -> Result<Self, AllocError>
+        ensures device { IfOk result (λ made. held_by made ≡ held_by self) }
+        ensures made { IfOk result (λ made. IsGathered self made) }
+    {
+        match self {
+            StageWork::Collector(collector) => Ok(StageWork::Views(collector.gather(alloc)?)),
+            other => Ok(other),
+        }
+    }
+
+    /// Ends a work that holds no device.
+    pub fn let_go(self)
+        requires { op_of self ≡ None }
+    {
+        match self {
+            StageWork::Filter(_) | StageWork::Collector(_) | StageWork::Views(_) => {}
+            _device => unreachable!(),
+        }
+    }
+
+    /// Whether memory was wanting for the whole views that it takes.
+    pub fn is_short(&self) -> bool
+        ensures { result ≡ is_short self.now }
+    {
+        match self {
+            StageWork::Collector(collector) => collector.is_short(),
+            _ => false,
         }
     }
 
@@ -141,7 +197,7 @@ impl<S: Source, K: FileSink> StageWork<S, K> {
     {
         match self {
             StageWork::Writer(writer) => Some(writer.written),
-            StageWork::Reader(_) | StageWork::Filter(_) => None,
+            _ => None,
         }
     }
 
@@ -152,6 +208,8 @@ impl<S: Source, K: FileSink> StageWork<S, K> {
         match self {
             StageWork::Reader(reader) => Held::Source(reader.release()),
             StageWork::Filter(_) => Held::Nothing,
+            StageWork::Collector(_) => Held::Nothing,
+            StageWork::Views(_) => Held::Nothing,
             StageWork::Writer(writer) => Held::Sink(writer.release()),
         }
     }

@@ -7,3 +7,4 @@ pub mod Scales
 pub mod Shaped
 pub mod Steps
 pub mod Texts
+pub mod Others

@@ -1,13 +1,12 @@
 -- One stage more is typed.
-use Rattle.std.proofs.Common.{ℕ, ◌≡◌, ◌<◌, ◌+◌, ◌∙◌, ◌&&◌, ◌++◌, List, [], ◌∷◌, length, drop, get_or, Bool, true, false, None, refl, ap, sym, subst, true≢false}
-use Rattle.std.specs.Bool.{IsTrue}
+use Rattle.std.proofs.Common.{ℕ, ◌≡◌, ◌<◌, ◌+◌, ◌∙◌, ◌++◌, List, [], ◌∷◌, length, drop, get_or, None, refl, ap}
 use Rattle.std.proofs.lemmas.List.{append_assoc}
 use Rattle.pipeline_json.specs.Shown.{stage_view, stages_view}
 use Rattle.pipeline_json.specs.declared.stage.RawStage.{RawStage}
 use Rattle.stage_options.proofs.Elements.{drop_next}
 use Rattle.stage_options.specs.Faults.{or_else}
 use Rattle.stage_options.specs.declared.stage.StageSpec.{StageSpec}
-use Rattle.stage_options.specs.TypedTree.{is_stage_built, are_built, stage_fault, spec_of, specs_of, options_fault}
+use Rattle.stage_options.specs.TypedTree.{stage_fault, spec_of, specs_of, options_fault}
 
 next : (i : ℕ) (xs : List RawStage) (x : RawStage) → i < length xs → get_or xs i x ≡ x → stages_view (drop i xs) ≡ stage_view x ∷ stages_view (drop (i + 1) xs)
 next i xs x h e = ap stages_view (drop_next xs i x h e)
@@ -20,10 +19,3 @@ faults_rest i xs x h e none = ap (options_fault i) (next i xs x h e) ∙ ap (λ 
 pub specs_done : (i : ℕ) (xs : List RawStage) (x : RawStage) (done more : List StageSpec) → i < length xs → get_or xs i x ≡ x → more ≡ done ++ spec_of (stage_view x) ∷ []
     → done ++ specs_of (stages_view (drop i xs)) ≡ more ++ specs_of (stages_view (drop (i + 1) xs))
 specs_done i xs x done more h e is = rw (next i xs x h e, is, append_assoc done (spec_of (stage_view x) ∷ []) (specs_of (stages_view (drop (i + 1) xs)))) refl
-
-second : (a b : Bool) → IsTrue (a && b) → IsTrue b
-second true b h = h
-second false b h = absurd (true≢false (sym h))
-
-pub built_rest : (i : ℕ) (xs : List RawStage) (x : RawStage) → i < length xs → get_or xs i x ≡ x → IsTrue (are_built (stages_view (drop i xs))) → IsTrue (are_built (stages_view (drop (i + 1) xs)))
-built_rest i xs x h e built = second (is_stage_built (stage_view x)) (are_built (stages_view (drop (i + 1) xs))) (subst (λ ss. IsTrue (are_built ss)) (next i xs x h e) built)

@@ -14,11 +14,14 @@ use Rattle.stage_names.specs.declared.faults.PipeFault.TheVariants.{DimUnknown}
 use Rattle.stage_options.specs.Faults.{or_else}
 use Rattle.stage_options.specs.Ferries.{ferries_in, names_behind, ferries_refused, ferries_bound}
 use Rattle.stage_options.specs.Refusals.{refused}
+use Rattle.stage_options.specs.Where.{only_of}
+use Rattle.whole_filters.specs.declared.gathering.Gathering.TheVariants.{Sort, Tail, GroupBy}
 use Rattle.stage_options.specs.declared.binding.BoundStage.{BoundStage}
-use Rattle.stage_options.specs.declared.binding.BoundStage.TheVariants.{Reads, Filters, Writes}
+use Rattle.stage_options.specs.declared.binding.BoundStage.TheVariants.{Reads, Filters, Gathers, Writes}
+use Rattle.stage_options.specs.declared.binding.BoundFilter.{BoundFilter}
 use Rattle.stage_options.specs.declared.binding.BoundFilter.TheVariants as filter
 use Rattle.stage_options.specs.declared.options.Options.{Options}
-use Rattle.stage_options.specs.declared.options.Options.TheVariants.{ReadersLas, FiltersRange, FiltersCrop, FiltersAssign, FiltersFerry, FiltersExpression, FiltersDecimation, FiltersHead, FiltersReturns, FiltersMerge, WritersLas, WritersText}
+use Rattle.stage_options.specs.declared.options.Options.TheVariants.{ReadersLas, FiltersRange, FiltersCrop, FiltersAssign, FiltersFerry, FiltersExpression, FiltersDecimation, FiltersHead, FiltersReturns, FiltersSort, FiltersTail, FiltersGroupby, WritersLas, WritersText}
 
 -- ---- the first name that isn't that of a dimension which points have, or that has to be a number and isn't
 
@@ -50,19 +53,27 @@ abbrev pub where_refused : ℕ → List (List ℕ) → (Dim → Bool) → Option
 where_refused i names has None = None
 where_refused i names has (Some f) = refused i (bound_in has names f)
 
--- that of stage i's own names, where the points that it takes have these dimensions, in the order of the options
+-- a name that has to be that of a dimension, and may be one of words
+abbrev pub dim_refused : ℕ → List (List ℕ) → (Dim → Bool) → List ℕ → Option PipeFault
+dim_refused i names has name = if is_bound names has name then None else Some (DimUnknown i name)
+
+-- that of the names in a filter's own options, where the points that it takes have these dimensions
+abbrev pub filter_refused : ℕ → List (List ℕ) → (Dim → Bool) → Options → Option PipeFault
+filter_refused i names has (FiltersRange o) = ranges_refused i names has o.limits
+filter_refused i names has (FiltersAssign o) = assigns_refused i names has o.assignments
+filter_refused i names has (FiltersExpression o) = refused i (bound_in has names o.expression)
+filter_refused i names has _ = None
+
+-- the same of any stage, beside its `where`
+abbrev pub names_refused : ℕ → List (List ℕ) → (Dim → Bool) → Options → Option PipeFault
+names_refused i names has (FiltersSort o) = dim_refused i names has o.dimension
+names_refused i names has (FiltersGroupby o) = dim_refused i names has o.dimension
+names_refused i names has (WritersText o) = option_map (DimUnknown i) (first_unbound names has o.columns)
+names_refused i names has o = filter_refused i names has o
+
+-- its `where` comes last
 abbrev pub own_refused : ℕ → List (List ℕ) → (Dim → Bool) → Options → Option PipeFault
-own_refused i names has (FiltersRange o) = or_else (ranges_refused i names has o.limits) (where_refused i names has o.only)
-own_refused i names has (FiltersCrop o) = where_refused i names has o.only
-own_refused i names has (FiltersAssign o) = or_else (assigns_refused i names has o.assignments) (where_refused i names has o.only)
-own_refused i names has (FiltersFerry o) = where_refused i names has o.only
-own_refused i names has (FiltersExpression o) = or_else (refused i (bound_in has names o.expression)) (where_refused i names has o.only)
-own_refused i names has (FiltersDecimation o) = where_refused i names has o.only
-own_refused i names has (FiltersHead o) = where_refused i names has o.only
-own_refused i names has (FiltersReturns o) = where_refused i names has o.only
-own_refused i names has (WritersLas o) = where_refused i names has o.only
-own_refused i names has (WritersText o) = or_else (option_map (DimUnknown i) (first_unbound names has o.columns)) (where_refused i names has o.only)
-own_refused i names has _ = None
+own_refused i names has o = or_else (names_refused i names has o) (where_refused i names has (only_of o))
 
 -- the fault of stage i's options behind these extra names: that of its ferries, then that of its other names
 abbrev pub binding_fault : ℕ → List (List ℕ) → (Dim → Bool) → Options → Option PipeFault
@@ -81,20 +92,27 @@ bound_where names only = option_map (bound names) only
 abbrev pub limit_of : List (List ℕ) → NamedRange → Limit
 limit_of names r = record { dim = dim_of names r.name; interval = r.interval }
 
--- what a stage does, with its ferries bound, beside these extra names
+-- what a filter does, with its ferries bound, beside these extra names
+abbrev pub bound_filter : List (List ℕ) → List Assignment → Options → BoundFilter
+bound_filter names ferries (FiltersRange o) = filter.Range (map (limit_of names) o.limits)
+bound_filter names ferries (FiltersCrop o) = filter.Crop o.shape o.outside
+bound_filter names ferries (FiltersAssign o) = filter.Assign (map (assign_of names) o.assignments)
+bound_filter names ferries (FiltersFerry o) = filter.Assign ferries
+bound_filter names ferries (FiltersExpression o) = filter.Expression (bound names o.expression)
+bound_filter names ferries (FiltersDecimation o) = filter.Decimation o.step o.offset o.limit
+bound_filter names ferries (FiltersHead o) = filter.Head o.count
+bound_filter names ferries (FiltersReturns o) = filter.Returns o.groups
+bound_filter names ferries _ = filter.Merge
+
+-- what a stage does
 abbrev pub bound_with : List (List ℕ) → List Assignment → Options → BoundStage
 bound_with names ferries (ReadersLas o) = Reads
-bound_with names ferries (FiltersRange o) = Filters (filter.Range (map (limit_of names) o.limits) (bound_where names o.only))
-bound_with names ferries (FiltersCrop o) = Filters (filter.Crop o.shape o.outside (bound_where names o.only))
-bound_with names ferries (FiltersAssign o) = Filters (filter.Assign (map (assign_of names) o.assignments) (bound_where names o.only))
-bound_with names ferries (FiltersFerry o) = Filters (filter.Assign ferries (bound_where names o.only))
-bound_with names ferries (FiltersExpression o) = Filters (filter.Expression (bound names o.expression) (bound_where names o.only))
-bound_with names ferries (FiltersDecimation o) = Filters (filter.Decimation o.step o.offset o.limit (bound_where names o.only))
-bound_with names ferries (FiltersHead o) = Filters (filter.Head o.count (bound_where names o.only))
-bound_with names ferries (FiltersReturns o) = Filters (filter.Returns o.groups (bound_where names o.only))
-bound_with names ferries (FiltersMerge o) = Filters filter.Merge
+bound_with names ferries (FiltersSort o) = Gathers (Sort (dim_of names o.dimension) o.down)
+bound_with names ferries (FiltersTail o) = Gathers (Tail o.count)
+bound_with names ferries (FiltersGroupby o) = Gathers (GroupBy (dim_of names o.dimension))
 bound_with names ferries (WritersLas o) = Writes (bound_where names o.only)
 bound_with names ferries (WritersText o) = Writes (bound_where names o.only)
+bound_with names ferries o = Filters (bound_filter names ferries o) (bound_where names (only_of o))
 
 abbrev pub bound_stage : List (List ℕ) → Options → BoundStage
 bound_stage names o = bound_with (names_behind names o) (ferries_bound names (ferries_in o)) o

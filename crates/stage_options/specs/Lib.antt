@@ -14,3 +14,4 @@ pub mod TreeShown
 pub mod Typed
 pub mod TypedTree
 pub mod Values
+pub mod Where

@@ -1,5 +1,5 @@
 -- The options of each type: their names, and what they may hold.
-use Rattle.std.specs.Prelude.{ℕ, ℤ, pos, neg_ℤ, int_le, ◌&&◌, nat_le, Bool, false, List, [], ◌∷◌, length, codes, Option, Some, None, is_some}
+use Rattle.std.specs.Prelude.{ℕ, ℤ, pos, neg_ℤ, int_le, ◌&&◌, ◌||◌, nat_le, bytes_eq, Bool, false, List, [], ◌∷◌, length, codes, Option, Some, None, is_some}
 use Rattle.serde_json.specs.Data.{Data}
 use Rattle.serde_json.specs.Find.{as_str}
 use Rattle.limits_text.specs.Texts.{ranges_of, bounds_of, polygon_of, point_of}
@@ -8,7 +8,7 @@ use Rattle.option_texts.specs.Forward.{forward_of}
 use Rattle.option_texts.specs.Ferries.{ferries_of}
 use Rattle.option_texts.specs.Groups.{groups_of}
 use Rattle.stage_names.specs.declared.kinds.KindName.{KindName}
-use Rattle.stage_names.specs.declared.kinds.KindName.TheVariants.{ReadersLas, FiltersRange, FiltersCrop, FiltersAssign, FiltersFerry, FiltersExpression, FiltersDecimation, FiltersHead, FiltersReturns, WritersLas, WritersText}
+use Rattle.stage_names.specs.declared.kinds.KindName.TheVariants.{ReadersLas, FiltersRange, FiltersCrop, FiltersAssign, FiltersFerry, FiltersExpression, FiltersDecimation, FiltersHead, FiltersReturns, FiltersMerge, FiltersSort, FiltersTail, FiltersGroupby, WritersLas, WritersText}
 use Rattle.stage_options.specs.Expressions.{condition_with, assignments_with}
 use Rattle.stage_options.specs.Values.{whole_of, truth_of, format_with, decimal_of, is_source, is_target}
 
@@ -19,6 +19,8 @@ pub data Allowed : Type 0 where
   format : Allowed  -- a point data record format
   truth : Allowed
   sized : ℕ → ℕ → Allowed  -- a text of so many bytes
+  any_text : Allowed  -- a text
+  either_text : List ℕ → List ℕ → Allowed  -- one of two texts
   columns : Allowed  -- the columns of a text file
   forward : Allowed  -- the names of what is forwarded
   ranges : Allowed  -- ranges of the values of dimensions
@@ -72,7 +74,7 @@ short = whole 0 65535
 abbrev pub distance : Allowed
 distance = decimal (pos 0) (pos 4000000000000000000)
 
--- the options of a type, in the order in which they are looked at; a merge has none, and a type that isn't built has none yet
+-- the options of a type, in the order in which they are looked at
 abbrev pub rules_of : KindName → List Rule
 rules_of ReadersLas =
     (required (codes "filename") source
@@ -115,6 +117,18 @@ rules_of FiltersReturns =
     (optional (codes "groups") groups
     ∷ optional (codes "where") condition
     ∷ [])
+rules_of FiltersMerge = []
+rules_of FiltersSort =
+    (required (codes "dimension") any_text
+    ∷ optional (codes "order") (either_text (codes "ASC") (codes "DESC"))
+    ∷ optional (codes "algorithm") (either_text (codes "normal") (codes "stable"))
+    ∷ [])
+rules_of FiltersTail =
+    (optional (codes "count") (whole 0 4294967295)
+    ∷ [])
+rules_of FiltersGroupby =
+    (required (codes "dimension") any_text
+    ∷ [])
 rules_of WritersLas =
     (required (codes "filename") target
     ∷ optional (codes "dataformat_id") format
@@ -143,7 +157,6 @@ rules_of WritersText =
     ∷ optional (codes "write_header") truth
     ∷ optional (codes "where") condition
     ∷ [])
-rules_of _ = []
 
 -- whether there is such a value and it passes a test
 abbrev pub passes : {A : Type 0} → (A → Bool) → Option A → Bool
@@ -159,6 +172,9 @@ is_between low high z = int_le low z && int_le z high
 abbrev pub has_size : ℕ → ℕ → List ℕ → Bool
 has_size low high bytes = is_within low high (length bytes)
 
+abbrev pub is_either : List ℕ → List ℕ → List ℕ → Bool
+is_either one other text = bytes_eq text one || bytes_eq text other
+
 -- whether a value is one that an option of these may hold
 abbrev pub fits : Allowed → Data → Bool
 fits (whole low high) d = passes (is_within low high) (whole_of d)
@@ -166,6 +182,8 @@ fits (decimal low high) d = passes (is_between low high) (decimal_of d)
 fits format d = is_some (format_with d)
 fits truth d = is_some (truth_of d)
 fits (sized low high) d = passes (has_size low high) (as_str d)
+fits any_text d = is_some (as_str d)
+fits (either_text one other) d = passes (is_either one other) (as_str d)
 fits columns d = passes (λ t. is_some (columns_of t)) (as_str d)
 fits forward d = passes (λ t. is_some (forward_of t)) (as_str d)
 fits ranges d = passes (λ t. is_some (ranges_of t)) (as_str d)

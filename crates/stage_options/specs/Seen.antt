@@ -19,6 +19,8 @@ allowed_view (allowed.Decimal low high) = rules.decimal low high
 allowed_view allowed.Format = rules.format
 allowed_view allowed.Truth = rules.truth
 allowed_view (allowed.Sized low high) = rules.sized low high
+allowed_view allowed.Text = rules.any_text
+allowed_view (allowed.Either one other) = rules.either_text one.now other.now
 allowed_view allowed.Columns = rules.columns
 allowed_view allowed.Forward = rules.forward
 allowed_view allowed.Ranges = rules.ranges
@@ -48,4 +50,5 @@ given_view (Json value) = view value.now
 abbrev pub role_view : Role → roles.Role
 role_view (role.Reads name) = roles.Reads name.now
 role_view role.Filters = roles.Filters
+role_view role.Gathers = roles.Gathers
 role_view (role.Writes name) = roles.Writes name.now

@@ -1,5 +1,5 @@
 -- The typed options of a stage.
-use Rattle.std.specs.Prelude.{ℕ, ℤ, pos, neg_ℤ, Bool, true, false, List, [], ◌∷◌, codes, Option, Some, None, option_map, option_and_then, if◌then◌else◌}
+use Rattle.std.specs.Prelude.{ℕ, ℤ, pos, neg_ℤ, Bool, true, false, List, [], ◌∷◌, codes, bytes_eq, Option, Some, None, option_map, option_and_then, if◌then◌else◌}
 use Rattle.std.specs.Option.{option_or, unwrap_or}
 use Rattle.serde_json.specs.Data.{Data, Members}
 use Rattle.serde_json.specs.Find.{as_str, get_member}
@@ -22,10 +22,22 @@ use Rattle.option_texts.specs.declared.groups.Groups.{Groups}
 use Rattle.stage_names.specs.declared.kinds.KindName.{KindName}
 use Rattle.stage_names.specs.declared.kinds.KindName.TheVariants as kind
 use Rattle.stage_options.specs.declared.options.Options.{Options}
-use Rattle.stage_options.specs.declared.options.Options.TheVariants.{ReadersLas, FiltersRange, FiltersCrop, FiltersAssign, FiltersFerry, FiltersExpression, FiltersDecimation, FiltersHead, FiltersReturns, FiltersMerge, WritersLas, WritersText}
+use Rattle.stage_options.specs.declared.options.Options.TheVariants.{ReadersLas, FiltersRange, FiltersCrop, FiltersAssign, FiltersFerry, FiltersExpression, FiltersDecimation, FiltersHead, FiltersReturns, FiltersMerge, FiltersSort, FiltersTail, FiltersGroupby, WritersLas, WritersText}
+use Rattle.stage_options.specs.declared.options.RangeOptions.{RangeOptions}
+use Rattle.stage_options.specs.declared.options.CropOptions.{CropOptions}
+use Rattle.stage_options.specs.declared.options.AssignOptions.{AssignOptions}
+use Rattle.stage_options.specs.declared.options.FerryOptions.{FerryOptions}
+use Rattle.stage_options.specs.declared.options.ExpressionOptions.{ExpressionOptions}
+use Rattle.stage_options.specs.declared.options.DecimationOptions.{DecimationOptions}
+use Rattle.stage_options.specs.declared.options.HeadOptions.{HeadOptions}
+use Rattle.stage_options.specs.declared.options.ReturnsOptions.{ReturnsOptions}
+use Rattle.stage_options.specs.declared.options.SortOptions.{SortOptions}
+use Rattle.stage_options.specs.declared.options.TailOptions.{TailOptions}
+use Rattle.stage_options.specs.declared.options.GroupbyOptions.{GroupbyOptions}
+use Rattle.stage_options.specs.declared.options.LasWriterOptions.{LasWriterOptions}
 use Rattle.stage_options.specs.declared.options.TextOptions.{TextOptions}
 use Rattle.stage_options.specs.Expressions.{condition_with, assignments_with}
-use Rattle.stage_options.specs.Values.{whole_of, format_with, decimal_of, truth_of}
+use Rattle.stage_options.specs.Values.{whole_of, format_with, decimal_of, truth_of, is_source, is_target}
 use Rattle.stage_options.specs.Rules.{is_within, is_between, has_size}
 
 -- what an option is by a reading of its value, where the value has it
@@ -124,43 +136,83 @@ text_options_in filename ms = record {
   only = where_in ms;
 }
 
--- the options that a run heeds, with their defaults
-abbrev pub typed_of : KindName → Option (List ℕ) → Members → Option Options
-typed_of kind.ReadersLas filename ms = Some (ReadersLas (record { filename = unwrap_or filename [] }))
-typed_of kind.FiltersRange filename ms = Some (FiltersRange (record { limits = ranges_in ms; only = where_in ms }))
-typed_of kind.FiltersCrop filename ms = Some (FiltersCrop (record {
+-- the name of a dimension that an option is
+abbrev pub name_in : List ℕ → Members → List ℕ
+name_in name ms = unwrap_or (option_in as_str name ms) []
+
+-- whether points are put in order downwards
+abbrev pub is_down : Option (List ℕ) → Bool
+is_down None = false
+is_down (Some text) = bytes_eq text (codes "DESC")
+
+-- ---- the options that a run heeds, with their defaults
+
+abbrev pub range_options : Members → RangeOptions
+range_options ms = record { limits = ranges_in ms; only = where_in ms }
+
+abbrev pub crop_options : Members → CropOptions
+crop_options ms = record {
   shape = shape_in ms;
   outside = unwrap_or (option_in truth_of (codes "outside") ms) false;
   only = where_in ms;
-}))
-typed_of kind.FiltersAssign filename ms = Some (FiltersAssign (record { assignments = assignments_in ms; only = where_in ms }))
-typed_of kind.FiltersFerry filename ms = Some (FiltersFerry (record { ferries = ferries_in ms; only = where_in ms }))
-typed_of kind.FiltersExpression filename ms = Some (FiltersExpression (record { expression = expression_in ms; only = where_in ms }))
-typed_of kind.FiltersDecimation filename ms = Some (FiltersDecimation (record {
+}
+
+abbrev pub assign_options : Members → AssignOptions
+assign_options ms = record { assignments = assignments_in ms; only = where_in ms }
+
+abbrev pub ferry_options : Members → FerryOptions
+ferry_options ms = record { ferries = ferries_in ms; only = where_in ms }
+
+abbrev pub expression_options : Members → ExpressionOptions
+expression_options ms = record { expression = expression_in ms; only = where_in ms }
+
+abbrev pub decimation_options : Members → DecimationOptions
+decimation_options ms = record {
   step = unwrap_or (option_in whole_of (codes "step") ms) 1;
   offset = unwrap_or (option_in whole_of (codes "offset") ms) 0;
   limit = option_in whole_of (codes "limit") ms;
   only = where_in ms;
-}))
-typed_of kind.FiltersHead filename ms = Some (FiltersHead (record { count = unwrap_or (option_in whole_of (codes "count") ms) 10; only = where_in ms }))
-typed_of kind.FiltersReturns filename ms = Some (FiltersReturns (record { groups = groups_in ms; only = where_in ms }))
-typed_of kind.FiltersMerge filename ms = Some (FiltersMerge (record {}))
-typed_of kind.WritersLas filename ms = Some (WritersLas (record { filename = unwrap_or filename []; fields = las_fields_in ms; only = where_in ms }))
-typed_of kind.WritersText filename ms = Some (WritersText (text_options_in (unwrap_or filename []) ms))
-typed_of _ filename ms = None
+}
 
--- whether stages of this type are built
-abbrev pub is_built : KindName → Bool
-is_built kind.ReadersLas = true
-is_built kind.FiltersRange = true
-is_built kind.FiltersCrop = true
-is_built kind.FiltersAssign = true
-is_built kind.FiltersFerry = true
-is_built kind.FiltersExpression = true
-is_built kind.FiltersDecimation = true
-is_built kind.FiltersHead = true
-is_built kind.FiltersReturns = true
-is_built kind.FiltersMerge = true
-is_built kind.WritersLas = true
-is_built kind.WritersText = true
-is_built _ = false
+abbrev pub head_options : Members → HeadOptions
+head_options ms = record { count = unwrap_or (option_in whole_of (codes "count") ms) 10; only = where_in ms }
+
+abbrev pub returns_options : Members → ReturnsOptions
+returns_options ms = record { groups = groups_in ms; only = where_in ms }
+
+abbrev pub sort_options : Members → SortOptions
+sort_options ms = record { dimension = name_in (codes "dimension") ms; down = is_down (option_in as_str (codes "order") ms) }
+
+abbrev pub tail_options : Members → TailOptions
+tail_options ms = record { count = unwrap_or (option_in whole_of (codes "count") ms) 10 }
+
+abbrev pub groupby_options : Members → GroupbyOptions
+groupby_options ms = record { dimension = name_in (codes "dimension") ms }
+
+abbrev pub las_writer_options : List ℕ → Members → LasWriterOptions
+las_writer_options filename ms = record { filename = filename; fields = las_fields_in ms; only = where_in ms }
+
+-- by the type
+abbrev pub typed_of : KindName → Option (List ℕ) → Members → Options
+typed_of kind.ReadersLas filename ms = ReadersLas (record { filename = unwrap_or filename [] })
+typed_of kind.FiltersRange filename ms = FiltersRange (range_options ms)
+typed_of kind.FiltersCrop filename ms = FiltersCrop (crop_options ms)
+typed_of kind.FiltersAssign filename ms = FiltersAssign (assign_options ms)
+typed_of kind.FiltersFerry filename ms = FiltersFerry (ferry_options ms)
+typed_of kind.FiltersExpression filename ms = FiltersExpression (expression_options ms)
+typed_of kind.FiltersDecimation filename ms = FiltersDecimation (decimation_options ms)
+typed_of kind.FiltersHead filename ms = FiltersHead (head_options ms)
+typed_of kind.FiltersReturns filename ms = FiltersReturns (returns_options ms)
+typed_of kind.FiltersMerge filename ms = FiltersMerge (record {})
+typed_of kind.FiltersSort filename ms = FiltersSort (sort_options ms)
+typed_of kind.FiltersTail filename ms = FiltersTail (tail_options ms)
+typed_of kind.FiltersGroupby filename ms = FiltersGroupby (groupby_options ms)
+typed_of kind.WritersLas filename ms = WritersLas (las_writer_options (unwrap_or filename []) ms)
+typed_of kind.WritersText filename ms = WritersText (text_options_in (unwrap_or filename []) ms)
+
+-- whether a file name is one that the type may have
+abbrev pub is_named : KindName → Option (List ℕ) → Bool
+is_named kind.ReadersLas filename = is_source (unwrap_or filename [])
+is_named kind.WritersLas filename = is_target (unwrap_or filename [])
+is_named kind.WritersText filename = is_target (unwrap_or filename [])
+is_named _ filename = true

@@ -1,33 +1,23 @@
 -- The typed stages of a tree, or their first fault.
-use Rattle.std.specs.Prelude.{ℕ, ◌+◌, Bool, List, [], ◌∷◌, map, Option, Some, None, option_map, Result, Ok, Err, ◌≡◌, ⊤}
-use Rattle.std.specs.Option.{unwrap_or}
-use Rattle.std.specs.List.{list_all}
+use Rattle.std.specs.Prelude.{ℕ, ◌+◌, List, [], ◌∷◌, map, Option, Some, None, option_map, Result, Ok, Err, ◌≡◌, ⊤}
 use Rattle.stage_names.specs.declared.faults.PipeFault.{PipeFault}
 use Rattle.stage_names.specs.declared.faults.PipeFault.TheVariants.{SameOutput}
 use Rattle.stage_names.specs.declared.faults.PipeErr.{PipeErr}
 use Rattle.stage_names.specs.declared.faults.PipeErr.TheVariants.{Fault, Memory}
 use Rattle.pipeline_json.specs.Stages.{Stage}
 use Rattle.stage_options.specs.declared.options.Options.{Options}
-use Rattle.stage_options.specs.declared.options.Options.TheVariants.{ReadersLas}
 use Rattle.stage_options.specs.declared.stage.StageSpec.{StageSpec}
 use Rattle.stage_options.specs.Faults.{first_fault, or_else}
 use Rattle.stage_options.specs.Outputs.{same_output}
-use Rattle.stage_options.specs.Typed.{typed_of, is_built}
-
--- whether a stage is built
-abbrev pub is_stage_built : Stage → Bool
-is_stage_built s = is_built s.kind
-
-abbrev pub are_built : List Stage → Bool
-are_built stages = list_all is_stage_built stages
+use Rattle.stage_options.specs.Typed.{typed_of}
 
 -- the first fault of stage i's options
 abbrev pub stage_fault : ℕ → Stage → Option PipeFault
 stage_fault i s = first_fault i s.kind s.filename s.members
 
--- the options of a stage; each that is built has them
+-- the options of a stage
 abbrev pub options_of : Stage → Options
-options_of s = unwrap_or (typed_of s.kind s.filename s.members) (ReadersLas (record { filename = [] }))
+options_of s = typed_of s.kind s.filename s.members
 
 -- the stage with its options
 abbrev pub spec_of : Stage → StageSpec

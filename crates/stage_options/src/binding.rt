@@ -2,25 +2,28 @@
 
 ghost use Rattle.std.specs.Prelude.{◌≡◌, ◌||◌, map, option_map, None, IfErr, IfOk, OnErr, OnOk};
 ghost use Rattle.cloud_points.specs.Layouts.{holds};
-ghost use Rattle.expr_eval.specs.Bindings.{bound_dim, bound_in, bound_assign, assign_of};
-ghost use Rattle.cloud_points.specs.declared.dims.Dim.{Dim};
-ghost use Rattle.stage_options.specs.Binding.{is_bound, first_unbound, assigns_refused, ranges_refused, limit_of, where_refused, own_refused, binding_fault, bound, bound_where, bound_with, bound_stage};
+ghost use Rattle.expr_eval.specs.Bindings.{bound_dim, bound_in, bound_assign, assign_of, dim_of as dim_named};
+ghost use Rattle.cloud_points.specs.declared.dims.Dim.{Dim as Dimension};
+ghost use Rattle.stage_options.specs.Binding.{is_bound, first_unbound, assigns_refused, ranges_refused, dim_refused, filter_refused, limit_of, where_refused, own_refused, binding_fault, bound, bound_where, bound_filter, bound_with, bound_stage};
 ghost use Rattle.stage_options.specs.Ferries.{names_behind, adds};
 ghost use Rattle.stage_options.specs.Refusals.{refused};
+ghost use Rattle.stage_options.specs.Where.{only_of};
 ghost use Rattle.stage_names.specs.declared.faults.PipeFault.TheVariants.{DimUnknown};
 ghost use Rattle.stage_options.specs.Faults.{IsFaultOf};
 
 use crate::ferries::{bind_dim, bind_ferries, refusal, with_targets};
 use crate::options::Options;
 use crate::walks::name_of;
-use cloud_points::{ExtraNames, Layout, dim_of};
+use cloud_points::{Dim, ExtraNames, Layout, dim_of};
 use expr_eval::{Assignment, Assignments, Bound, bind_assign, bind_expr};
 use expr_lang::{Assign, Expr};
+use file_devices::Name;
 use geo_tests::{Limit, Limits, Shape};
 use limits_text::NamedRange;
 use option_texts::{Groups, NamedColumn};
 use stage_names::{PipeErr, PipeFault};
 use std::alloc::Global;
+use whole_filters::Gathering;
 
 /// A stage's options with dimensions in place of names, by what the stage does.
 #[derive(Drop)]
@@ -28,36 +31,39 @@ pub enum BoundStage {
     /// It reads a file.
     Reads,
 
-    /// It is a filter.
-    Filters(BoundFilter),
+    /// It is a filter of the points for which this condition holds; None is all.
+    Filters(BoundFilter, Option<Bound>),
+
+    /// It needs whole views.
+    Gathers(Gathering),
 
     /// It writes a file of the points for which this condition holds; None is all.
     Writes(Option<Bound>),
 }
 
-/// A filter's options with dimensions in place of names. Each has its `where`; None is all points.
+/// A filter's options with dimensions in place of names, beside its `where`.
 #[derive(Drop)]
 pub enum BoundFilter {
     /// The points within these limits go on.
-    Range(Limits, Option<Bound>),
+    Range(Limits),
 
     /// The points of this shape go on, or where it is said so, those outside.
-    Crop(Shape, bool, Option<Bound>),
+    Crop(Shape, bool),
 
     /// Dimensions get values, in this order.
-    Assign(Assignments, Option<Bound>),
+    Assign(Assignments),
 
     /// The points for which this condition holds go on.
-    Expression(Bound, Option<Bound>),
+    Expression(Bound),
 
     /// From one position that goes on to the next, the first one, and a position from which on none does; None is no limit.
-    Decimation(u32, u32, Option<u32>, Option<Bound>),
+    Decimation(u32, u32, Option<u32>),
 
     /// The first points of each view go on, so many.
-    Head(u32, Option<Bound>),
+    Head(u32),
 
     /// The returns of these groups go on.
-    Returns(Groups, Option<Bound>),
+    Returns(Groups),
 
     /// All points go on, in one view.
     Merge,
@@ -111,12 +117,13 @@ impl<'a> Binder<'a> {
         }
     }
 
-    fn only(&self, only: &Option<Expr>) -> Result<Option<Bound>, PipeErr>
-        ensures ok { IfOk result (λ b. b ≡ bound_where self.now.names.now only.now) }
-        ensures none { OnOk result (where_refused self.now.stage self.now.names.now (holds self.now.layout.now) only.now ≡ None) }
-        ensures fault { IfErr result (IsFaultOf (where_refused self.now.stage self.now.names.now (holds self.now.layout.now) only.now)) }
+    /// The condition of the points that a stage with these options judges or writes.
+    fn only(&self, options: &Options) -> Result<Option<Bound>, PipeErr>
+        ensures ok { IfOk result (λ b. b ≡ bound_where self.now.names.now (only_of options.now)) }
+        ensures none { OnOk result (where_refused self.now.stage self.now.names.now (holds self.now.layout.now) (only_of options.now) ≡ None) }
+        ensures fault { IfErr result (IsFaultOf (where_refused self.now.stage self.now.names.now (holds self.now.layout.now) (only_of options.now))) }
     {
-        match only {
+        match options.only() {
             Some(condition) => Ok(Some(self.expression(condition)?)),
             None => Ok(None),
         }
@@ -169,6 +176,21 @@ impl<'a> Binder<'a> {
         Ok(Limits::new(bound))
     }
 
+    /// The dimension of a name, be it one of numbers or of words.
+    fn dim(&self, name: &Name) -> Result<Dim, PipeErr>
+        ensures ok { IfOk result (λ dim. dim ≡ dim_named self.now.names.now name.now) }
+        ensures none { OnOk result (dim_refused self.now.stage self.now.names.now (holds self.now.layout.now) name.now ≡ None) }
+        ensures fault { IfErr result (IsFaultOf (dim_refused self.now.stage self.now.names.now (holds self.now.layout.now) name.now)) }
+    {
+        if let Some(dim) = dim_of(name.as_str(), self.names) {
+            if self.layout.has(dim) {
+                return Ok(dim);
+            }
+        }
+        let name = name_of(self.alloc, name.as_str())?;
+        Err(PipeErr::Fault(PipeFault::DimUnknown(self.stage, name)))
+    }
+
     /// Looks whether each column is a dimension.
     fn columns(&self, columns: &[NamedColumn]) -> Result<(), PipeErr>
         ensures none { OnOk result (first_unbound self.now.names.now (holds self.now.layout.now) columns.now ≡ None) }
@@ -185,44 +207,56 @@ impl<'a> Binder<'a> {
 }
 
 impl<'a> Binder<'a> {
+    /// What a filter with these options does, where these are its ferries.
+    fn filter(&self, options: &Options, ferries: Assignments) -> Result<BoundFilter, PipeErr>
+        ensures bound { IfOk result (λ b. b ≡ bound_filter self.now.names.now ferries options.now) }
+        ensures ok { OnOk result (filter_refused self.now.stage self.now.names.now (holds self.now.layout.now) options.now ≡ None) }
+        ensures fault { IfErr result (IsFaultOf (filter_refused self.now.stage self.now.names.now (holds self.now.layout.now) options.now)) }
+    {
+        Ok(match options {
+            Options::FiltersRange(o) => BoundFilter::Range(self.limits(o.limits.as_slice())?),
+            Options::FiltersCrop(o) => {
+                BoundFilter::Crop(o.shape.try_copy(self.alloc)?, o.outside)
+            }
+            Options::FiltersAssign(o) => {
+                BoundFilter::Assign(self.assignments(o.assignments.as_slice())?)
+            }
+            Options::FiltersFerry(_) => BoundFilter::Assign(ferries),
+            Options::FiltersExpression(o) => {
+                BoundFilter::Expression(self.expression(&o.expression)?)
+            }
+            Options::FiltersDecimation(o) => { BoundFilter::Decimation(o.step, o.offset, o.limit) }
+            Options::FiltersHead(o) => BoundFilter::Head(o.count),
+            Options::FiltersReturns(o) => BoundFilter::Returns(o.groups),
+            _ => BoundFilter::Merge,
+        })
+    }
+
     /// What a stage with these options does, where these are its ferries.
     fn stage(&self, options: &Options, ferries: Assignments) -> Result<BoundStage, PipeErr>
         ensures bound { IfOk result (λ b. b ≡ bound_with self.now.names.now ferries options.now) }
         ensures ok { OnOk result (own_refused self.now.stage self.now.names.now (holds self.now.layout.now) options.now ≡ None) }
         ensures fault { IfErr result (IsFaultOf (own_refused self.now.stage self.now.names.now (holds self.now.layout.now) options.now)) }
     {
-        let filter = match options {
-            Options::ReadersLas(_) => return Ok(BoundStage::Reads),
-            Options::WritersLas(o) => return Ok(BoundStage::Writes(self.only(&o.only)?)),
+        Ok(match options {
+            Options::ReadersLas(_) => BoundStage::Reads,
+            Options::FiltersSort(o) => {
+                BoundStage::Gathers(Gathering::Sort(self.dim(&o.dimension)?, o.down))
+            }
+            Options::FiltersTail(o) => BoundStage::Gathers(Gathering::Tail(o.count)),
+            Options::FiltersGroupby(o) => {
+                BoundStage::Gathers(Gathering::GroupBy(self.dim(&o.dimension)?))
+            }
+            Options::WritersLas(_) => BoundStage::Writes(self.only(options)?),
             Options::WritersText(o) => {
                 self.columns(o.columns.as_slice())?;
-                return Ok(BoundStage::Writes(self.only(&o.only)?));
+                BoundStage::Writes(self.only(options)?)
             }
-            Options::FiltersRange(o) => {
-                let limits = self.limits(o.limits.as_slice())?;
-                BoundFilter::Range(limits, self.only(&o.only)?)
+            _ => {
+                let filter = self.filter(options, ferries)?;
+                BoundStage::Filters(filter, self.only(options)?)
             }
-            Options::FiltersCrop(o) => {
-                let shape = o.shape.try_copy(self.alloc)?;
-                BoundFilter::Crop(shape, o.outside, self.only(&o.only)?)
-            }
-            Options::FiltersAssign(o) => {
-                let assignments = self.assignments(o.assignments.as_slice())?;
-                BoundFilter::Assign(assignments, self.only(&o.only)?)
-            }
-            Options::FiltersFerry(o) => BoundFilter::Assign(ferries, self.only(&o.only)?),
-            Options::FiltersExpression(o) => {
-                let expression = self.expression(&o.expression)?;
-                BoundFilter::Expression(expression, self.only(&o.only)?)
-            }
-            Options::FiltersDecimation(o) => {
-                BoundFilter::Decimation(o.step, o.offset, o.limit, self.only(&o.only)?)
-            }
-            Options::FiltersHead(o) => BoundFilter::Head(o.count, self.only(&o.only)?),
-            Options::FiltersReturns(o) => BoundFilter::Returns(o.groups, self.only(&o.only)?),
-            Options::FiltersMerge(_) => BoundFilter::Merge,
-        };
-        Ok(BoundStage::Filters(filter))
+        })
     }
 }
 
@@ -244,7 +278,7 @@ pub fn bind(
 ) -> Result<BoundStage, PipeErr>
     ensures bound { IfOk result (λ b. b ≡ bound_stage names.old options.now) }
     ensures names { OnOk result (names.new ≡ names_behind names.old options.now) }
-    ensures layout { OnOk result ((dim : Dim) → holds layout.new dim ≡ (holds layout.old dim || adds names.old options.now dim)) }
+    ensures layout { OnOk result ((dim : Dimension) → holds layout.new dim ≡ (holds layout.old dim || adds names.old options.now dim)) }
     ensures ok { OnOk result (binding_fault i names.old (holds layout.old) options.now ≡ None) }
     ensures fault { IfErr result (IsFaultOf (binding_fault i names.old (holds layout.old) options.now)) }
     ensures same { OnErr result (layout.new ≡ layout.old) }

@@ -4,7 +4,6 @@
 mod assignments;
 mod binding;
 mod bounded;
-mod built;
 mod ferries;
 mod laws;
 mod members;
@@ -23,19 +22,15 @@ mod walks;
 pub use assignments::AssignList;
 pub use binding::{BoundFilter, BoundStage, bind};
 pub use bounded::{Delimiter, LasFields, Places};
-pub use built::is_built;
 pub use laws::roles_follow_types;
 pub use names::{SourceName, TargetName};
 pub use options::{
-    AssignOptions, CropOptions, DecimationOptions, ExpressionOptions, FerryOptions, HeadOptions,
-    LasReaderOptions, LasWriterOptions, MergeOptions, Options, RangeOptions, ReturnsOptions,
-    TextOptions,
+    AssignOptions, CropOptions, DecimationOptions, ExpressionOptions, FerryOptions, GroupbyOptions,
+    HeadOptions, LasReaderOptions, LasWriterOptions, MergeOptions, Options, RangeOptions,
+    ReturnsOptions, SortOptions, TailOptions, TextOptions,
 };
 pub use outputs::first_same_output;
 pub use role::Role;
 pub use stage::StageSpec;
 pub use tree::Tree;
-pub use trees::{is_tree_built, type_tree};
-
-#[cfg(test)]
-mod tests;
+pub use trees::type_tree;

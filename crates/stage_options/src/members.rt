@@ -8,7 +8,7 @@ ghost use Rattle.las_header.specs.Offsets.{IsOffset};
 ghost use Rattle.las_header.specs.ScaleWords.{scale_of_nano};
 ghost use Rattle.stage_options.specs.Expressions.{condition_with};
 ghost use Rattle.stage_options.specs.Seen.{given_view};
-ghost use Rattle.stage_options.specs.Typed.{option_in, whole_in, text_in, scale_in, offset_in, columns_in, forward_in, las_fields_in, text_options_in, where_in, expression_in, assignments_in, ranges_in, box_in, ring_in, disc_in, shape_in, ferries_in, groups_in, last_returns};
+ghost use Rattle.stage_options.specs.Typed.{option_in, whole_in, text_in, scale_in, offset_in, columns_in, forward_in, las_fields_in, text_options_in, where_in, expression_in, assignments_in, ranges_in, box_in, ring_in, disc_in, shape_in, ferries_in, groups_in, name_in, is_down};
 ghost use Rattle.stage_options.specs.Values.{whole_of, format_with, decimal_of, truth_of};
 
 use crate::assignments::AssignList;
@@ -373,6 +373,27 @@ pub(crate) fn groups_in(options: &Map<String, Value>) -> Groups
     text_of(options, "groups")
         .and_then(|text| groups_of(text))
         .unwrap_or(LAST_RETURNS)
+}
+
+/// The name of a dimension that an option is.
+pub(crate) fn name_in(
+    alloc: Global,
+    options: &Map<String, Value>,
+    name: &str,
+) -> Result<Name, AllocError>
+    ensures { IfOk result (λ dimension. dimension ≡ name_in name.now (members_view options.now.entries)) }
+{
+    name_of(alloc, text_of(options, name).unwrap_or(""))
+}
+
+/// Whether points are put in order downwards.
+pub(crate) fn is_down(options: &Map<String, Value>) -> bool
+    ensures { result ≡ is_down (option_in as_str (codes "order") (members_view options.now.entries)) }
+{
+    match text_of(options, "order") {
+        Some(text) => text == "DESC",
+        None => false,
+    }
 }
 
 /// The columns of a text file: by default X, Y and Z.

@@ -1,7 +1,8 @@
 //! The options of a stage, by its type.
 
-ghost use Rattle.std.specs.Prelude.{◌≡◌};
+ghost use Rattle.std.specs.Prelude.{◌≡◌, option_map};
 ghost use Rattle.stage_options.specs.Ferries.{ferries_in};
+ghost use Rattle.stage_options.specs.Where.{only_of};
 ghost use Rattle.stage_options.specs.Kinds.{kind_of};
 ghost use Rattle.stage_options.specs.Roles.{role_of};
 ghost use Rattle.stage_options.specs.Seen.{role_view};
@@ -11,6 +12,7 @@ use crate::bounded::{Delimiter, LasFields, Places};
 use crate::names::{SourceName, TargetName};
 use crate::role::Role;
 use expr_lang::Expr;
+use file_devices::Name;
 use geo_tests::Shape;
 use limits_text::RangeList;
 use option_texts::{Groups, NamedColumns, NamedFerries, NamedFerry};
@@ -48,6 +50,15 @@ pub enum Options {
 
     /// Of `filters.merge`.
     FiltersMerge(MergeOptions),
+
+    /// Of `filters.sort`.
+    FiltersSort(SortOptions),
+
+    /// Of `filters.tail`.
+    FiltersTail(TailOptions),
+
+    /// Of `filters.groupby`.
+    FiltersGroupby(GroupbyOptions),
 
     /// Of `writers.las`.
     WritersLas(LasWriterOptions),
@@ -156,6 +167,30 @@ pub struct ReturnsOptions {
 #[derive(Drop)]
 pub struct MergeOptions {}
 
+/// The options of `filters.sort`.
+#[derive(Drop)]
+pub struct SortOptions {
+    /// The name of the dimension whose values are put in order.
+    pub dimension: Name,
+
+    /// Whether the greatest value comes first.
+    pub down: bool,
+}
+
+/// The options of `filters.tail`.
+#[derive(Drop)]
+pub struct TailOptions {
+    /// How many points of a view pass, its last ones.
+    pub count: u32,
+}
+
+/// The options of `filters.groupby`.
+#[derive(Drop)]
+pub struct GroupbyOptions {
+    /// The name of the dimension of whose values each gets a view.
+    pub dimension: Name,
+}
+
 /// The options of `writers.las`.
 #[derive(Drop)]
 pub struct LasWriterOptions {
@@ -210,12 +245,15 @@ impl Options {
             Options::FiltersHead(_) => KindName::FiltersHead,
             Options::FiltersReturns(_) => KindName::FiltersReturns,
             Options::FiltersMerge(_) => KindName::FiltersMerge,
+            Options::FiltersSort(_) => KindName::FiltersSort,
+            Options::FiltersTail(_) => KindName::FiltersTail,
+            Options::FiltersGroupby(_) => KindName::FiltersGroupby,
             Options::WritersLas(_) => KindName::WritersLas,
             Options::WritersText(_) => KindName::WritersText,
         }
     }
 
-    /// What a stage with these options does with files.
+    /// What a stage with these options does with files and views.
     pub fn role(&self) -> Role<'_>
         ensures { role_view result ≡ role_of self.now }
     {
@@ -223,7 +261,29 @@ impl Options {
             Options::ReadersLas(options) => Role::Reads(options.filename.as_str()),
             Options::WritersLas(options) => Role::Writes(options.filename.as_str()),
             Options::WritersText(options) => Role::Writes(options.filename.as_str()),
+            Options::FiltersSort(_) | Options::FiltersTail(_) | Options::FiltersGroupby(_) => {
+                Role::Gathers
+            }
             _ => Role::Filters,
+        }
+    }
+
+    /// The condition of the points that a stage with these options judges or writes; None is all.
+    pub fn only(&self) -> Option<&Expr>
+        ensures { option_map (λ e. e.now) result ≡ only_of self.now }
+    {
+        match self {
+            Options::FiltersRange(options) => options.only.as_ref(),
+            Options::FiltersCrop(options) => options.only.as_ref(),
+            Options::FiltersAssign(options) => options.only.as_ref(),
+            Options::FiltersFerry(options) => options.only.as_ref(),
+            Options::FiltersExpression(options) => options.only.as_ref(),
+            Options::FiltersDecimation(options) => options.only.as_ref(),
+            Options::FiltersHead(options) => options.only.as_ref(),
+            Options::FiltersReturns(options) => options.only.as_ref(),
+            Options::WritersLas(options) => options.only.as_ref(),
+            Options::WritersText(options) => options.only.as_ref(),
+            _ => None,
         }
     }
 

@@ -1,17 +1,20 @@
-//! What a stage does with files.
+//! What a stage does with files and views.
 
 ghost use Rattle.std.specs.Prelude.{◌≡◌, option_map};
 ghost use Rattle.stage_options.specs.Roles.{source_of, target_of};
 ghost use Rattle.stage_options.specs.Seen.{role_view};
 
-/// What a stage does with files.
+/// What a stage does with files and views.
 #[derive(Clone, Copy, Drop)]
 pub enum Role<'a> {
     /// It reads the file of this name.
     Reads(&'a str),
 
-    /// It has no file.
+    /// It has no file, and takes points one after the other.
     Filters,
+
+    /// It has no file, and needs whole views.
+    Gathers,
 
     /// It writes the file of this name.
     Writes(&'a str),

@@ -24,6 +24,12 @@ pub(crate) enum Allowed {
     /// A text of at least so many bytes and at most so many.
     Sized(usize, usize),
 
+    /// A text.
+    Text,
+
+    /// One of two texts.
+    Either(&'static str, &'static str),
+
     /// The columns of a text file.
     Columns,
 
@@ -160,6 +166,19 @@ const FILTERS_HEAD: &[Rule] = &[
 /// The options of `filters.returns`.
 const FILTERS_RETURNS: &[Rule] = &[Rule::Optional("groups", Allowed::Groups), WHERE];
 
+/// The options of `filters.sort`.
+const FILTERS_SORT: &[Rule] = &[
+    Rule::Required("dimension", Allowed::Text),
+    Rule::Optional("order", Allowed::Either("ASC", "DESC")),
+    Rule::Optional("algorithm", Allowed::Either("normal", "stable")),
+];
+
+/// The options of `filters.tail`.
+const FILTERS_TAIL: &[Rule] = &[Rule::Optional("count", Allowed::Whole(0, 4_294_967_295))];
+
+/// The options of `filters.groupby`.
+const FILTERS_GROUPBY: &[Rule] = &[Rule::Required("dimension", Allowed::Text)];
+
 /// The options of `writers.las`.
 const WRITERS_LAS: &[Rule] = &[
     Rule::Required("filename", Allowed::Target),
@@ -192,7 +211,7 @@ const WRITERS_TEXT: &[Rule] = &[
     WHERE,
 ];
 
-/// The options of a type, in the order in which they are looked at. A merge has none, and types that aren't built have none yet.
+/// The options of a type, in the order in which they are looked at. A merge has none.
 pub(crate) fn rules(kind: KindName) -> &'static [Rule]
     ensures { rules_view result.now ≡ rules_of kind }
 {
@@ -206,8 +225,11 @@ pub(crate) fn rules(kind: KindName) -> &'static [Rule]
         KindName::FiltersDecimation => FILTERS_DECIMATION,
         KindName::FiltersHead => FILTERS_HEAD,
         KindName::FiltersReturns => FILTERS_RETURNS,
+        KindName::FiltersMerge => &[],
+        KindName::FiltersSort => FILTERS_SORT,
+        KindName::FiltersTail => FILTERS_TAIL,
+        KindName::FiltersGroupby => FILTERS_GROUPBY,
         KindName::WritersLas => WRITERS_LAS,
         KindName::WritersText => WRITERS_TEXT,
-        _ => &[],
     }
 }

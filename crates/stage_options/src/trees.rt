@@ -1,6 +1,6 @@
 //! The typed stages of a tree, or their first fault.
 
-ghost use Rattle.std.specs.Prelude.{◌≡◌, ◌≤◌, length, option_map, Ok, None, IfOk, IfErr, OnOk, IsTrue};
+ghost use Rattle.std.specs.Prelude.{◌≡◌, ◌≤◌, length, Ok, None, IfOk, IfErr, OnOk};
 ghost use Rattle.pipeline_json.specs.Shown.{stage_view, stages_view};
 ghost use Rattle.pipeline_json.specs.Trees.{IsTree};
 ghost use Rattle.pipeline_json.specs.TreeShown.{tree_view};
@@ -8,9 +8,8 @@ ghost use Rattle.stage_options.specs.Faults.{IsFaultOf};
 ghost use Rattle.stage_options.specs.Kinds.{HaveOwnOptions};
 ghost use Rattle.stage_options.specs.Shapes.{shapes};
 ghost use Rattle.stage_options.specs.TreeShown.{specs_view};
-ghost use Rattle.stage_options.specs.TypedTree.{is_stage_built, are_built, stage_fault, spec_of, specs_of, options_fault, typed_tree, IsToldFault};
+ghost use Rattle.stage_options.specs.TypedTree.{stage_fault, spec_of, specs_of, options_fault, typed_tree, IsToldFault};
 
-use crate::built::is_built;
 use crate::outputs::first_same_output;
 use crate::stage::StageSpec;
 use crate::tree::Tree;
@@ -18,25 +17,6 @@ use crate::typing::type_options;
 use pipeline_json::{RawStage, RawTree, StageList};
 use stage_names::{PipeErr, PipeFault};
 use std::alloc::{AllocError, Global};
-
-/// Whether all of these stages are built.
-fn are_built(list: &[RawStage]) -> bool
-    ensures { result ≡ are_built (stages_view list.now) }
-{
-    for raw in list {
-        if !is_built(raw.kind) {
-            return false;
-        }
-    }
-    true
-}
-
-/// Whether a tree is built: the type of each stage.
-pub fn is_tree_built(raw: &RawTree) -> bool
-    ensures { result ≡ are_built (tree_view raw.now) }
-{
-    are_built(raw.as_slice())
-}
 
 /// A list of the same numbers.
 fn copied(alloc: Global, list: &StageList) -> Result<StageList, AllocError>
@@ -50,7 +30,6 @@ fn copied(alloc: Global, list: &StageList) -> Result<StageList, AllocError>
 /// Stage i with its options typed, or its first fault: `OptionUnknown` with the least name, then `OptionMissing`, then
 /// `OptionValue`. `Memory` comes only where there was none.
 fn type_stage(alloc: Global, raw: &RawStage, i: u32) -> Result<StageSpec, PipeErr>
-    requires { IsTrue (is_stage_built (stage_view raw.now)) }
     ensures no_fault { OnOk result (stage_fault i (stage_view raw.now) ≡ None) }
     ensures ok { IfOk result (λ s. s ≡ spec_of (stage_view raw.now)) }
     ensures fault { IfErr result (IsFaultOf (stage_fault i (stage_view raw.now))) }
@@ -71,7 +50,6 @@ fn type_stage(alloc: Global, raw: &RawStage, i: u32) -> Result<StageSpec, PipeEr
 /// The typed stages, or the first fault of their options.
 fn type_stages(alloc: Global, list: &[RawStage]) -> Result<Vec<StageSpec>, PipeErr>
     requires few { length list.now ≤ 64 }
-    requires built { IsTrue (are_built (stages_view list.now)) }
     ensures no_fault { OnOk result (options_fault 0 (stages_view list.now) ≡ None) }
     ensures ok { IfOk result (λ specs. specs.items ≡ specs_of (stages_view list.now)) }
     ensures fault { IfErr result (IsFaultOf (options_fault 0 (stages_view list.now))) }
@@ -90,7 +68,6 @@ fn type_stages(alloc: Global, list: &[RawStage]) -> Result<Vec<StageSpec>, PipeE
 /// it, and then `SameOutput` with the least number of a writer whose file an earlier one names. `Memory` comes only where
 /// there was none. Each stage has the options of its type.
 pub fn type_tree(alloc: Global, raw: &RawTree) -> Result<Tree, PipeErr>
-    requires { IsTrue (are_built (tree_view raw.now)) }
     ensures ok { IfOk result (λ tree. typed_tree (tree_view raw.now) ≡ Ok (specs_view tree)) }
     ensures fault { IfErr result (IsToldFault (typed_tree (tree_view raw.now))) }
     ensures is_tree { IfOk result (λ tree. IsTree (shapes (specs_view tree))) }

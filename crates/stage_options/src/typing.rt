@@ -1,21 +1,21 @@
 //! The typed options of a stage, or their first fault.
 
-ghost use Rattle.std.specs.Prelude.{◌≡◌, ℕ, List, [], Option, option_map, Some, None, IfOk, IfErr, OnOk, IsTrue};
+ghost use Rattle.std.specs.Prelude.{◌≡◌, [], option_map, None, IfOk, IfErr, OnOk, IsTrue};
 ghost use Rattle.std.specs.Option.{unwrap_or};
-ghost use Rattle.serde_json.specs.Data.{Members};
 ghost use Rattle.serde_json.specs.View.{members_view};
-ghost use Rattle.stage_options.specs.Typed.{typed_of, is_built};
+ghost use Rattle.stage_options.specs.Typed.{typed_of, is_named, range_options, crop_options, assign_options, ferry_options, expression_options, decimation_options, head_options, returns_options, sort_options, tail_options, groupby_options, las_writer_options};
 ghost use Rattle.stage_options.specs.Faults.{first_fault, IsFaultOf};
 ghost use Rattle.stage_options.specs.Values.{is_source, is_target};
 
 use crate::members::{
-    assignments_in, expression_in, ferries_in, groups_in, las_fields, number_in, ranges_in,
-    shape_in, text_options, truth_or, where_in, whole_or,
+    assignments_in, expression_in, ferries_in, groups_in, is_down, las_fields, name_in, number_in,
+    ranges_in, shape_in, text_options, truth_or, where_in, whole_or,
 };
 use crate::names::{SourceName, TargetName};
 use crate::options::{
-    AssignOptions, CropOptions, DecimationOptions, ExpressionOptions, FerryOptions, HeadOptions,
-    LasReaderOptions, LasWriterOptions, MergeOptions, Options, RangeOptions, ReturnsOptions,
+    AssignOptions, CropOptions, DecimationOptions, ExpressionOptions, FerryOptions, GroupbyOptions,
+    HeadOptions, LasReaderOptions, LasWriterOptions, MergeOptions, Options, RangeOptions,
+    ReturnsOptions, SortOptions, TailOptions,
 };
 use crate::rules::rules;
 use crate::walks::{name_of, refuse};
@@ -23,128 +23,186 @@ use serde_json::{Map, Value};
 use stage_names::{KindName, PipeErr};
 use std::alloc::{AllocError, Global};
 
-/// The options of a reader.
-fn readers_las(alloc: Global, filename: Option<&str>) -> Result<Options, AllocError>
+/// The name of a reader's file.
+fn source_name(alloc: Global, filename: Option<&str>) -> Result<SourceName, AllocError>
     requires { IsTrue (is_source (unwrap_or (option_map (λ s. s.now) filename) [])) }
-    ensures { (options : Members) → IfOk result (λ o. Some o ≡ typed_of KindName.ReadersLas (option_map (λ s. s.now) filename.entry) options) }
+    ensures { IfOk result (λ name. name ≡ unwrap_or (option_map (λ s. s.now) filename.entry) []) }
 {
     let name = name_of(alloc, filename.unwrap_or(""))?;
-    Ok(Options::ReadersLas(LasReaderOptions {
-        filename: SourceName::new(name),
-    }))
+    Ok(SourceName::new(name))
 }
 
-/// The options of a filter by ranges.
-fn filters_range(alloc: Global, options: &Map<String, Value>) -> Result<Options, AllocError>
-    ensures { (filename : Option (List ℕ)) → IfOk result (λ o. Some o ≡ typed_of KindName.FiltersRange filename (members_view options.now.entries)) }
+/// The name of a writer's file.
+fn target_name(alloc: Global, filename: Option<&str>) -> Result<TargetName, AllocError>
+    requires { IsTrue (is_target (unwrap_or (option_map (λ s. s.now) filename) [])) }
+    ensures { IfOk result (λ name. name ≡ unwrap_or (option_map (λ s. s.now) filename.entry) []) }
+{
+    let name = name_of(alloc, filename.unwrap_or(""))?;
+    Ok(TargetName::new(name))
+}
+
+fn filters_range(alloc: Global, options: &Map<String, Value>) -> Result<RangeOptions, AllocError>
+    ensures { IfOk result (λ o. o ≡ range_options (members_view options.now.entries)) }
 {
     let limits = ranges_in(alloc, options)?;
     let only = where_in(alloc, options)?;
-    Ok(Options::FiltersRange(RangeOptions { limits, only }))
+    Ok(RangeOptions { limits, only })
 }
 
-/// The options of a filter by a shape.
-fn filters_crop(alloc: Global, options: &Map<String, Value>) -> Result<Options, AllocError>
-    ensures { (filename : Option (List ℕ)) → IfOk result (λ o. Some o ≡ typed_of KindName.FiltersCrop filename (members_view options.now.entries)) }
+fn filters_crop(alloc: Global, options: &Map<String, Value>) -> Result<CropOptions, AllocError>
+    ensures { IfOk result (λ o. o ≡ crop_options (members_view options.now.entries)) }
 {
     let shape = shape_in(alloc, options)?;
     let outside = truth_or(options, "outside", false);
     let only = where_in(alloc, options)?;
-    Ok(Options::FiltersCrop(CropOptions {
+    Ok(CropOptions {
         shape,
         outside,
         only,
-    }))
+    })
 }
 
-/// The options of assignments.
-fn filters_assign(alloc: Global, options: &Map<String, Value>) -> Result<Options, AllocError>
-    ensures { (filename : Option (List ℕ)) → IfOk result (λ o. Some o ≡ typed_of KindName.FiltersAssign filename (members_view options.now.entries)) }
+fn filters_assign(alloc: Global, options: &Map<String, Value>) -> Result<AssignOptions, AllocError>
+    ensures { IfOk result (λ o. o ≡ assign_options (members_view options.now.entries)) }
 {
     let assignments = assignments_in(alloc, options)?;
     let only = where_in(alloc, options)?;
-    Ok(Options::FiltersAssign(AssignOptions { assignments, only }))
+    Ok(AssignOptions { assignments, only })
 }
 
-/// The options of ferries.
-fn filters_ferry(alloc: Global, options: &Map<String, Value>) -> Result<Options, AllocError>
-    ensures { (filename : Option (List ℕ)) → IfOk result (λ o. Some o ≡ typed_of KindName.FiltersFerry filename (members_view options.now.entries)) }
+fn filters_ferry(alloc: Global, options: &Map<String, Value>) -> Result<FerryOptions, AllocError>
+    ensures { IfOk result (λ o. o ≡ ferry_options (members_view options.now.entries)) }
 {
     let ferries = ferries_in(alloc, options)?;
     let only = where_in(alloc, options)?;
-    Ok(Options::FiltersFerry(FerryOptions { ferries, only }))
+    Ok(FerryOptions { ferries, only })
 }
 
-/// The options of a filter by a condition.
-fn filters_expression(alloc: Global, options: &Map<String, Value>) -> Result<Options, AllocError>
-    ensures { (filename : Option (List ℕ)) → IfOk result (λ o. Some o ≡ typed_of KindName.FiltersExpression filename (members_view options.now.entries)) }
+fn filters_expression(
+    alloc: Global,
+    options: &Map<String, Value>,
+) -> Result<ExpressionOptions, AllocError>
+    ensures { IfOk result (λ o. o ≡ expression_options (members_view options.now.entries)) }
 {
     let expression = expression_in(alloc, options)?;
     let only = where_in(alloc, options)?;
-    Ok(Options::FiltersExpression(ExpressionOptions { expression, only }))
+    Ok(ExpressionOptions { expression, only })
 }
 
-/// The options of a decimation.
-fn filters_decimation(alloc: Global, options: &Map<String, Value>) -> Result<Options, AllocError>
-    ensures { (filename : Option (List ℕ)) → IfOk result (λ o. Some o ≡ typed_of KindName.FiltersDecimation filename (members_view options.now.entries)) }
+fn filters_decimation(
+    alloc: Global,
+    options: &Map<String, Value>,
+) -> Result<DecimationOptions, AllocError>
+    ensures { IfOk result (λ o. o ≡ decimation_options (members_view options.now.entries)) }
 {
-    Ok(Options::FiltersDecimation(DecimationOptions {
+    Ok(DecimationOptions {
         step: whole_or(options, "step", 1),
         offset: whole_or(options, "offset", 0),
         limit: number_in(options, "limit"),
         only: where_in(alloc, options)?,
-    }))
+    })
 }
 
-/// The options of a filter by groups of returns.
-fn filters_returns(alloc: Global, options: &Map<String, Value>) -> Result<Options, AllocError>
-    ensures { (filename : Option (List ℕ)) → IfOk result (λ o. Some o ≡ typed_of KindName.FiltersReturns filename (members_view options.now.entries)) }
-{
-    let groups = groups_in(options);
-    let only = where_in(alloc, options)?;
-    Ok(Options::FiltersReturns(ReturnsOptions { groups, only }))
-}
-
-/// The options of a head.
-fn filters_head(alloc: Global, options: &Map<String, Value>) -> Result<Options, AllocError>
-    ensures { (filename : Option (List ℕ)) → IfOk result (λ o. Some o ≡ typed_of KindName.FiltersHead filename (members_view options.now.entries)) }
+fn filters_head(alloc: Global, options: &Map<String, Value>) -> Result<HeadOptions, AllocError>
+    ensures { IfOk result (λ o. o ≡ head_options (members_view options.now.entries)) }
 {
     let count = whole_or(options, "count", 10);
     let only = where_in(alloc, options)?;
-    Ok(Options::FiltersHead(HeadOptions { count, only }))
+    Ok(HeadOptions { count, only })
 }
 
-/// The options of a writer of a LAS file.
+fn filters_returns(
+    alloc: Global,
+    options: &Map<String, Value>,
+) -> Result<ReturnsOptions, AllocError>
+    ensures { IfOk result (λ o. o ≡ returns_options (members_view options.now.entries)) }
+{
+    let groups = groups_in(options);
+    let only = where_in(alloc, options)?;
+    Ok(ReturnsOptions { groups, only })
+}
+
+fn filters_sort(alloc: Global, options: &Map<String, Value>) -> Result<SortOptions, AllocError>
+    ensures { IfOk result (λ o. o ≡ sort_options (members_view options.now.entries)) }
+{
+    let dimension = name_in(alloc, options, "dimension")?;
+    let down = is_down(options);
+    Ok(SortOptions { dimension, down })
+}
+
+fn filters_tail(options: &Map<String, Value>) -> TailOptions
+    ensures { result ≡ tail_options (members_view options.now.entries) }
+{
+    let count = whole_or(options, "count", 10);
+    TailOptions { count }
+}
+
+fn filters_groupby(
+    alloc: Global,
+    options: &Map<String, Value>,
+) -> Result<GroupbyOptions, AllocError>
+    ensures { IfOk result (λ o. o ≡ groupby_options (members_view options.now.entries)) }
+{
+    let dimension = name_in(alloc, options, "dimension")?;
+    Ok(GroupbyOptions { dimension })
+}
+
 fn writers_las(
     alloc: Global,
-    filename: Option<&str>,
+    filename: TargetName,
     options: &Map<String, Value>,
-) -> Result<Options, AllocError>
-    requires { IsTrue (is_target (unwrap_or (option_map (λ s. s.now) filename) [])) }
-    ensures { IfOk result (λ o. Some o ≡ typed_of KindName.WritersLas (option_map (λ s. s.now) filename.entry) (members_view options.now.entries)) }
+) -> Result<LasWriterOptions, AllocError>
+    ensures { IfOk result (λ o. o ≡ las_writer_options filename (members_view options.now.entries)) }
 {
-    let filename = TargetName::new(name_of(alloc, filename.unwrap_or(""))?);
     let fields = las_fields(alloc, options)?;
     let only = where_in(alloc, options)?;
-    Ok(Options::WritersLas(LasWriterOptions {
+    Ok(LasWriterOptions {
         filename,
         fields,
         only,
-    }))
+    })
 }
 
-/// The options of a writer of text.
-fn writers_text(
+/// The options of a stage of this type, with this file name and these other members.
+fn typed(
     alloc: Global,
+    kind: KindName,
     filename: Option<&str>,
     options: &Map<String, Value>,
 ) -> Result<Options, AllocError>
-    requires { IsTrue (is_target (unwrap_or (option_map (λ s. s.now) filename) [])) }
-    ensures { IfOk result (λ o. Some o ≡ typed_of KindName.WritersText (option_map (λ s. s.now) filename.entry) (members_view options.now.entries)) }
+    requires { IsTrue (is_named kind (option_map (λ s. s.now) filename)) }
+    ensures { IfOk result (λ o. o ≡ typed_of kind (option_map (λ s. s.now) filename.entry) (members_view options.now.entries)) }
 {
-    let name = name_of(alloc, filename.unwrap_or(""))?;
-    let text = text_options(alloc, TargetName::new(name), options)?;
-    Ok(Options::WritersText(text))
+    Ok(match kind {
+        KindName::ReadersLas => {
+            let filename = source_name(alloc, filename)?;
+            Options::ReadersLas(LasReaderOptions { filename })
+        }
+        KindName::FiltersRange => Options::FiltersRange(filters_range(alloc, options)?),
+        KindName::FiltersCrop => Options::FiltersCrop(filters_crop(alloc, options)?),
+        KindName::FiltersAssign => Options::FiltersAssign(filters_assign(alloc, options)?),
+        KindName::FiltersFerry => Options::FiltersFerry(filters_ferry(alloc, options)?),
+        KindName::FiltersExpression => {
+            Options::FiltersExpression(filters_expression(alloc, options)?)
+        }
+        KindName::FiltersDecimation => {
+            Options::FiltersDecimation(filters_decimation(alloc, options)?)
+        }
+        KindName::FiltersHead => Options::FiltersHead(filters_head(alloc, options)?),
+        KindName::FiltersReturns => Options::FiltersReturns(filters_returns(alloc, options)?),
+        KindName::FiltersMerge => Options::FiltersMerge(MergeOptions {}),
+        KindName::FiltersSort => Options::FiltersSort(filters_sort(alloc, options)?),
+        KindName::FiltersTail => Options::FiltersTail(filters_tail(options)),
+        KindName::FiltersGroupby => Options::FiltersGroupby(filters_groupby(alloc, options)?),
+        KindName::WritersLas => {
+            let filename = target_name(alloc, filename)?;
+            Options::WritersLas(writers_las(alloc, filename, options)?)
+        }
+        KindName::WritersText => {
+            let filename = target_name(alloc, filename)?;
+            Options::WritersText(text_options(alloc, filename, options)?)
+        }
+    })
 }
 
 /// The options of stage i, of this type, with this file name and these other members, or their first fault. The other
@@ -156,25 +214,10 @@ pub(crate) fn type_options(
     options: &Map<String, Value>,
     i: u32,
 ) -> Result<Options, PipeErr>
-    requires { IsTrue (is_built kind) }
     ensures no_fault { OnOk result (first_fault i kind (option_map (λ s. s.now) filename.entry) (members_view options.now.entries) ≡ None) }
-    ensures ok { IfOk result (λ o. Some o ≡ typed_of kind (option_map (λ s. s.now) filename.entry) (members_view options.now.entries)) }
+    ensures ok { IfOk result (λ o. o ≡ typed_of kind (option_map (λ s. s.now) filename.entry) (members_view options.now.entries)) }
     ensures fault { IfErr result (IsFaultOf (first_fault i kind (option_map (λ s. s.now) filename.entry) (members_view options.now.entries))) }
 {
     refuse(alloc, rules(kind), filename, options, i)?;
-    match kind {
-        KindName::ReadersLas => Ok(readers_las(alloc, filename)?),
-        KindName::FiltersRange => Ok(filters_range(alloc, options)?),
-        KindName::FiltersCrop => Ok(filters_crop(alloc, options)?),
-        KindName::FiltersAssign => Ok(filters_assign(alloc, options)?),
-        KindName::FiltersFerry => Ok(filters_ferry(alloc, options)?),
-        KindName::FiltersExpression => Ok(filters_expression(alloc, options)?),
-        KindName::FiltersDecimation => Ok(filters_decimation(alloc, options)?),
-        KindName::FiltersHead => Ok(filters_head(alloc, options)?),
-        KindName::FiltersReturns => Ok(filters_returns(alloc, options)?),
-        KindName::FiltersMerge => Ok(Options::FiltersMerge(MergeOptions {})),
-        KindName::WritersLas => Ok(writers_las(alloc, filename, options)?),
-        KindName::WritersText => Ok(writers_text(alloc, filename, options)?),
-        _ => unreachable!(),
-    }
+    Ok(typed(alloc, kind, filename, options)?)
 }

@@ -5,7 +5,7 @@ ghost use Rattle.std.specs.BTreeMap.{keys, IsOrdered};
 ghost use Rattle.std.specs.String.{string_cmp};
 ghost use Rattle.std.specs.List.{filter, list_any};
 ghost use Rattle.serde_json.specs.View.{members_view};
-ghost use Rattle.stage_options.specs.Rules.{is_within, is_between, has_size, fits};
+ghost use Rattle.stage_options.specs.Rules.{is_within, is_between, has_size, is_either, fits};
 ghost use Rattle.stage_options.specs.Faults.{value_of, names_of, lesser, least, is_known, first_unknown, stands, is_missing, first_missing, is_wrong, is_barred, first_wrong, fault_by, IsFaultOf};
 ghost use Rattle.stage_options.specs.Seen.{allowed_view, rule_view, rules_view, given_view};
 
@@ -39,6 +39,13 @@ fn has_size(low: usize, high: usize, text: &str) -> bool
     low <= text.len() && text.len() <= high
 }
 
+/// Whether a text is one of two.
+fn is_either(one: &str, other: &str, text: &str) -> bool
+    ensures { result ≡ is_either one.now other.now text.now }
+{
+    text == one || text == other
+}
+
 /// Whether an option may hold a value. Refused only where memory is wanting.
 fn fits(alloc: Global, allowed: Allowed, given: Given<'_>) -> Result<bool, AllocError>
     ensures { IfOk result (λ is. is ≡ fits (allowed_view allowed) (given_view given.entry)) }
@@ -49,6 +56,8 @@ fn fits(alloc: Global, allowed: Allowed, given: Given<'_>) -> Result<bool, Alloc
         Allowed::Format => given.format().is_some(),
         Allowed::Truth => given.truth().is_some(),
         Allowed::Sized(low, high) => given.text().is_some_and(|text| has_size(low, high, text)),
+        Allowed::Text => given.text().is_some(),
+        Allowed::Either(one, other) => given.text().is_some_and(|text| is_either(one, other, text)),
         Allowed::Columns => given.text().is_some_and(|text| is_columns(text)),
         Allowed::Forward => given.text().is_some_and(|text| is_forward(text)),
         Allowed::Source => given.text().is_some_and(|name| is_source(name)),

@@ -8,9 +8,9 @@ use Rattle.cloud_points.specs.Marks.{Mark, At, View_end, End, flow_marks}
 use Rattle.network_theory.specs.Machine.{Machine, next, after_all, at_last, one_end, state_after, at_start}
 use Rattle.stage_kinds.specs.declared.file_form.Writing.{Writing as Writes}
 use Rattle.stage_kinds.specs.declared.stage_work.StageState.{StageState}
-use Rattle.stage_kinds.specs.declared.stage_work.StageState.TheVariants.{Reading, Filtering, Writing}
+use Rattle.stage_kinds.specs.declared.stage_work.StageState.TheVariants.{Reading, Filtering, Collecting, Writing}
 use Rattle.stage_kinds.specs.declared.stage_work.StageWork.{StageWork}
-use Rattle.stage_kinds.specs.declared.stage_work.StageWork.TheVariants.{Reader, Filter, Writer}
+use Rattle.stage_kinds.specs.declared.stage_work.StageWork.TheVariants.{Reader, Filter, Collector, Views, Writer}
 use Rattle.stage_kinds.specs.Stages.{meaning_of, state_of, writing_of}
 
 -- what is written by a state
@@ -22,33 +22,56 @@ module _ {S K : Type 0} where
   pub writing-is : (w : StageWork S K) → writing_of w ≡ written_in (state_of w)
   writing-is (Reader r) = refl
   writing-is (Filter f) = refl
+  writing-is (Collector c) = refl
+  writing-is (Views h) = refl
   writing-is (Writer w) = refl
 
   after-keeps : (w : StageWork S K) (t : StageState) (ps : List Point) → written_in ((meaning_of w).after t ps) ≡ written_in t
   after-keeps (Reader r) t ps = refl
+  after-keeps (Views h) t ps = refl
   after-keeps (Filter f) Reading ps = refl
   after-keeps (Filter f) (Filtering spot) ps = refl
+  after-keeps (Filter f) (Collecting g views) ps = refl
   after-keeps (Filter f) (Writing x spot) ps = refl
+  after-keeps (Collector c) Reading ps = refl
+  after-keeps (Collector c) (Filtering spot) ps = refl
+  after-keeps (Collector c) (Collecting g views) ps = refl
+  after-keeps (Collector c) (Writing x spot) ps = refl
   after-keeps (Writer w) Reading ps = refl
   after-keeps (Writer w) (Filtering spot) ps = refl
+  after-keeps (Writer w) (Collecting g views) ps = refl
   after-keeps (Writer w) (Writing x spot) ps = refl
 
   view-keeps : (w : StageWork S K) (t : StageState) → written_in ((meaning_of w).at_view t).0 ≡ written_in t
   view-keeps (Reader r) t = refl
+  view-keeps (Views h) t = refl
   view-keeps (Filter f) Reading = refl
   view-keeps (Filter f) (Filtering spot) = refl
+  view-keeps (Filter f) (Collecting g views) = refl
   view-keeps (Filter f) (Writing x spot) = refl
+  view-keeps (Collector c) Reading = refl
+  view-keeps (Collector c) (Filtering spot) = refl
+  view-keeps (Collector c) (Collecting g views) = refl
+  view-keeps (Collector c) (Writing x spot) = refl
   view-keeps (Writer w) Reading = refl
   view-keeps (Writer w) (Filtering spot) = refl
+  view-keeps (Writer w) (Collecting g views) = refl
   view-keeps (Writer w) (Writing x spot) = refl
 
   end-keeps : (w : StageWork S K) (t : StageState) (cut : Bool) → written_in ((meaning_of w).at_end t cut).0 ≡ written_in t
   end-keeps (Reader r) t cut = refl
+  end-keeps (Views h) t cut = refl
   end-keeps (Filter f) Reading cut = refl
   end-keeps (Filter f) (Filtering spot) cut = refl
+  end-keeps (Filter f) (Collecting g views) cut = refl
   end-keeps (Filter f) (Writing x spot) cut = refl
+  end-keeps (Collector c) Reading cut = refl
+  end-keeps (Collector c) (Filtering spot) cut = refl
+  end-keeps (Collector c) (Collecting g views) cut = refl
+  end-keeps (Collector c) (Writing x spot) cut = refl
   end-keeps (Writer w) Reading cut = refl
   end-keeps (Writer w) (Filtering spot) cut = refl
+  end-keeps (Writer w) (Collecting g views) cut = refl
   end-keeps (Writer w) (Writing x spot) cut = refl
 
   next-keeps : (w : StageWork S K) (c : Machine StageState StageFault) (t : Mark Point) → written_in (next (meaning_of w) c t).state ≡ written_in c.state

@@ -4,7 +4,12 @@ use Rattle.file_devices.specs.declared.devices.Op.{Op}
 use Rattle.file_devices.specs.declared.devices.Op.TheVariants.{Read, Write}
 use Rattle.file_devices.specs.declared.devices.Source as source
 use Rattle.file_devices.specs.declared.devices.Sink as sink
+use Rattle.cloud_points.specs.declared.dims.Dim.{Dim}
 use Rattle.cloud_points.specs.declared.work.Work.{Ghosts}
+use Rattle.cloud_points.specs.Flows.{empty_flow}
+use Rattle.expr_lang.specs.Formula.{Formula}
+use Rattle.whole_filters.specs.declared.gathering.Gathering.{Gathering}
+use Rattle.view_works.specs.declared.collector.Collector.{Collector as Collecting}
 use Rattle.forward_rules.specs.Forwarded.{form_of}
 use Rattle.las_reader.specs.Files.{las_with}
 use Rattle.las_reader.specs.declared.reader.LasReader.{LasReader}
@@ -12,14 +17,14 @@ use Rattle.las_reader.specs.declared.reader.Progress.TheVariants.{Records}
 use Rattle.stage_kinds.specs.declared.file_form.FileForm.{FileForm}
 use Rattle.stage_kinds.specs.declared.file_form.FileForm.TheVariants as file
 use Rattle.stage_kinds.specs.declared.file_form.StageForm.{StageForm}
-use Rattle.stage_kinds.specs.declared.file_form.StageForm.TheVariants.{Reads, Filters, Writes}
+use Rattle.stage_kinds.specs.declared.file_form.StageForm.TheVariants.{Reads, Filters, Gathers, Writes}
 use Rattle.stage_kinds.specs.declared.file_form.Writing.{Writing}
 use Rattle.stage_kinds.specs.declared.stage_work.StageWork.{StageWork}
-use Rattle.stage_kinds.specs.declared.stage_work.StageWork.TheVariants.{Reader, Filter, Writer}
+use Rattle.stage_kinds.specs.declared.stage_work.StageWork.TheVariants.{Reader, Filter, Collector, Writer}
 use Rattle.stage_kinds.specs.declared.stage_work.StageState.{StageState}
 use Rattle.stage_kinds.specs.Files.{IsFileForm}
 use Rattle.stage_kinds.specs.Held.{op_of, faults_of}
-use Rattle.stage_kinds.specs.Stages.{begun, state_of, meaning_of, is_reader, holds_of, writing_of}
+use Rattle.stage_kinds.specs.Stages.{begun, state_of, meaning_of, is_leaf, is_short, holds_of, writing_of}
 use Rattle.stage_kinds.specs.Reads.{tells_of, told_of, told_fault_of, points_left_of, views_left_of}
 use Rattle.stage_options.specs.Roles.{Role}
 use Rattle.stage_options.specs.Roles as role
@@ -48,8 +53,8 @@ abbrev pub as_works : {S K : Type 0} → source.Ghosts S → sink.Ghosts K → G
 as_works source sink = record {
   state = λ k. state_of k;
   meaning = λ k. meaning_of k;
-  leaf = λ k. is_reader k;
-  short = λ k. false;
+  leaf = λ k. is_leaf k;
+  short = λ k. is_short k;
   faults = λ k. faults_of source.faults sink.faults k;
   op = λ k. op_of k;
   tells = λ k. tells_of source.bytes k;
@@ -62,16 +67,16 @@ as_works source sink = record {
 
 -- ---- what the work of a stage is made of, beside its device
 
--- a filter before all points
-abbrev pub started : BoundFilter → Filtering
-started (bound.Range limits only) = filter.Range (record { rule = limits; only = only; spot = spot_at 0 })
-started (bound.Crop shape outside only) = filter.Crop (record { rule = record { shape = shape; outside = outside }; only = only; spot = spot_at 0 })
-started (bound.Assign list only) = filter.Assign (record { rule = list; only = only; spot = spot_at 0 })
-started (bound.Expression condition only) = filter.Expression (record { rule = record { 0 = condition }; only = only; spot = spot_at 0 })
-started (bound.Decimation step offset limit only) = filter.Decimation (record { rule = record { step = step; offset = offset; limit = limit }; only = only; spot = spot_at 0 })
-started (bound.Head count only) = filter.Head (record { rule = record { count = count }; only = only; spot = spot_at 0 })
-started (bound.Returns groups only) = filter.Returns (record { rule = groups; only = only; spot = spot_at 0 })
-started bound.Merge = filter.Merge
+-- a filter before all points, of those for which a condition holds
+abbrev pub started : BoundFilter → Option (Formula Dim) → Filtering
+started (bound.Range limits) only = filter.Range (record { rule = limits; only = only; spot = spot_at 0 })
+started (bound.Crop shape outside) only = filter.Crop (record { rule = record { shape = shape; outside = outside }; only = only; spot = spot_at 0 })
+started (bound.Assign list) only = filter.Assign (record { rule = list; only = only; spot = spot_at 0 })
+started (bound.Expression condition) only = filter.Expression (record { rule = record { 0 = condition }; only = only; spot = spot_at 0 })
+started (bound.Decimation step offset limit) only = filter.Decimation (record { rule = record { step = step; offset = offset; limit = limit }; only = only; spot = spot_at 0 })
+started (bound.Head count) only = filter.Head (record { rule = record { count = count }; only = only; spot = spot_at 0 })
+started (bound.Returns groups) only = filter.Returns (record { rule = groups; only = only; spot = spot_at 0 })
+started bound.Merge only = filter.Merge
 
 -- the form of a writer's file, by its options and where it stands
 abbrev pub file_for : Options → Setting → Option FileForm
@@ -81,7 +86,8 @@ file_for _ setting = None
 
 -- by what a stage does; each that writes has a file
 abbrev pub does_with : BoundStage → Option FileForm → StageForm
-does_with (does.Filters f) form = Filters (started f)
+does_with (does.Filters f only) form = Filters (started f only)
+does_with (does.Gathers g) form = Gathers g
 does_with (does.Writes only) (Some form) = Writes (record { form = form; only = only })
 does_with _ form = Reads
 
@@ -107,10 +113,17 @@ pub record IsBegun {S K : Type 0} (bytes : K → Option (List ℕ)) (writing : W
   pub state : state_of w ≡ begun writing
   pub holds : holds_of bytes w [] ≡ true
 
+-- a stage that needs whole views and took none yet
+pub record HoldsNone (g : Gathering) (c : Collecting) : Type 0 where
+  pub gathering : c.gathering ≡ g
+  pub short : c.short ≡ false
+  pub views : c.views ≡ empty_flow
+
 -- a work made of this that had no turn yet
 abbrev pub IsStarted : {S K : Type 0} → (K → Option (List ℕ)) → StageForm → StageWork S K → Type 0
 IsStarted bytes Reads (Reader r) = r.progress ≡ Records 0
 IsStarted bytes (Filters f) (Filter g) = g ≡ f
+IsStarted bytes (Gathers g) (Collector c) = HoldsNone g c
 IsStarted {S} {K} bytes (Writes writing) (Writer w) = IsBegun {S = S} {K = K} bytes writing (Writer w)
 IsStarted bytes _ _ = ⊥
 
@@ -122,6 +135,7 @@ IsAtStart bytes o setting w = IsStarted bytes (form_for o setting) w
 abbrev pub op_for : Role → Option Op
 op_for (role.Reads name) = Some Read
 op_for role.Filters = None
+op_for role.Gathers = None
 op_for (role.Writes name) = Some Write
 
 -- the numbers of the stages that each stage takes

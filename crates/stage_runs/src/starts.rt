@@ -7,6 +7,7 @@ ghost use Rattle.stage_options.specs.Roles.{is_writing, role_of};
 ghost use Rattle.stage_runs.specs.Works.{IsBoundBehind, IsGood, file_for, form_for, started};
 
 use cloud_points::ExtraNames;
+use expr_eval::Bound;
 use file_devices::Source;
 use las_reader::LasReader;
 use stage_forms::{las_form, text_form};
@@ -15,22 +16,20 @@ use stage_options::{BoundFilter, BoundStage, Options};
 use std::alloc::{AllocError, Global};
 use stream_filters::{Condition, Crop, Decimation, Filter, Head, PointFilter};
 
-/// A filter with these options, before all points.
-fn filter_of(bound: BoundFilter) -> Filter
-    ensures { result ≡ started bound }
+/// A filter that does this with the points for which a condition holds, before all points.
+fn filter_of(bound: BoundFilter, only: Option<Bound>) -> Filter
+    ensures { result ≡ started bound only }
 {
     match bound {
-        BoundFilter::Range(limits, only) => Filter::Range(PointFilter::new(limits, only)),
-        BoundFilter::Crop(shape, outside, only) => {
+        BoundFilter::Range(limits) => Filter::Range(PointFilter::new(limits, only)),
+        BoundFilter::Crop(shape, outside) => {
             Filter::Crop(PointFilter::new(Crop { shape, outside }, only))
         }
-        BoundFilter::Assign(assignments, only) => {
-            Filter::Assign(PointFilter::new(assignments, only))
-        }
-        BoundFilter::Expression(condition, only) => {
+        BoundFilter::Assign(assignments) => { Filter::Assign(PointFilter::new(assignments, only)) }
+        BoundFilter::Expression(condition) => {
             Filter::Expression(PointFilter::new(Condition(condition), only))
         }
-        BoundFilter::Decimation(step, offset, limit, only) => {
+        BoundFilter::Decimation(step, offset, limit) => {
             Filter::Decimation(PointFilter::new(
                 Decimation {
                     step,
@@ -40,8 +39,8 @@ fn filter_of(bound: BoundFilter) -> Filter
                 only,
             ))
         }
-        BoundFilter::Returns(groups, only) => Filter::Returns(PointFilter::new(groups, only)),
-        BoundFilter::Head(count, only) => Filter::Head(PointFilter::new(Head { count }, only)),
+        BoundFilter::Returns(groups) => Filter::Returns(PointFilter::new(groups, only)),
+        BoundFilter::Head(count) => Filter::Head(PointFilter::new(Head { count }, only)),
         BoundFilter::Merge => Filter::Merge,
     }
 }
@@ -90,7 +89,8 @@ pub fn stage_form<S: Source>(
 {
     match bound {
         BoundStage::Reads => Ok(StageForm::Reads),
-        BoundStage::Filters(filter) => Ok(StageForm::Filters(filter_of(filter))),
+        BoundStage::Filters(filter, only) => Ok(StageForm::Filters(filter_of(filter, only))),
+        BoundStage::Gathers(gathering) => Ok(StageForm::Gathers(gathering)),
         BoundStage::Writes(only) => {
             let form = file_form(alloc, options, names, readers, below)?;
             Ok(StageForm::Writes(Writing { form, only }))

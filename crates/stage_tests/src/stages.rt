@@ -2,7 +2,7 @@
 
 ghost use Rattle.std.specs.Prelude.{◌≡◌, true, false, IfOk, IfSome};
 ghost use Rattle.text_writer.specs.TextOutput.{IsTextForm};
-ghost use Rattle.stage_kinds.specs.Stages.{is_reader};
+ghost use Rattle.stage_kinds.specs.Stages.{is_leaf};
 
 use cloud_points::{Dim, Make, Point, PointFault, Spread, StageFault, Work, put_points};
 use file_devices::{MemIn, MemOut, Name, Op};
@@ -122,7 +122,7 @@ fn text_form(alloc: Global) -> Result<TextForm, AllocError>
 
 /// A work that is no reader.
 fn writer(alloc: Global, sink: MemOut) -> Option<Stage>
-    ensures { IfSome result (λ w. is_reader w ≡ false) }
+    ensures { IfSome result (λ w. is_leaf w ≡ false) }
 {
     let form = FileForm::Text(text_form(alloc).ok()?);
     match begin_file(alloc, sink, Writing { form, only: None }) {

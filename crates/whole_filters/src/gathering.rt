@@ -1,6 +1,6 @@
 //! What a stage does that needs whole views.
 
-ghost use Rattle.std.specs.Prelude.{◌≡◌, false, [], IfOk};
+ghost use Rattle.std.specs.Prelude.{◌≡◌, IfOk};
 ghost use Rattle.whole_filters.specs.Gathered.{gathered};
 
 use crate::{Views, groupby, sort, tail};
@@ -18,12 +18,13 @@ pub enum Gathering {
     GroupBy(Dim),
 }
 
-/// What becomes of views, by `sort`, `tail` or `groupby`. It is refused for want of memory alone, and then drops its views.
+/// What becomes of views, by `sort`, `tail` or `groupby`; an open view is dropped. It is refused for want of memory alone, and then
+/// drops its views.
 pub fn gather(alloc: Global, views: Views, how: Gathering) -> Result<Views, AllocError>
-    requires { views.cut ≡ false → views.open_view ≡ [] }
     ensures { IfOk result (λ made. made ≡ gathered how views) }
 {
     let mut views = views;
+    views.drop_open();
     match how {
         Gathering::Sort(dim, down) => {
             sort(alloc, &mut views, dim, down)?;

@@ -92,6 +92,13 @@ impl Views {
         Ok(())
     }
 
+    /// Drops the points of the open view.
+    pub(crate) fn drop_open(&mut self)
+        ensures { self.new ≡ record self.old { open_view = [] } }
+    {
+        self.last = Rows::none(self.alloc);
+    }
+
     /// Marks the views as cut off.
     pub fn set_cut(&mut self)
         ensures { self.new ≡ record self.old { cut = true } }

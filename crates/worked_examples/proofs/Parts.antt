@@ -151,9 +151,9 @@ pub two_writers_of_a_name : planned (codes "[\"in.las\",{\"type\":\"writers.text
 unfolding is_utf8 chars encode value punctuate lex content
 two_writers_of_a_name = refl
 
-pub a_sort : planned (codes "[\"in.las\",{\"type\":\"filters.sort\",\"dimension\":\"Z\"},\"o.txt\"]") ≡ Err (NotBuilt 4)
+pub another_order : planned (codes "[\"in.las\",{\"type\":\"filters.sort\",\"dimension\":\"Z\",\"order\":\"up\"},\"o.txt\"]") ≡ Err (Pipeline (OptionValue 1 (codes "order")))
 unfolding is_utf8 chars encode value punctuate lex content
-a_sort = refl
+another_order = refl
 
 -- two readers and the writer that takes both
 abbrev joining : List ℕ → List StageSpec

@@ -69,7 +69,7 @@ pub fn files_are_refused()
 {}
 
 /// A pipeline file that isn't there can't be opened, and one whose text is no tree of stages with right options is refused
-/// for its first fault. A tree with a stage that isn't built, or that takes two others, isn't run.
+/// for its first fault.
 pub fn pipelines_are_refused()
     ensures absent { answer run_p (λ name. None) ≡ Err (Refusal.Device Place.PipelineFile Op.Open) }
     ensures empty_array { answer run_p (files_with (codes "[]") file_a) ≡ Err (Refusal.Pipeline PipeFault.Empty) }
@@ -84,7 +84,7 @@ pub fn pipelines_are_refused()
     ensures an_unknown_option { answer run_p (files_with (codes "[\"in.las\",{\"type\":\"filters.head\",\"cuont\":1},\"o.txt\"]") file_a) ≡ Err (Refusal.Pipeline (PipeFault.OptionUnknown 1 (codes "cuont"))) }
     ensures a_count_too_large { answer run_p (files_with (codes "[\"in.las\",{\"type\":\"filters.head\",\"count\":4294967296},\"o.txt\"]") file_a) ≡ Err (Refusal.Pipeline (PipeFault.OptionValue 1 (codes "count"))) }
     ensures two_writers_of_a_name { answer run_p (files_with (codes "[\"in.las\",{\"type\":\"writers.text\",\"filename\":\"o.txt\"},\"o.txt\"]") file_a) ≡ Err (Refusal.Pipeline (PipeFault.SameOutput 2)) }
-    ensures a_sort { answer run_p (files_with (codes "[\"in.las\",{\"type\":\"filters.sort\",\"dimension\":\"Z\"},\"o.txt\"]") file_a) ≡ Err (Refusal.NotBuilt 4) }
+    ensures another_order { answer run_p (files_with (codes "[\"in.las\",{\"type\":\"filters.sort\",\"dimension\":\"Z\",\"order\":\"up\"},\"o.txt\"]") file_a) ≡ Err (Refusal.Pipeline (PipeFault.OptionValue 1 (codes "order"))) }
 {}
 
 /// Words that are no command are refused for the first one that is wrong or missing, whatever files there are, and some

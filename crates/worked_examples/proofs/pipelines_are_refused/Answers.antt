@@ -18,5 +18,5 @@ returns c = record {
   an_unknown_option = refused _ parts.an_unknown_option;
   a_count_too_large = refused _ parts.a_count_too_large;
   two_writers_of_a_name = refused _ parts.two_writers_of_a_name;
-  a_sort = refused _ parts.a_sort;
+  another_order = refused _ parts.another_order;
 }

@@ -1,5 +1,5 @@
 use Rattle.std.proofs.Common.{◌≡◌, refl, ap, sym, subst, ◌∙◌, arith}
-use Rattle.stage_kinds.specs.declared.stage_work.StageWork.TheVariants.{Reader, Filter}
+use Rattle.stage_kinds.specs.declared.stage_work.StageWork.TheVariants.{Reader, Filter, Collector}
 use Rattle.stage_options.specs.Roles.{is_reading, role_of}
 use Rattle.stage_options.specs.Roles as role
 use Rattle.stage_runs.specs.Works.{IsStarted, op_for}
@@ -27,3 +27,19 @@ returns-in-Filters-clause-ok g c =
 
 pub returns-in-Filters-clause-lent_ok : goal.returns-in-Filters-clause-lent_ok
 returns-in-Filters-clause-lent_ok g c = let nothing = ap there c.in_default.is in omega (arith, nothing)
+
+pub returns-in-Gathers-clause-ok : goal.returns-in-Gathers-clause-ok
+returns-in-Gathers-clause-ok g c =
+    let s = g.F.In.Source in
+    let k = g.F.Out.Sink in
+    let map = g.F.Files.map c.args.files.now in
+    let o = c.args.stage.now.options in
+    let w = c.new.result in
+    let does : role_of o ≡ role.Gathers = subst (IsForm (role_of o)) c.in-Gathers.is c.requires.form in
+    subst (λ r. IsWork s k map c.args.number o r c.args.form (Collector w)) (sym c.in_default.is)
+    (other-work s k map c.args.number o c.args.form (Collector w) (ap is_reading does) (sym (ap op_for does))
+    (λ setting e. subst (λ form. IsStarted {S = g.row.F-In.Denot} k.bytes form (Collector w)) (sym c.in-Gathers.is ∙ e)
+    (record { gathering = c.new.ensures.gathering; short = c.new.ensures.short; views = c.new.ensures.views })))
+
+pub returns-in-Gathers-clause-lent_ok : goal.returns-in-Gathers-clause-lent_ok
+returns-in-Gathers-clause-lent_ok g c = let nothing = ap there c.in_default.is in omega (arith, nothing)

@@ -10,6 +10,7 @@ use Rattle.run_engine.specs.Cause.{IsCause}
 use Rattle.run_engine.specs.Keeping.{kept_first, BrokeOff}
 use Rattle.run_engine.specs.Turns.{WorksTell, AreDone, IsRunCause}
 use Rattle.stage_forms.specs.Below.{AreReaders}
+use Rattle.run_engine.proofs.Keeping.{untold-kept, untold-broke}
 use Rattle.run_engine.proofs.Inputs.{few-stages}
 use Rattle.run_engine.proofs.Results.{ok-of, err-of}
 use Rattle.run_engine.proofs.Causes.{rose-within, cause-weaker}
@@ -156,3 +157,12 @@ keep_works-requires-clause-fit g c =
 
 pub keep_works-requires-clause-few : goal.keep_works-requires-clause-few
 keep_works-requires-clause-few g c = few-stages c.args.stages.now c.requires.tree
+
+pub returns-in-Ok-keep_works-clause-untold : goal.returns-in-Ok-keep_works-clause-untold
+returns-in-Ok-keep_works-clause-untold g c = λ none. untold-kept g.F.Out.Sink.bytes (length c.take_turns-works.result.works.items) (g.F.Files.map c.args.files.now) (g.F.Files.map c.begin_works.new.files) (g.F.Files.map c.keep_works.new.files)
+    c.args.stages.now c.take_turns-works.result.works.items (c.begin_works.ensures.map ∙ c.open_readers.ensures.map) c.in-Ok-keep_works.ensures.ok none
+
+pub returns-in-Err-keep_works-clause-untold : goal.returns-in-Err-keep_works-clause-untold
+returns-in-Err-keep_works-clause-untold g c = λ none. untold-broke g.F.Out.Sink.bytes (g.F.Files.map c.args.files.now) (g.F.Files.map c.begin_works.new.files) (g.F.Files.map c.keep_works.new.files)
+    (Rose (g.F.Files.faults c.begin_works.new.files) (g.F.Files.faults c.keep_works.new.files)) c.args.stages.now c.take_turns-works.result.works.items c.in-Err-keep_works.refusal
+    (c.begin_works.ensures.map ∙ c.open_readers.ensures.map) c.in-Err-keep_works.ensures.err none

@@ -1,48 +1,105 @@
-use Rattle.std.proofs.Common.{List, map, length, ap, sym, subst, ◌∙◌, arith}
+use Rattle.std.proofs.Common.{◌≡◌, List, map, length, Err, IfErr, ap, sym, subst, ◌∙◌, arith}
 use Rattle.network_core.specs.declared.node.Node.{Node}
 use Rattle.network_core.specs.Shown.{work_of}
 use Rattle.stage_kinds.specs.Held.{faults_of}
-use Rattle.answer_model.proofs.Values.{tree-down}
+use Rattle.stage_runs.specs.Parts.{AreLater as AreLaterNodes}
+use Rattle.stage_runs.specs.Ran.{AreRanStages}
+use Rattle.stage_runs.proofs.Lending.{slice-back}
+use Rattle.run_report.specs.declared.refusal.Refusal.TheVariants.{Memory}
 use Rattle.run_engine.specs.Outcomes.{NoFault, AreCounted, IsOutcome}
 use Rattle.run_engine.specs.Turns.{AreLater, CameToEnd, IsTurnsCause}
-use Rattle.run_engine.proofs.Results.{if-ok3, if-err}
-use Rattle.run_engine.proofs.Ran.{later, came, turns-cause, same-later, no-fault-device}
+use Rattle.run_engine.proofs.Results.{if-ok3, if-err, ok-same}
+use Rattle.run_engine.proofs.Ran.{later, came, turns-cause, no-fault-device}
+use Rattle.run_engine.proofs.turns.turn_works.Goals.{in-Ok-ran, in-Err}
 use Rattle.run_engine.proofs.turns.turn_works.Goals as goal
 
-pub returns-in-Ok-run_stages-clause-later : goal.returns-in-Ok-run_stages-clause-later
-returns-in-Ok-run_stages-clause-later g c = subst (AreLater (faults_of g.S.Source.faults g.K.Sink.faults) c.args.works.items) (sym c.works_in-works.ensures)
-    (later g.S.Source g.K.Sink c.args.stages.now c.nodes_over-nodes.result.items c.in-Ok-run_stages.nodes.items c.args.works.items c.nodes_over-nodes.ensures.works c.nodes_over-nodes.ensures.new c.in-Ok-run_stages.ensures.ran)
+pub returns-clause-later : goal.returns-clause-later
+returns-clause-later g c =
+    let s = g.S.Source in
+    let k = g.K.Sink in
+    let stages = c.args.stages.now in
+    let works = c.args.works.items in
+    let made = c.nodes_over-nodes.ensures in
+    let old = c.nodes_over-nodes.result.items in
+    let new = c.run_stages-ran.new.nodes in
+    let lasted = subst (λ xs. AreLaterNodes s k xs new) c.as_mut_slice.ensures.value c.run_stages-ran.ensures.later in
+    let back = slice-back old new c.nodes_over-nodes.result.len lasted.count c.nodes_over-nodes.result.ok.0 in
+    let is-works = c.works_in-works.ensures ∙ ap (map work_of) back in
+    subst (AreLater (faults_of s.faults k.faults) works) (sym is-works) (later s k stages old new works made.works made.new lasted)
 
-pub returns-in-Ok-run_stages-clause-ok : goal.returns-in-Ok-run_stages-clause-ok
-returns-in-Ok-run_stages-clause-ok g c =
-    let out = c.outcome-outcome.ensures in
-    if-ok3 c.outcome-outcome.result out.sound out.count out.counted (λ report sound count counted opened tell.
-    let none = subst (λ (ns : List (Node _)). NoFault ns) c.deref.ensures.value sound in
-    subst (λ ws. CameToEnd g.K.Sink.bytes c.args.stages.now opened ws report.items) (sym c.works_in-works.ensures)
-    (came g.S.Source g.K.Sink c.args.stages.now c.nodes_over-nodes.result.items c.in-Ok-run_stages.nodes.items c.args.works.items c.nodes_over-nodes.ensures.works c.nodes_over-nodes.ensures.new c.in-Ok-run_stages.ensures.ran
-    opened tell (tree-down c.args.stages.now c.requires.tree) (λ i m e. no-fault-device m.fault (none i m e)) none report.items count
-    (subst (λ (ns : List (Node _)). AreCounted c.args.stages.now ns report.items) c.deref.ensures.value counted)))
+pub returns-clause-ok : goal.returns-clause-ok
+returns-clause-ok g c =
+    let s = g.S.Source in
+    let k = g.K.Sink in
+    let stages = c.args.stages.now in
+    let works = c.args.works.items in
+    let made = c.nodes_over-nodes.ensures in
+    let old = c.nodes_over-nodes.result.items in
+    let new = c.run_stages-ran.new.nodes in
+    let lasted = subst (λ xs. AreLaterNodes s k xs new) c.as_mut_slice.ensures.value c.run_stages-ran.ensures.later in
+    let back = slice-back old new c.nodes_over-nodes.result.len lasted.count c.nodes_over-nodes.result.ok.0 in
+    let is-works = c.works_in-works.ensures ∙ ap (map work_of) back in
+    elim c.match-ran.branch [
+      | in-Ok-ran w ↦ (
+          let ran = subst (λ xs. AreRanStages s k stages xs new) c.as_mut_slice.ensures.value w.in-Ok-ran.ensures.ran in
+          let nodes = w.deref.ensures.value ∙ back in
+          let out = w.outcome-outcome.ensures in
+          ok-same _ c.match-ran.outcome w.outcome-outcome.result w.outcome-is (if-ok3 w.outcome-outcome.result out.sound out.count out.counted (λ report sound count counted opened tell.
+          let none = subst (λ (ns : List (Node _)). NoFault ns) nodes sound in
+          subst (λ ws. CameToEnd k.bytes stages opened ws report.items) (sym is-works)
+          (came s k stages old new works made.works made.new lasted ran opened tell (λ i m e. no-fault-device m.fault (none i m e)) none report.items count
+          (subst (λ (ns : List (Node _)). AreCounted stages ns report.items) nodes counted)))))
+      | in-Err w ↦ ok-same _ c.match-ran.outcome (Err Memory) w.outcome-is tt
+    ]
 
-pub returns-in-Ok-run_stages-clause-err : goal.returns-in-Ok-run_stages-clause-err
-returns-in-Ok-run_stages-clause-err g c = if-err c.outcome-outcome.result c.outcome-outcome.ensures.err (λ refusal out.
-    subst (λ ws. IsTurnsCause g.S.Source (faults_of g.S.Source.faults g.K.Sink.faults) c.args.stages.now c.args.works.items ws refusal) (sym c.works_in-works.ensures)
-    (turns-cause g.S.Source g.K.Sink c.args.stages.now c.nodes_over-nodes.result.items c.in-Ok-run_stages.nodes.items c.args.works.items c.nodes_over-nodes.ensures.works c.nodes_over-nodes.ensures.new c.in-Ok-run_stages.ensures.ran
-    (tree-down c.args.stages.now c.requires.tree) refusal (subst (λ (ns : List (Node _)). IsOutcome ns refusal) c.deref.ensures.value out)))
-
-pub returns-in-Err-clause-later : goal.returns-in-Err-clause-later
-returns-in-Err-clause-later g c = same-later (faults_of g.S.Source.faults g.K.Sink.faults) c.args.works.items c.works_in-works-in-Err.result.items
-    (c.works_in-works-in-Err.ensures ∙ ap (map work_of) c.in-Err.ensures.refused ∙ c.nodes_over-nodes.ensures.works)
+pub returns-clause-err : goal.returns-clause-err
+returns-clause-err g c =
+    let s = g.S.Source in
+    let k = g.K.Sink in
+    let stages = c.args.stages.now in
+    let works = c.args.works.items in
+    let made = c.nodes_over-nodes.ensures in
+    let old = c.nodes_over-nodes.result.items in
+    let new = c.run_stages-ran.new.nodes in
+    let lasted = subst (λ xs. AreLaterNodes s k xs new) c.as_mut_slice.ensures.value c.run_stages-ran.ensures.later in
+    let back = slice-back old new c.nodes_over-nodes.result.len lasted.count c.nodes_over-nodes.result.ok.0 in
+    let is-works = c.works_in-works.ensures ∙ ap (map work_of) back in
+    let P = IsTurnsCause s (faults_of s.faults k.faults) stages works c.works_in-works.result.items in
+    elim c.match-ran.branch [
+      | in-Ok-ran w ↦ (
+          let ran = subst (λ xs. AreRanStages s k stages xs new) c.as_mut_slice.ensures.value w.in-Ok-ran.ensures.ran in
+          subst (λ o. IfErr o P) (sym w.outcome-is) (if-err w.outcome-outcome.result w.outcome-outcome.ensures.err (λ refusal out.
+          subst (λ ws. IsTurnsCause s (faults_of s.faults k.faults) stages works ws refusal) (sym is-works)
+          (turns-cause s k stages old new works made.works made.new lasted ran refusal (subst (λ (ns : List (Node _)). IsOutcome ns refusal) (w.deref.ensures.value ∙ back) out)))))
+      | in-Err w ↦ subst (λ o. IfErr o P) (sym w.outcome-is) tt
+    ]
 
 pub outcome-outcome-requires-clause-fit : goal.outcome-outcome-requires-clause-fit
 outcome-outcome-requires-clause-fit g c =
-    let same = ap (λ (ns : List (Node _)). length ns) c.deref.ensures.value in
-    let ran = c.in-Ok-run_stages.ensures.ran.tree.count in
-    let new = c.nodes_over-nodes.ensures.new.count in
-    omega (arith, same, ran, new)
+    let s = g.S.Source in
+    let k = g.K.Sink in
+    let stages = c.args.stages.now in
+    let works = c.args.works.items in
+    let made = c.nodes_over-nodes.ensures in
+    let old = c.nodes_over-nodes.result.items in
+    let new = c.run_stages-ran.new.nodes in
+    let lasted = subst (λ xs. AreLaterNodes s k xs new) c.as_mut_slice.ensures.value c.run_stages-ran.ensures.later in
+    let back = slice-back old new c.nodes_over-nodes.result.len lasted.count c.nodes_over-nodes.result.ok.0 in
+    ap (λ (ns : List (Node _)). length ns) (c.deref.ensures.value ∙ back) ∙ lasted.count ∙ made.new.count
 
 pub works_in-works-requires-clause-room : goal.works_in-works-requires-clause-room
 works_in-works-requires-clause-room g c =
-    let ran = c.in-Ok-run_stages.ensures.ran.tree.count in
-    let new = c.nodes_over-nodes.ensures.new.count in
+    let s = g.S.Source in
+    let k = g.K.Sink in
+    let stages = c.args.stages.now in
+    let works = c.args.works.items in
+    let made = c.nodes_over-nodes.ensures in
+    let old = c.nodes_over-nodes.result.items in
+    let new = c.run_stages-ran.new.nodes in
+    let lasted = subst (λ xs. AreLaterNodes s k xs new) c.as_mut_slice.ensures.value c.run_stages-ran.ensures.later in
+    let back = slice-back old new c.nodes_over-nodes.result.len lasted.count c.nodes_over-nodes.result.ok.0 in
+    let left = ap (λ (ns : List (Node _)). length ns) back in
+    let stay = lasted.count in
+    let many = made.new.count in
     let room = c.in-Ok-with_capacity.ensures.capacity in
-    omega (arith, ran, new, room)
+    omega (arith, left, stay, many, room)

@@ -1,20 +1,20 @@
 use Rattle.stage_kinds.proofs.Telling.{gives_told, still_tells}
 use Rattle.stage_kinds.proofs.stage_work.StageWorkWork.make.Goals as goal
 
-pub returns-clause-part : goal.returns-clause-part
-returns-clause-part g c = λ tells calm.
+pub returns-in-Reader-clause-part : goal.returns-in-Reader-clause-part
+returns-in-Reader-clause-part g c = λ tells calm.
     let r = c.in-Reader.reader in
     let next = c.next.new.self in
     rw c.in-Reader.is ((gives_told (g.S.Source.bytes r.source) (g.S.Source.bytes next.source) r.header next.header c.args.chunk r.progress next.progress c.next.result c.next.new.into.items c.next.ensures.bytes c.next.ensures.header c.next.ensures.told (rw c.in-Reader.is at tells) calm).part)
 
-pub returns-clause-fault : goal.returns-clause-fault
-returns-clause-fault g c = λ tells calm.
+pub returns-in-Reader-clause-fault : goal.returns-in-Reader-clause-fault
+returns-in-Reader-clause-fault g c = λ tells calm.
     let r = c.in-Reader.reader in
     let next = c.next.new.self in
     rw c.in-Reader.is ((gives_told (g.S.Source.bytes r.source) (g.S.Source.bytes next.source) r.header next.header c.args.chunk r.progress next.progress c.next.result c.next.new.into.items c.next.ensures.bytes c.next.ensures.header c.next.ensures.told (rw c.in-Reader.is at tells) calm).fault)
 
-pub returns-clause-tells : goal.returns-clause-tells
-returns-clause-tells g c = λ tells calm goes_on.
+pub returns-in-Reader-clause-tells : goal.returns-in-Reader-clause-tells
+returns-in-Reader-clause-tells g c = λ tells calm goes_on.
     let r = c.in-Reader.reader in
     let next = c.next.new.self in
     still_tells (g.S.Source.bytes r.source) (g.S.Source.bytes next.source) r.header next.header c.args.chunk r.progress next.progress c.next.result c.next.new.into.items c.next.ensures.bytes c.next.ensures.header c.next.ensures.told (rw c.in-Reader.is at tells) calm goes_on

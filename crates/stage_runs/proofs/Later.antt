@@ -1,0 +1,169 @@
+-- Nodes later.
+use Rattle.std.proofs.Common.{◌≡◌, ◌⊎◌, ℕ, zero, suc, ◌≤◌, ◌<◌, ◌+◌, ◌++◌, ◌∷◌, [], Bool, true, false, not, true≢false, List, length, Some, None, is_some, slice_get, slice_set, length-set, refl, ap, sym, subst, ◌∙◌, inl, inr, arith}
+use Rattle.std.proofs.lemmas.Bool.Decides.{eqb_tells}
+use Rattle.circular_buffer.proofs.Places.{slice_get-set_same, slice_get-set_other}
+use Rattle.std.proofs.lemmas.Option.{none-some, same_Some, slice_get_within}
+use Rattle.file_devices.specs.Counts.{Rose}
+use Rattle.file_devices.specs.declared.devices.Source as source
+use Rattle.file_devices.specs.declared.devices.Sink as sink
+use Rattle.cloud_points.specs.declared.faults.StageFault.TheVariants as stage
+use Rattle.cloud_points.specs.Events.{is_device, IsOf}
+use Rattle.network_theory.specs.Forest.{IsForest, children}
+use Rattle.network_theory.specs.Shape.{Each}
+use Rattle.network_theory.specs.Opening.{IsFresh}
+use Rattle.network_core.specs.declared.node.Node.{Node}
+use Rattle.network_core.specs.Shown.{shown}
+use Rattle.network_core.proofs.Opened.{some_at}
+use Rattle.network_solo.specs.Trees.{IsRanTree}
+use Rattle.stage_kinds.specs.declared.stage_work.StageWork.{StageWork}
+use Rattle.stage_kinds.specs.declared.stage_work.StageWork.TheVariants.{Reader, Filter, Collector, Views, Writer}
+use Rattle.stage_kinds.specs.Held.{op_of, faults_of}
+use Rattle.stage_runs.specs.Works.{as_works}
+use Rattle.cloud_points.specs.Flows.{empty_flow}
+use Rattle.stage_runs.specs.Parts.{IsLater, AreLater, AreSameOrLater, AreStandIns, IsNewLeaf, Gives}
+
+-- ---- lists
+
+pub last-of : {A : Type 0} (xs : List A) (x : A) → slice_get (xs ++ x ∷ []) (length xs) ≡ Some x
+last-of [] x = refl
+last-of (y ∷ xs) x = last-of xs x
+
+pub first-of : {A : Type 0} (xs ys : List A) (i : ℕ) (x : A) → slice_get xs i ≡ Some x → slice_get (xs ++ ys) i ≡ Some x
+first-of [] ys i x e = absurd (none-some x e)
+first-of (y ∷ xs) ys zero x e = e
+first-of (y ∷ xs) ys (suc i) x e = first-of xs ys i x e
+
+pub at-push : {A : Type 0} (xs : List A) (x y : A) (i : ℕ) → slice_get (xs ++ x ∷ []) i ≡ Some y → (slice_get xs i ≡ Some y) ⊎ (y ≡ x)
+at-push [] x y zero e = inr (sym (same_Some x y e))
+at-push [] x y (suc i) e = absurd (none-some y e)
+at-push (z ∷ xs) x y zero e = inl e
+at-push (z ∷ xs) x y (suc i) e = at-push xs x y i e
+
+pub length-push : {A : Type 0} (xs : List A) (x : A) → length (xs ++ x ∷ []) ≡ length xs + 1
+length-push [] x = refl
+length-push (y ∷ xs) x = let r = length-push xs x in omega (arith, r)
+
+pub only-one : {A : Type 0} (xs ys : List A) (x : A) → ys ≡ xs ++ x ∷ [] → length ys ≡ 1 → ys ≡ x ∷ []
+only-one [] ys x e one = e
+only-one (y ∷ xs) ys x e one = absurd (let a = length-push xs x in let b = ap length e in omega (arith, a, b, one))
+
+-- a node alone
+pub alone-forest : IsForest ([] ∷ []) 0
+alone-forest = record { nodes = refl; below = below; once = λ k l. absurd (omega (arith, l)) }
+  where
+    below : (k : ℕ) → Each (λ j. j < k) (children ([] ∷ []) k)
+    below zero = tt
+    below (suc k) = tt
+
+pub not-short : (b : Bool) → not b ≡ true → b ≡ false
+not-short true e = absurd (true≢false (sym e))
+not-short false e = refl
+
+rose-back : (a b c : ℕ) → a ≤ b → Rose b c → Rose a c
+rose-back a b c l r = omega (arith, l, r)
+
+module _ {S K : Type 0} (s : source.Ghosts S) (k : sink.Ghosts K) where
+  -- a node without a fault is later than itself
+  pub itself : (n : Node (StageWork S K)) → n.fault ≡ None → IsLater s k n n
+  itself n none = record {
+    op = refl;
+    faults = omega arith;
+    cause = λ d. absurd (true≢false (sym d ∙ ap is_device none));
+    named = subst (IsOf (op_of n.work)) (sym none) tt;
+  }
+
+  pub later-on : (n m l : Node (StageWork S K)) → IsLater s k n m → IsLater s k m l → IsLater s k n l
+  later-on n m l first second = record {
+    op = second.op ∙ first.op;
+    faults = (let a = first.faults in let b = second.faults in omega (arith, a, b));
+    cause = λ d. rose-back (faults_of s.faults k.faults n.work) (faults_of s.faults k.faults m.work) (faults_of s.faults k.faults l.work) first.faults (second.cause d);
+    named = subst (λ o. IsOf o l.fault) first.op second.named;
+  }
+
+  -- nodes that took turns are later
+  pub ran-later : (ins : List (List ℕ)) (nodes ended : List (Node (StageWork S K))) → ((i : ℕ) (n : Node (StageWork S K)) → slice_get nodes i ≡ Some n → IsFresh (shown (as_works s k) (children ins i) n))
+      → IsRanTree (as_works s k) ins nodes ended → AreLater s k nodes ended
+  ran-later ins nodes ended fresh ran = record {
+    count = ran.count;
+    each = λ i n m e f.
+        let calm = ran.calm i n m e f in
+        let none : is_some n.fault ≡ false = ap is_some (fresh i n e).fault in
+        record { op = calm.op; faults = calm.faults; cause = calm.cause none; named = calm.named none };
+  }
+
+  pub same-later : (ins : List (List ℕ)) (nodes : List (Node (StageWork S K))) → ((i : ℕ) (n : Node (StageWork S K)) → slice_get nodes i ≡ Some n → IsFresh (shown (as_works s k) (children ins i) n)) → AreLater s k nodes nodes
+  same-later ins nodes fresh = record {
+    count = refl;
+    each = λ i n m e f. subst (IsLater s k n) (same_Some n m (sym e ∙ f)) (itself n (fresh i n e).fault);
+  }
+
+  -- one step more
+  pub step-later : (old now next : List (Node (StageWork S K))) → AreLater s k old now → AreSameOrLater s k now next → AreLater s k old next
+  step-later old now next first second = record {
+    count = second.count ∙ first.count;
+    each = λ i n l e f.
+        let m = some_at now i (let a = slice_get_within next i l f in let b = second.count in omega (arith, a, b)) in
+        let was = first.each i n m.0 e m.1 in
+        elim (second.each i m.0 l m.1 f) [
+          | inl same ↦ subst (IsLater s k n) (sym same) was
+          | inr x ↦ later-on n m.0 l was x
+        ];
+  }
+
+  -- two steps are one
+  pub steps-later : (old now next : List (Node (StageWork S K))) → AreSameOrLater s k old now → AreSameOrLater s k now next → AreSameOrLater s k old next
+  steps-later old now next first second = record {
+    count = second.count ∙ first.count;
+    each = λ i n l e f.
+        let m = some_at now i (let a = slice_get_within next i l f in let b = second.count in omega (arith, a, b)) in
+        elim (second.each i m.0 l m.1 f) [
+          | inl same ↦ elim (first.each i n m.0 e m.1) [ inl was ↦ inl (same ∙ was) | inr x ↦ inr (subst (IsLater s k n) (sym same) x) ]
+          | inr y ↦ elim (first.each i n m.0 e m.1) [ inl was ↦ inr (subst (λ x. IsLater s k x l) was y) | inr x ↦ inr (later-on n m.0 l x y) ]
+        ];
+  }
+
+  -- one leaf more that gives nothing
+  pub one-stands-in : (size : ℕ) (nodes : List (Node (StageWork S K))) (n : Node (StageWork S K)) → AreStandIns s k size nodes → IsNewLeaf s k n → Gives s k empty_flow n → AreStandIns s k (size + 1) (nodes ++ n ∷ [])
+  one-stands-in size nodes n are leaf gives = record {
+    count = length-push nodes n ∙ ap (λ z. z + 1) are.count;
+    each = λ i m e. elim (at-push nodes n m i e) [ inl f ↦ are.each i m f | inr same ↦ (subst (IsNewLeaf s k) (sym same) leaf, subst (Gives s k empty_flow) (sym same) gives) ];
+  }
+
+  pub none-stand-in : (nodes : List (Node (StageWork S K))) → nodes ≡ [] → AreStandIns s k 0 nodes
+  none-stand-in nodes e = record {
+    count = ap length e;
+    each = λ i n f. absurd (none-some n (sym (ap (λ ns. slice_get ns i) e) ∙ f));
+  }
+
+  -- a node is exchanged for a later one
+  pub set-later : (nodes : List (Node (StageWork S K))) (at : ℕ) (was is : Node (StageWork S K)) → slice_get nodes at ≡ Some was → IsLater s k was is → AreSameOrLater s k nodes (slice_set nodes at is)
+  set-later nodes at was is e later = record {
+    count = length-set nodes at is;
+    each = λ i n m f g. elim (eqb_tells i at) [
+      | inl p ↦ (
+          let old : was ≡ n = same_Some was n (sym e ∙ ap (slice_get nodes) (sym p.1) ∙ f) in
+          let new : is ≡ m = same_Some is m (sym (slice_get-set_same nodes at is (slice_get_within nodes at was e)) ∙ ap (slice_get (slice_set nodes at is)) (sym p.1) ∙ g) in
+          inr (subst (λ x. IsLater s k x m) old (subst (IsLater s k was) new later)))
+      | inr p ↦ inl (same_Some m n (sym g ∙ slice_get-set_other nodes at i is p.1 ∙ f))
+    ];
+  }
+
+  -- a leaf in the place of a work without a device
+  pub leaf-later : (was is : Node (StageWork S K)) → op_of was.work ≡ None → op_of is.work ≡ None → is.fault ≡ None → IsLater s k was is
+  leaf-later was is gone none sound = record {
+    op = none ∙ sym gone;
+    faults = (let z = no-faults was.work gone in omega (arith, z));
+    cause = λ d. absurd (true≢false (sym d ∙ ap is_device sound));
+    named = subst (IsOf (op_of was.work)) (sym sound) tt;
+  }
+    where
+      no-faults : (w : StageWork S K) → op_of w ≡ None → faults_of s.faults k.faults w ≡ 0
+      no-faults (Reader r) e = absurd (none-some _ (sym e))
+      no-faults (Writer v) e = absurd (none-some _ (sym e))
+      no-faults (Filter f) e = refl
+      no-faults (Collector c) e = refl
+      no-faults (Views h) e = refl
+
+  pub alone-fresh : (node : Node (StageWork S K)) → IsNewLeaf s k node → (i : ℕ) (n : Node (StageWork S K)) → slice_get (node ∷ []) i ≡ Some n → IsFresh (shown (as_works s k) (children ([] ∷ []) i) n)
+  alone-fresh node leaf zero n e = subst (λ x. IsFresh (shown (as_works s k) [] x)) (same_Some node n e) leaf.fresh
+  alone-fresh node leaf (suc i) n e = absurd (none-some n e)

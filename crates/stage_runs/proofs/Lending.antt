@@ -1,0 +1,198 @@
+-- The nodes of a part are lent to its net, and come back.
+use Rattle.std.proofs.Common.{◌≡◌, ◌≢◌, ◌⊎◌, ℕ, ◌+◌, ◌-◌, ◌<◌, ◌≤◌, ◌==◌, ◌||◌, Bool, true, false, true≢false, List, [], ◌++◌, take, drop, length, slice_get, Some, None, refl, ap, sym, subst, ◌∙◌, inl, inr, arith}
+use Rattle.std.proofs.Common.{zero, suc, ◌∷◌}
+use Rattle.std.proofs.lemmas.Bool.Decides.{eqb_tells, leb_tells}
+use Rattle.std.proofs.lemmas.Option.{same_Some, slice_get_within}
+use Rattle.file_devices.specs.declared.devices.Source as source
+use Rattle.file_devices.specs.declared.devices.Sink as sink
+use Rattle.network_theory.specs.Forest.{children}
+use Rattle.network_theory.specs.Opening.{IsFresh}
+use Rattle.network_core.specs.declared.node.Node.{Node}
+use Rattle.network_core.specs.Shown.{shown}
+use Rattle.network_core.proofs.Opened.{some_at}
+use Rattle.network_solo.specs.Runs.{IsRanOver}
+use Rattle.network_solo.specs.Trees.{IsRanTree}
+use Rattle.stage_kinds.specs.declared.stage_work.StageWork.{StageWork}
+use Rattle.stage_kinds.specs.Held.{op_of, faults_of}
+use Rattle.stage_kinds.specs.Stages.{is_short}
+use Rattle.file_devices.specs.Counts.{Rose}
+use Rattle.cloud_points.specs.Events.{IsOf}
+use Rattle.stage_parts.specs.Parts.{is_of}
+use Rattle.stage_runs.specs.Works.{as_works}
+use Rattle.stage_runs.specs.Parts.{IsExchanged, IsRenewed, IsLater, AreLater, AreSameOrLater, AreStandIns, is_own, IsNet, IsPartRun}
+use Rattle.stage_runs.proofs.Part.{same-number, other-number}
+
+-- what a slice holds, its list does
+pub slice-back : {A : Type 0} (xs ys : List A) (n : ℕ) → length ys ≡ length xs → n ≡ length xs → take n (ys ++ drop (length ys) xs) ≡ ys
+slice-back [] [] n e f = ap (λ m. take m []) f
+slice-back [] (y ∷ ys) n e f = absurd (omega (arith, e))
+slice-back (x ∷ xs) [] n e f = absurd (omega (arith, e))
+slice-back (x ∷ xs) (y ∷ ys) zero e f = absurd (omega (arith, f))
+slice-back (x ∷ xs) (y ∷ ys) (suc n) e f = ap (λ zs. y ∷ zs) (slice-back xs ys n (omega (arith, e)) (omega (arith, f)))
+
+module _ {S K : Type 0} (s : source.Ghosts S) (k : sink.Ghosts K) where
+  -- what is later than a node is later than another one over the same work
+  pub later-work : (x n m : Node (StageWork S K)) → x.work ≡ n.work → IsLater s k x m → IsLater s k n m
+  later-work x n m e later = record {
+    op = later.op ∙ ap op_of e;
+    faults = subst (λ w. faults_of s.faults k.faults w ≤ faults_of s.faults k.faults m.work) e later.faults;
+    cause = λ d. subst (λ w. Rose (faults_of s.faults k.faults w) (faults_of s.faults k.faults m.work)) e (later.cause d);
+    named = subst (λ w. IsOf (op_of w) m.fault) e later.named;
+  }
+
+  -- the root of a net is that of the nodes
+  pub root-at : (homes : List ℕ) (home root : ℕ) (nodes stands left net : List (Node (StageWork S K))) → AreStandIns s k (root + 1) stands → IsExchanged (is_own homes home root) (root + 1) nodes stands left net
+      → (n : Node (StageWork S K)) → slice_get net (length net - 1) ≡ Some n → slice_get nodes root ≡ Some n
+  root-at homes home root nodes stands left net stand first n e =
+      let a = first.other_count ∙ stand.count in
+      let last : root ≡ length net - 1 = omega (arith, a) in
+      sym (first.taken root (omega arith) (ap (λ b. b || is_of homes home root) (same-number root))).1 ∙ ap (slice_get net) last ∙ e
+
+  module _ (part : List (List ℕ)) (homes : List ℕ) (home root : ℕ) (nodes stands left net renewed : List (Node (StageWork S K)))
+      (inside : root < length nodes) (stand : AreStandIns s k (root + 1) stands)
+      (first : IsExchanged (is_own homes home root) (root + 1) nodes stands left net)
+      (inputs : ℕ) (new : IsRenewed (as_works s k) inputs net renewed) (count : length (children part root) ≡ inputs)
+      (leaves : (i : ℕ) → i < root → is_of homes home i ≡ false → children part i ≡ [])
+      (fresh : (i : ℕ) (n : Node (StageWork S K)) → i < root → is_of homes home i ≡ true → slice_get nodes i ≡ Some n → IsFresh (shown (as_works s k) (children part i) n)) where
+    pub net-size : length net ≡ root + 1
+    net-size = first.other_count ∙ stand.count
+
+    pub renewed-size : length renewed ≡ root + 1
+    renewed-size = new.count ∙ net-size
+
+    last-is : length net - 1 ≡ root
+    last-is = let a = net-size in omega (arith, a)
+
+    own-is : (i : ℕ) → is_of homes home i ≡ true → is_own homes home root i ≡ true
+    own-is i h = ap (λ b. (i == root) || b) h ∙ either (i == root)
+      where
+        either : (b : Bool) → b || true ≡ true
+        either true = refl
+        either false = refl
+
+    root-own : is_own homes home root root ≡ true
+    root-own = ap (λ b. b || is_of homes home root) (same-number root)
+
+    other-own : (i : ℕ) → i < root → is_of homes home i ≡ false → is_own homes home root i ≡ false
+    other-own i l h = ap (λ b. b || is_of homes home i) (other-number i root (λ e. omega (arith, e, l))) ∙ h
+
+    not-own : (i : ℕ) → is_own homes home root i ≡ false → i < root + 1 → is_own homes home root i ≡ true → ⊥
+    not-own i e l p = true≢false (sym p ∙ e)
+
+    own-net : (i : ℕ) → i < root → is_of homes home i ≡ true → slice_get renewed i ≡ slice_get nodes i
+    own-net i l h = new.other i (λ e. let a = last-is in omega (arith, e, a, l)) ∙ (first.taken i (omega (arith, l)) (own-is i h)).1
+
+    stood : (i : ℕ) → i < root → is_of homes home i ≡ false → slice_get renewed i ≡ slice_get stands i
+    stood i l h = new.other i (λ e. let a = last-is in omega (arith, e, a, l)) ∙ (first.left i (not-own i (other-own i l h))).1
+
+    root-lent : slice_get net root ≡ slice_get nodes root
+    root-lent = (first.taken root (omega arith) root-own).1
+
+    at-last : (xs : List (Node (StageWork S K))) (n : Node (StageWork S K)) → slice_get xs root ≡ Some n → slice_get xs (length net - 1) ≡ Some n
+    at-last xs n e = ap (slice_get xs) last-is ∙ e
+
+    pub is-net : IsNet s k part homes home root nodes renewed
+    is-net = record {
+      count = renewed-size;
+      work = λ n m e f. new.work m n (at-last net m (root-lent ∙ f)) (at-last renewed n e);
+      root_fresh = λ n e. new.fresh n (children part root) (at-last renewed n e) count;
+      own = λ i n l h e. sym (own-net i l h) ∙ e;
+      strange = λ i n l h e. stand.each i n (sym (stood i l h) ∙ e);
+    }
+
+    pub net-fresh : (i : ℕ) (n : Node (StageWork S K)) → slice_get renewed i ≡ Some n → IsFresh (shown (as_works s k) (children part i) n)
+    net-fresh i n e = elim (eqb_tells i root) [
+      | inl p ↦ subst (λ j. IsFresh (shown (as_works s k) (children part j) n)) (sym p.1) (is-net.root_fresh n (ap (slice_get renewed) (sym p.1) ∙ e))
+      | inr p ↦ (let no = p.1 in let a = slice_get_within renewed i n e in let b = renewed-size in by_home (omega (arith, no, a, b)) (is_of homes home i) refl)
+    ]
+      where
+        by_home : i < root → (b : Bool) → is_of homes home i ≡ b → IsFresh (shown (as_works s k) (children part i) n)
+        by_home l true h = fresh i n l h (is-net.own i n l h e)
+        by_home l false h = subst (λ js. IsFresh (shown (as_works s k) js n)) (sym (leaves i l h)) (is-net.strange i n l h e).0.fresh
+
+    -- ---- back again
+
+    module _ (ended after rest : List (Node (StageWork S K))) (later : AreLater s k renewed ended)
+        (second : IsExchanged (is_own homes home root) (root + 1) left ended after rest) where
+      pub after-count : length after ≡ length nodes
+      after-count = second.one_count ∙ first.one_count
+
+      back : (i : ℕ) → i ≤ root → is_own homes home root i ≡ true → slice_get after i ≡ slice_get ended i
+      back i l o = (second.taken i (omega (arith, l)) o).0
+
+      other : (i : ℕ) → is_own homes home root i ≡ false → slice_get after i ≡ slice_get nodes i
+      other i o = (second.left i (not-own i o)).0 ∙ (first.left i (not-own i o)).0
+
+      beyond : (i : ℕ) → root < i → slice_get after i ≡ slice_get nodes i
+      beyond i l = (second.left i (λ m p. absurd (omega (arith, l, m)))).0 ∙ (first.left i (λ m p. absurd (omega (arith, l, m)))).0
+
+      before : (i : ℕ) (m : Node (StageWork S K)) → slice_get ended i ≡ Some m → (x : Node (StageWork S K)) × (slice_get renewed i ≡ Some x)
+      before i m e = some_at renewed i (let a = slice_get_within ended i m e in let b = later.count in omega (arith, a, b))
+
+      own-later : (i : ℕ) (n m : Node (StageWork S K)) → i ≤ root → is_own homes home root i ≡ true → slice_get nodes i ≡ Some n → slice_get after i ≡ Some m → IsLater s k n m
+      own-later i n m l o e f = elim (eqb_tells i root) [
+        | inl p ↦ (
+            let at = ap (slice_get nodes) (sym p.1) ∙ e in
+            later-work x.0 n m (is-net.work x.0 n (ap (slice_get renewed) (sym p.1) ∙ x.1) at) was)
+        | inr p ↦ (
+            let no = p.1 in
+            let less : i < root = omega (arith, no, l) in
+            subst (λ y. IsLater s k y m) (same_Some x.0 n (sym x.1 ∙ own-net i less (is-own less o) ∙ e)) was)
+      ]
+        where
+          g : slice_get ended i ≡ Some m
+          g = sym (back i l o) ∙ f
+
+          x : (y : Node (StageWork S K)) × (slice_get renewed i ≡ Some y)
+          x = before i m g
+
+          was : IsLater s k x.0 m
+          was = later.each i x.0 m x.1 g
+
+          is-own : i < root → is_own homes home root i ≡ true → is_of homes home i ≡ true
+          is-own less o = sym (ap (λ b. b || is_of homes home i) (other-number i root (λ e. omega (arith, e, less)))) ∙ o
+
+      pub part-later : AreSameOrLater s k nodes after
+      part-later = record {
+        count = after-count;
+        each = λ i n m e f. elim (leb_tells i root) [
+          | inl p ↦ by_own i n m p.1 e f (is_own homes home root i) refl
+          | inr p ↦ inl (same_Some m n (sym f ∙ beyond i p.1 ∙ e))
+        ];
+      }
+        where
+          by_own : (i : ℕ) (n m : Node (StageWork S K)) → i ≤ root → slice_get nodes i ≡ Some n → slice_get after i ≡ Some m → (b : Bool) → is_own homes home root i ≡ b → (m ≡ n) ⊎ IsLater s k n m
+          by_own i n m l e f true o = inr (own-later i n m l o e f)
+          by_own i n m l e f false o = inl (same_Some m n (sym f ∙ other i o ∙ e))
+
+      -- what stood in has no device
+      pub rest-op : (i : ℕ) (n : Node (StageWork S K)) → slice_get rest i ≡ Some n → op_of n.work ≡ None
+      rest-op i n e = by_own (is_own homes home root i) refl
+        where
+          less : i < root + 1
+          less = let a = slice_get_within rest i n e in let b = second.other_count in let c = later.count in let d = renewed-size in omega (arith, a, b, c, d)
+
+          by_own : (b : Bool) → is_own homes home root i ≡ b → op_of n.work ≡ None
+          by_own true o = ((stand.each i n (sym (first.taken i less o).0 ∙ sym (second.taken i less o).1 ∙ e)).0).op
+          by_own false o = (
+              let f = sym (second.left i (not-own i o)).1 ∙ e in
+              let x = before i n f in
+              let root-other : i ≢ root = λ q. true≢false (sym root-own ∙ ap (is_own homes home root) (sym q) ∙ o) in
+              let l : i < root = omega (arith, root-other, less) in
+              let h : is_of homes home i ≡ false = sym (ap (λ b. b || is_of homes home i) (other-number i root root-other)) ∙ o in
+              (later.each i x.0 n x.1 f).op ∙ ((is-net.strange i x.0 l h x.1).0).op)
+
+      pub part-run : (queue : ℕ) → IsRanTree (as_works s k) part renewed ended → IsRanOver (as_works s k) part queue renewed ended
+          → ((i : ℕ) (m : Node (StageWork S K)) → slice_get ended i ≡ Some m → is_short m.work ≡ false) → IsPartRun s k queue part homes home root nodes after
+      part-run queue ran over enough = record {
+        net = renewed;
+        ended = ended;
+        is_net = is-net;
+        ran = ran;
+        over = over;
+        enough = enough;
+        count = after-count;
+        back = back;
+        other = λ i l o. other i o;
+        beyond = beyond;
+      }

@@ -1,0 +1,487 @@
+-- One part more is run.
+use Rattle.std.proofs.Common.{◌≡◌, ◌≢◌, ◌⊎◌, ℕ, zero, suc, ◌+◌, ◌-◌, ◌<◌, ◌≤◌, ◌==◌, ◌||◌, not, nat_lt, Bool, true, false, true≢false, List, [], ◌∷◌, length, Option, Some, None, is_some, refl, ap, sym, subst, ◌∙◌, inl, inr, arith}
+use Rattle.std.specs.Prelude.{slice_get}
+use Rattle.std.proofs.lemmas.Bool.Decides.{eqb_tells, leb_tells}
+use Rattle.std.proofs.lemmas.Option.{none-some, same_Some, slice_get_within}
+use Rattle.file_devices.specs.declared.devices.Source as source
+use Rattle.file_devices.specs.declared.devices.Sink as sink
+use Rattle.cloud_points.specs.declared.faults.StageFault.{StageFault}
+use Rattle.cloud_points.specs.declared.faults.StageFault.TheVariants as stage
+use Rattle.cloud_points.specs.Events.{is_device, ran_short, IsOf}
+use Rattle.cloud_points.specs.Flows.{Flow}
+use Rattle.cloud_points.specs.Marks.{flow_marks}
+use Rattle.network_theory.specs.Forest.{IsForest, children}
+use Rattle.network_theory.specs.Shape.{In}
+use Rattle.network_theory.proofs.Forests.{forest-tree}
+use Rattle.network_core.specs.Calm.{Calm, NoEvent}
+use Rattle.network_solo.specs.Trees.{Streams, NoneCame, LeavesTell, EndsOver}
+use Rattle.network_core.specs.declared.node.Node.{Node}
+use Rattle.network_core.proofs.Opened.{some_at}
+use Rattle.view_works.specs.Collecting.{Held, held}
+use Rattle.whole_filters.specs.Gathered.{gathered}
+use Rattle.whole_filters.specs.declared.gathering.Gathering.{Gathering}
+use Rattle.stage_kinds.specs.declared.stage_work.StageState.{StageState}
+use Rattle.stage_kinds.specs.declared.stage_work.StageState.TheVariants.{Collecting}
+use Rattle.stage_kinds.specs.declared.stage_work.StageWork.{StageWork}
+use Rattle.stage_kinds.specs.declared.stage_work.StageWork.TheVariants.{Reader, Filter, Collector, Views, Writer}
+use Rattle.stage_kinds.specs.Gathers.{IsGathered}
+use Rattle.stage_kinds.specs.Reads.{tells_of, told_of, told_fault_of}
+use Rattle.stage_kinds.specs.Held.{op_of}
+use Rattle.stage_kinds.specs.Stages.{is_leaf, is_short, state_of}
+use Rattle.stage_options.specs.Roles.{is_gathering}
+use Rattle.stage_options.specs.declared.stage.StageSpec.{StageSpec}
+use Rattle.stage_parts.specs.Parts.{AreHomes, gathers_at, home_at, is_of, part_ins}
+use Rattle.stage_parts.proofs.Tops.{near, near_root, homes-above}
+use Rattle.answer_model.specs.Rows as rows
+use Rattle.answer_model.specs.Values.{Opened, IsDown, role_at, row_at, stage_value, stage_input}
+use Rattle.stage_runs.specs.Works.{as_works, ins_of, AreNewStages, ReadersTell}
+use Rattle.stage_runs.specs.Ran.{EndsAsStage, AreRanStages}
+use Rattle.stage_runs.specs.Parts.{gathers_of, IsNewLeaf, Gives, IsPartRun, IsLeafRun, IsGatheredAt, is_past, NoneFailedBefore, AreRunBefore}
+use Rattle.stage_runs.proofs.Part.{IsRoot, gathers-are, same-number, other-number, home-ends, root-holds, root-ends}
+use Rattle.stage_runs.proofs.Ran.{gathers-value, held-ends}
+
+-- ---- numbers
+
+lt-true : (a b : ℕ) → a < b → nat_lt a b ≡ true
+lt-true a b l = elim (leb_tells (suc a) b) [ inl p ↦ p.0 | inr p ↦ (let m = p.1 in absurd (omega (arith, l, m))) ]
+
+pub lt-false : (a b : ℕ) → b ≤ a → nat_lt a b ≡ false
+lt-false a b l = elim (leb_tells (suc a) b) [ inl p ↦ (let m = p.1 in absurd (omega (arith, l, m))) | inr p ↦ p.0 ]
+
+true-lt : (a b : ℕ) → nat_lt a b ≡ true → a < b
+true-lt a b e = elim (leb_tells (suc a) b) [ inl p ↦ (let m = p.1 in omega (arith, m)) | inr p ↦ absurd (true≢false (sym e ∙ p.0)) ]
+
+false-le : (a b : ℕ) → nat_lt a b ≡ false → b ≤ a
+false-le a b e = elim (leb_tells (suc a) b) [ inl p ↦ absurd (true≢false (sym p.0 ∙ e)) | inr p ↦ (let m = p.1 in omega (arith, m)) ]
+
+-- ---- what a collector that holds a flow becomes
+
+abbrev held-in : StageState → Option (Gathering × Held)
+held-in (Collecting g h) = Some (g, h)
+held-in _ = None
+
+module _ {S K : Type 0} (bytes : S → Option (List ℕ)) where
+  pub gives-gathered : (g : Gathering) (flow : Flow _) (v w : StageWork S K) → state_of v ≡ Collecting g (Some flow) → IsGathered v w
+      → (tells_of bytes w ≡ true) × (told_of bytes w ≡ flow_marks (gathered g flow)) × (told_fault_of bytes w ≡ None)
+  gives-gathered g flow (Collector c) (Views h) e is = go c.short refl
+    where
+      at : ◌≡◌ {A = Gathering × Held} (c.gathering, held c.short c.views) (g, Some flow)
+      at = same_Some _ _ (ap held-in e)
+
+      go : (b : Bool) → c.short ≡ b → (tells_of {K = K} bytes (Views h) ≡ true) × (told_of {K = K} bytes (Views h) ≡ flow_marks (gathered g flow)) × (told_fault_of {K = K} bytes (Views h) ≡ None)
+      go true s = absurd (true≢false (sym s ∙ is.0))
+      go false s = (
+        ap not is.1,
+        is.2
+            ∙ ap (λ x. flow_marks (gathered x c.views)) (ap (λ t. t.0) at)
+            ∙ ap (λ f. flow_marks (gathered g f)) (same_Some c.views flow (ap (λ b. held b c.views) (sym s) ∙ ap (λ t. t.1) at)),
+        refl,
+      )
+  gives-gathered g flow (Collector c) (Reader r) e is = absurd is
+  gives-gathered g flow (Collector c) (Filter f) e is = absurd is
+  gives-gathered g flow (Collector c) (Collector d) e is = absurd is
+  gives-gathered g flow (Collector c) (Writer x) e is = absurd is
+  gives-gathered g flow (Reader r) w e is = absurd (none-some _ (ap held-in e))
+  gives-gathered g flow (Filter f) w e is = absurd (none-some _ (ap held-in e))
+  gives-gathered g flow (Views h) w e is = absurd (none-some _ (ap held-in e))
+  gives-gathered g flow (Writer x) w e is = absurd (none-some _ (ap held-in e))
+
+module _ {S K : Type 0} (s : source.Ghosts S) (k : sink.Ghosts K) (stages : List StageSpec) (old : List (Node (StageWork S K))) (new : AreNewStages s k stages old) (down : IsDown stages)
+    (forest : IsForest (ins_of stages) (length (ins_of stages) - 1)) (size : length (ins_of stages) ≡ length stages)
+    (homes : List ℕ) (are : AreHomes (gathers_of stages) (ins_of stages) homes) (queue : ℕ) where
+  abbrev Done : ℕ → List (Node (StageWork S K)) → Type 0
+  Done done now = AreRunBefore s k stages homes old done now
+
+  abbrev Part : ℕ → ℕ → List (Node (StageWork S K)) → List (Node (StageWork S K)) → Type 0
+  Part home root now after = IsPartRun s k queue (part_ins (gathers_of stages) (ins_of stages) homes home root) homes home root now after
+
+  abbrev Sound : ℕ → List (Node (StageWork S K)) → Type 0
+  Sound done now = NoneFailedBefore s k stages homes old done now
+
+  abbrev past : ℕ → ℕ → Bool
+  past done i = is_past s k stages homes old done i
+
+  -- no part was run yet
+  pub none-run : Done 0 old
+  none-run = record {
+    past = λ opened sound tell i m e p. absurd (let l = true-lt (home_at homes i) 0 p in omega (arith, l));
+    held = λ i m e p l g. absurd (omega (arith, l));
+    gives = λ opened sound tell i m e p l g. absurd (omega (arith, l));
+    waits = λ i m e p no. e;
+  }
+
+  -- a home is the number of a stage that gathers
+  home-gathers : (i : ℕ) → i < length stages → (w : ℕ) → w < length stages → home_at homes i ≡ w → is_gathering (role_at stages w) ≡ true
+  home-gathers i l w m e =
+      let h = homes-above (gathers_of stages) (ins_of stages) homes forest are i (omega (arith, l, size)) in
+      sym (gathers-are stages w) ∙ ap (gathers_at (gathers_of stages)) (sym e) ∙ h.gathering (omega (arith, e, m, size))
+
+  above : (i : ℕ) → i < length stages → i < home_at homes i
+  above i l = (homes-above (gathers_of stages) (ins_of stages) homes forest are i (omega (arith, l, size))).above
+
+  -- a stage that doesn't gather has no part of its own
+  pub none-here : (w : ℕ) (now : List (Node (StageWork S K))) → length now ≡ length stages → w < length stages → is_gathering (role_at stages w) ≡ false → Done w now → Done (w + 1) now
+  none-here w now count inside streams done = record {
+    past = λ opened sound tell i m e p. done.past opened (fewer sound) tell i m e (earlier i (within i m e) p);
+    held = λ i m e p l g. done.held i m e (before i p) (other i l g) g;
+    gives = λ opened sound tell i m e p l g. done.gives opened (fewer sound) tell i m e (before i p) (other i l g) g;
+    waits = λ i m e p no. done.waits i m e (before i p) (λ l g. no (omega (arith, l)) g);
+  }
+    where
+      within : (i : ℕ) (m : Node (StageWork S K)) → slice_get now i ≡ Some m → i < length stages
+      within i m e = let a = slice_get_within now i m e in omega (arith, a, count)
+
+      earlier : (i : ℕ) → i < length stages → past (w + 1) i ≡ true → past w i ≡ true
+      earlier i l p = elim (eqb_tells (home_at homes i) w) [
+        | inl q ↦ absurd (true≢false (sym (home-gathers i l w inside q.1) ∙ streams))
+        | inr q ↦ lt-true (home_at homes i) w (let a = true-lt (home_at homes i) (w + 1) p in let n = q.1 in omega (arith, a, n))
+      ]
+
+      before : (i : ℕ) → past (w + 1) i ≡ false → past w i ≡ false
+      before i p = lt-false (home_at homes i) w (let a = false-le (home_at homes i) (w + 1) p in omega (arith, a))
+
+      fewer : Sound (w + 1) now → Sound w now
+      fewer sound i m e p = sound i m e (lt-true (home_at homes i) (w + 1) (let a = true-lt (home_at homes i) w p in omega (arith, a)))
+
+      other : (i : ℕ) → i < w + 1 → is_gathering (role_at stages i) ≡ true → i < w
+      other i l g = elim (eqb_tells i w) [
+        | inl q ↦ absurd (true≢false (sym g ∙ ap (λ j. is_gathering (role_at stages j)) q.1 ∙ streams))
+        | inr q ↦ (let n = q.1 in omega (arith, l, n))
+      ]
+
+  -- ---- a part
+
+  module _ (home root : ℕ) (is_root : IsRoot stages homes home root) (now : List (Node (StageWork S K))) (count : length now ≡ length stages) (inside : root < length stages)
+      (below : (i : ℕ) → i < root → i < home) (done : Done home now) where
+    of-home : (i : ℕ) → is_of homes home i ≡ true → home_at homes i ≡ home
+    of-home i h = elim (eqb_tells (home_at homes i) home) [ inl p ↦ p.1 | inr p ↦ absurd (true≢false (sym h ∙ p.0)) ]
+
+    not-past : (i : ℕ) → home_at homes i ≡ home → past home i ≡ false
+    not-past i e = lt-false (home_at homes i) home (omega (arith, e))
+
+    pub waits : (i : ℕ) (n : Node (StageWork S K)) → i < root → is_of homes home i ≡ true → is_gathering (role_at stages i) ≡ false → slice_get now i ≡ Some n → slice_get old i ≡ Some n
+    waits i n l h streams e = done.waits i n e (not-past i (of-home i h)) (λ m g. true≢false (sym g ∙ streams))
+
+    pub held-here : (i : ℕ) (n : Node (StageWork S K)) → i < root → is_of homes home i ≡ true → is_gathering (role_at stages i) ≡ true → slice_get now i ≡ Some n → IsNewLeaf s k n
+    held-here i n l h g e = done.held i n e (not-past i (of-home i h)) (below i l) g
+
+    pub root-past : past home root ≡ false
+    root-past = elim is_root [
+      | inl r ↦ lt-false (home_at homes root) home (let a = above root inside in let e = r.1 in omega (arith, a, e))
+      | inr r ↦ not-past root r.1
+    ]
+
+    pub root-waits : (n : Node (StageWork S K)) → slice_get now root ≡ Some n → slice_get old root ≡ Some n
+    root-waits n e = done.waits root n e root-past (λ l g. elim is_root [
+      | inl r ↦ (let h = r.1 in absurd (omega (arith, l, h)))
+      | inr r ↦ true≢false (sym g ∙ r.0)
+    ])
+
+    old-size : length now ≡ length old
+    old-size = count ∙ sym new.count
+
+    here : root < length now
+    here = omega (arith, inside, count)
+
+    module _ (after : List (Node (StageWork S K))) (part : Part home root now after) where
+      -- a node of this home but the root
+      own-below : (i : ℕ) → i < root → is_of homes home i ≡ true → slice_get after i ≡ slice_get part.ended i
+      own-below i l h = part.back i (omega (arith, l)) (ap (λ b. b || is_of homes home i) (other-number i root (λ e. omega (arith, e, l))) ∙ h)
+
+      pub at-root : slice_get after root ≡ slice_get part.ended root
+      at-root = part.back root (omega arith) (ap (λ b. b || is_of homes home root) (same-number root))
+
+      -- the other nodes stay
+      pub stays : (i : ℕ) → i ≢ root → home_at homes i ≢ home → slice_get after i ≡ slice_get now i
+      stays i n h = elim (leb_tells i root) [
+        | inl p ↦ part.other i p.1 (ap (λ b. b || is_of homes home i) (other-number i root n) ∙ other-number (home_at homes i) home h)
+        | inr p ↦ part.beyond i p.1
+      ]
+
+      module _ (opened : Opened) (tell : ReadersTell s old opened) (sound : Sound home now)
+          (quiet : (i : ℕ) (m : Node (StageWork S K)) → i ≤ root → is_of homes home i ≡ true → slice_get after i ≡ Some m → is_device m.fault ≡ false) where
+        gives : (i : ℕ) (n : Node (StageWork S K)) → i < root → is_of homes home i ≡ true → is_gathering (role_at stages i) ≡ true → slice_get now i ≡ Some n → Gives s k (stage_value stages opened i) n
+        gives i n l h g e = done.gives opened sound tell i n e (not-past i (of-home i h)) (below i l) g
+
+        quiet-ended : (i : ℕ) (m : Node (StageWork S K)) → i ≤ root → is_of homes home i ≡ true → slice_get part.ended i ≡ Some m → is_device m.fault ≡ false
+        quiet-ended i m l h e = quiet i m l h (part.back i l (own-or (i == root) (is_of homes home i) h) ∙ e)
+          where
+            own-or : (a b : Bool) → b ≡ true → a || b ≡ true
+            own-or true b f = refl
+            own-or false b f = f
+
+        pub home-end : (i : ℕ) (m : Node (StageWork S K)) → i < root → is_of homes home i ≡ true → slice_get after i ≡ Some m → EndsAsStage s k stages opened i m
+        home-end i m l h e = home-ends s k stages old new down homes are home root is_root now part.net part.is_net waits root-waits held-here here old-size
+            opened tell gives part.ended part.ran part.enough quiet-ended i m l h (sym (own-below i l h) ∙ e)
+
+        pub root-end : (m : Node (StageWork S K)) → slice_get after root ≡ Some m → is_gathering (role_at stages root) ≡ false → EndsAsStage s k stages opened root m
+        root-end m e g = root-ends s k stages old new down homes are home root is_root now part.net part.is_net waits root-waits held-here here old-size
+            opened tell gives part.ended part.ran part.enough quiet-ended m (sym at-root ∙ e) g
+
+        pub root-hold : (m : Node (StageWork S K)) → slice_get after root ≡ Some m → is_gathering (role_at stages root) ≡ true
+            → (g : Gathering) × (state_of m.work ≡ Collecting g (Some (stage_input stages opened root))) × ((row_at stages opened root).making ≡ rows.Gathered g)
+        root-hold m e g = root-holds s k stages old new down homes are home root is_root now part.net part.is_net waits root-waits held-here here old-size
+            opened tell gives part.ended part.ran part.enough quiet-ended m (sym at-root ∙ e) g
+
+  -- ---- the part of a stage that gathers
+
+  module _ (w : ℕ) (now after last : List (Node (StageWork S K))) (count : length now ≡ length stages) (inside : w < length stages) (gathers : is_gathering (role_at stages w) ≡ true)
+      (done : Done w now) (part : Part w w now after) (made : IsGatheredAt s k w after last) where
+    at-w : IsRoot stages homes w w
+    at-w = inl (gathers, refl)
+
+    within : (i : ℕ) (m : Node (StageWork S K)) → slice_get last i ≡ Some m → i < length stages
+    within i m e = let a = slice_get_within last i m e in let b = made.count in let c = part.count in omega (arith, a, b, c, count)
+
+    -- a node that isn't of this part stays
+    kept : (i : ℕ) → i ≢ w → home_at homes i ≢ w → slice_get last i ≡ slice_get now i
+    kept i n h = made.other i n ∙ stays w w at-w now count inside (λ j l. l) done after part i n h
+
+    before : (i : ℕ) → past (w + 1) i ≡ false → past w i ≡ false
+    before i p = lt-false (home_at homes i) w (let a = false-le (home_at homes i) (w + 1) p in omega (arith, a))
+
+    -- a stage whose part was run before
+    kept-past : (i : ℕ) → i < length stages → past w i ≡ true → slice_get last i ≡ slice_get now i
+    kept-past i l p =
+        let h = true-lt (home_at homes i) w p in let a = above i l in
+        kept i (λ e. omega (arith, h, a, e)) (λ e. omega (arith, h, e))
+
+    kept-later : (i : ℕ) → i ≢ w → past (w + 1) i ≡ false → slice_get last i ≡ slice_get now i
+    kept-later i n p = let h = false-le (home_at homes i) (w + 1) p in kept i n (λ e. omega (arith, h, e))
+
+    w-later : past (w + 1) w ≡ false
+    w-later = lt-false (home_at homes w) (w + 1) (let a = above w inside in omega (arith, a))
+
+    sound-before : Sound (w + 1) last → Sound w now
+    sound-before sound i m e p =
+        let l = true-lt (home_at homes i) w p in
+        sound i m (kept-past i (let a = slice_get_within now i m e in omega (arith, a, count)) p ∙ e) (lt-true (home_at homes i) (w + 1) (omega (arith, l)))
+
+    quiet : Sound (w + 1) last → (i : ℕ) (m : Node (StageWork S K)) → i ≤ w → is_of homes w i ≡ true → slice_get after i ≡ Some m → is_device m.fault ≡ false
+    quiet sound i m l h e =
+        let home-is = of-home w w at-w now count inside (λ j l. l) done i h in
+        let a = above i (omega (arith, l, inside)) in
+        sound i m (made.other i (λ q. omega (arith, a, home-is, q)) ∙ e) (lt-true (home_at homes i) (w + 1) (omega (arith, home-is)))
+
+    pub gathered-here : Done (w + 1) last
+    gathered-here = record {
+      past = λ opened sound tell i m e p. past-here opened sound tell i m e p;
+      held = λ i m e p l g. held-here' i m e p l g;
+      gives = λ opened sound tell i m e p l g. gives-here opened sound tell i m e p l g;
+      waits = λ i m e p no. waits-here i m e p no;
+    }
+      where
+        past-here : (opened : Opened) → Sound (w + 1) last → ReadersTell s old opened → (i : ℕ) (m : Node (StageWork S K)) → slice_get last i ≡ Some m → past (w + 1) i ≡ true → EndsAsStage s k stages opened i m
+        past-here opened sound tell i m e p = elim (leb_tells (suc (home_at homes i)) w) [
+          | inl q ↦ done.past opened (sound-before sound) tell i m (sym (kept-past i (within i m e) q.0) ∙ e) q.0
+          | inr q ↦ (
+              let x = q.1 in let y = true-lt (home_at homes i) (w + 1) p in
+              let same : home_at homes i ≡ w = omega (arith, x, y) in
+              let a = above i (within i m e) in
+              let less : i < w = omega (arith, a, same) in
+              home-end w w at-w now count inside (λ j l. l) done after part opened tell (sound-before sound) (quiet sound) i m less
+              (ap (λ h. h == w) same ∙ same-number w) (sym (made.other i (λ r. omega (arith, less, r))) ∙ e))
+        ]
+
+        below-w : (i : ℕ) → i < w + 1 → i ≢ w → i < w
+        below-w i l n = omega (arith, l, n)
+
+        held-here' : (i : ℕ) (m : Node (StageWork S K)) → slice_get last i ≡ Some m → past (w + 1) i ≡ false → i < w + 1 → is_gathering (role_at stages i) ≡ true → IsNewLeaf s k m
+        held-here' i m e p l g = elim (eqb_tells i w) [
+          | inl q ↦ made.leaf m (ap (slice_get last) (sym q.1) ∙ e)
+          | inr q ↦ done.held i m (sym (kept-later i q.1 p) ∙ e) (before i p) (below-w i l q.1) g
+        ]
+
+        gives-w : (opened : Opened) → Sound (w + 1) last → ReadersTell s old opened → (m : Node (StageWork S K)) → slice_get last w ≡ Some m → Gives s k (stage_value stages opened w) m
+        gives-w opened sound tell m e =
+            let v = some_at after w (let b = part.count in omega (arith, b, count, inside)) in
+            let holds = root-hold w w at-w now count inside (λ j l. l) done after part opened tell (sound-before sound) (quiet sound) v.0 v.1 gathers in
+            let gave = gives-gathered {K = K} s.bytes holds.0 (stage_input stages opened w) v.0.work m.work holds.1 (made.here v.0 m v.1 e) in
+            record {
+              tells = gave.0;
+              told = gave.1 ∙ ap flow_marks (sym (gathers-value s k stages old new down opened tell w holds.0 gathers holds.2));
+              sound = gave.2;
+            }
+
+        gives-here : (opened : Opened) → Sound (w + 1) last → ReadersTell s old opened → (i : ℕ) (m : Node (StageWork S K)) → slice_get last i ≡ Some m → past (w + 1) i ≡ false → i < w + 1
+            → is_gathering (role_at stages i) ≡ true → Gives s k (stage_value stages opened i) m
+        gives-here opened sound tell i m e p l g = elim (eqb_tells i w) [
+          | inl q ↦ subst (λ j. Gives s k (stage_value stages opened j) m) (sym q.1) (gives-w opened sound tell m (ap (slice_get last) (sym q.1) ∙ e))
+          | inr q ↦ done.gives opened (sound-before sound) tell i m (sym (kept-later i q.1 p) ∙ e) (before i p) (below-w i l q.1) g
+        ]
+
+        waits-here : (i : ℕ) (m : Node (StageWork S K)) → slice_get last i ≡ Some m → past (w + 1) i ≡ false → (i < w + 1 → is_gathering (role_at stages i) ≡ true → ⊥) → slice_get old i ≡ Some m
+        waits-here i m e p rest = elim (eqb_tells i w) [
+          | inl q ↦ absurd (let same = q.1 in rest (omega (arith, same)) (ap (λ j. is_gathering (role_at stages j)) same ∙ gathers))
+          | inr q ↦ done.waits i m (sym (kept-later i q.1 p) ∙ e) (before i p) (λ l g. rest (omega (arith, l)) g)
+        ]
+
+  -- ---- the last part
+
+  -- all parts were run but that of the stages above which none gathers
+  past-or-last : (i : ℕ) → i < length stages → (past (length stages) i ≡ true) ⊎ (home_at homes i ≡ length stages)
+  past-or-last i l =
+      let h = homes-above (gathers_of stages) (ins_of stages) homes forest are i (omega (arith, l, size)) in
+      let most = h.most in
+      elim (eqb_tells (home_at homes i) (length stages)) [
+        | inl q ↦ inr q.1
+        | inr q ↦ (let n = q.1 in inl (lt-true (home_at homes i) (length stages) (omega (arith, n, most, size))))
+      ]
+
+  -- the last stage doesn't gather
+  pub last-streams : (now after : List (Node (StageWork S K))) → length now ≡ length stages → 0 < length stages → is_gathering (role_at stages (length stages - 1)) ≡ false
+      → Done (length stages) now → Part (length stages) (length stages - 1) now after → AreRanStages s k stages old after
+  last-streams now after count some streams done part sound opened tell i m e = elim (past-or-last i within) [
+    | inl p ↦ done.past opened sound-now tell i m (sym (kept-past i p) ∙ e) p
+    | inr h ↦ at-last h (eqb_tells i root)
+  ]
+    where
+      root : ℕ
+      root = length stages - 1
+
+      within : i < length stages
+      within = let a = slice_get_within after i m e in let b = part.count in omega (arith, a, b, count)
+
+      root-home : home_at homes root ≡ length stages
+      root-home = ap (home_at homes) (let q = size in omega (arith, q)) ∙ are.root ∙ size
+
+      is-root : IsRoot stages homes (length stages) root
+      is-root = inr (streams, root-home)
+
+      inside : root < length stages
+      inside = omega (arith, some)
+
+      lower : (j : ℕ) → j < root → j < length stages
+      lower j l = omega (arith, l)
+
+      kept-past : (j : ℕ) → past (length stages) j ≡ true → slice_get after j ≡ slice_get now j
+      kept-past j p =
+          let l = true-lt (home_at homes j) (length stages) p in
+          stays (length stages) root is-root now count inside lower done after part j
+          (λ q. let r = root-home ∙ refl in let same = ap (home_at homes) q in omega (arith, l, r, same)) (λ q. omega (arith, l, q))
+
+      sound-now : Sound (length stages) now
+      sound-now j n f p = sound j n (kept-past j p ∙ f)
+
+      quiet : (j : ℕ) (n : Node (StageWork S K)) → j ≤ root → is_of homes (length stages) j ≡ true → slice_get after j ≡ Some n → is_device n.fault ≡ false
+      quiet j n l h f = sound j n f
+
+      at-last : home_at homes i ≡ length stages → ((i == root) ≡ true) × (i ≡ root) ⊎ ((i == root) ≡ false) × (i ≢ root) → EndsAsStage s k stages opened i m
+      at-last h (inl q) = subst (λ j. EndsAsStage s k stages opened j m) (sym q.1)
+          (root-end (length stages) root is-root now count inside lower done after part opened tell sound-now quiet m (ap (slice_get after) (sym q.1) ∙ e) streams)
+      at-last h (inr q) = (
+          let n = q.1 in
+          home-end (length stages) root is-root now count inside lower done after part opened tell sound-now quiet i m (omega (arith, n, within))
+          (ap (λ x. x == length stages) h ∙ same-number (length stages)) e)
+
+  -- below a last stage that gathers each has a home among the stages
+  by-parent : is_gathering (role_at stages (length stages - 1)) ≡ true → (j up : ℕ) → up ≤ length (ins_of stages) - 1 → In j (children (ins_of stages) up) → j + 1 < length stages
+      → (up ≢ length stages - 1 → home_at homes up < length stages) → home_at homes j < length stages
+  by-parent last j up u i b climb = by_test (gathers_at (gathers_of stages) up) refl
+    where
+      by_test : (t : Bool) → gathers_at (gathers_of stages) up ≡ t → home_at homes j < length stages
+      by_test true t = let h = near_root (gathers_of stages) (ins_of stages) homes up j are t i in omega (arith, h, u, size, b)
+      by_test false t =
+          let h = near (gathers_of stages) (ins_of stages) homes (home_at homes up) up j are t refl i in
+          let r = climb (λ e. true≢false (sym last ∙ ap (λ i. is_gathering (role_at stages i)) (sym e) ∙ sym (gathers-are stages up) ∙ t)) in
+          omega (arith, h, r)
+
+  below-last : is_gathering (role_at stages (length stages - 1)) ≡ true → (d j : ℕ) → j + 1 < length stages → length stages ≤ j + 1 + d → home_at homes j < length stages
+  below-last last zero j b g = absurd (omega (arith, b, g))
+  below-last last (suc d) j b g =
+      let tree = forest-tree (ins_of stages) (length (ins_of stages) - 1) forest in
+      let c = tree.child j (omega (arith, b, size)) in
+      by-parent last j (tree.parent j) c.1 c.2 b
+      (λ n. below-last last d (tree.parent j) (let u = c.1 in omega (arith, n, u, size, b)) (let l = c.0 in omega (arith, l, g)))
+
+  -- the last stage gathers
+  pub last-gathers : (now after : List (Node (StageWork S K))) → length now ≡ length stages → 0 < length stages → is_gathering (role_at stages (length stages - 1)) ≡ true
+      → Done (length stages) now → IsLeafRun s k queue (length stages - 1) now after → AreRanStages s k stages old after
+  last-gathers now after count some gathers done run sound opened tell i m e = elim (eqb_tells i root) [
+    | inl q ↦ subst (λ j. EndsAsStage s k stages opened j m) (sym q.1) (root-ends-so (ap (slice_get after) (sym q.1) ∙ e))
+    | inr q ↦ elim (past-or-last i within) [
+      | inl p ↦ done.past opened sound-now tell i m (sym (run.other i q.1) ∙ e) p
+      | inr h ↦ absurd (q.1 (only-root h))
+    ]
+  ]
+    where
+      root : ℕ
+      root = length stages - 1
+
+      within : i < length stages
+      within = let a = slice_get_within after i m e in let b = run.count in omega (arith, a, b, count)
+
+      inside : root < length stages
+      inside = omega (arith, some)
+
+      root-home : home_at homes root ≡ length stages
+      root-home = ap (home_at homes) (let q = size in omega (arith, q)) ∙ are.root ∙ size
+
+      root-past : past (length stages) root ≡ false
+      root-past = lt-false (home_at homes root) (length stages) (let r = root-home in omega (arith, r))
+
+      -- no other stage lies above all that gather, since each lies below the last one
+      only-root : home_at homes i ≡ length stages → i ≡ root
+      only-root h = elim (eqb_tells i root) [
+        | inl q ↦ q.1
+        | inr q ↦ (let n = q.1 in let b = below-last gathers (length stages) i (omega (arith, n, within)) (omega arith) in absurd (omega (arith, b, h)))
+      ]
+
+      sound-now : Sound (length stages) now
+      sound-now j n f p = elim (eqb_tells j root) [
+        | inl q ↦ absurd (true≢false (sym p ∙ ap (past (length stages)) q.1 ∙ root-past))
+        | inr q ↦ sound j n (run.other j q.1 ∙ f)
+      ]
+
+      leaf : IsNewLeaf s k run.was
+      leaf = done.held root run.was run.before root-past inside gathers
+
+      gives : Gives s k (stage_value stages opened root) run.was
+      gives = done.gives opened sound-now tell root run.was run.before root-past inside gathers
+
+      calm : Calm (as_works s k) run.was run.is
+      calm = run.ran.calm 0 run.was run.is refl refl
+
+      quiet : NoneCame (as_works s k) (run.was ∷ []) (run.is ∷ [])
+      quiet zero n l f g = subst (λ x. NoEvent (as_works s k) x l) (same_Some run.was n f) (subst (NoEvent (as_works s k) run.was) (same_Some run.is l g) (record {
+        fault = no-fault run.is.fault (calm.named (ap is_some leaf.fresh.fault));
+        short = ap (ran_short (is_short run.was.work)) run.enough ∙ never (is_short run.was.work);
+      }))
+        where
+          never : (b : Bool) → ran_short b false ≡ false
+          never true = refl
+          never false = refl
+
+          no-fault : (o : Option StageFault) → IsOf (op_of run.was.work) o → is_device o ≡ false
+          no-fault None h = refl
+          no-fault (Some (stage.Point p)) h = refl
+          no-fault (Some (stage.Device d)) h = absurd (none-some d (sym leaf.op ∙ h))
+      quiet (suc j) n l f g = absurd (none-some n f)
+
+      tells : LeavesTell (as_works s k) (run.was ∷ [])
+      tells zero n f l = subst (λ (x : Node (StageWork S K)). tells_of s.bytes x.work ≡ true) (same_Some run.was n f) gives.tells
+      tells (suc j) n f l = absurd (none-some n f)
+
+      streams : Streams (as_works s k) ([] ∷ []) (run.was ∷ []) (λ _. stage_value stages opened root)
+      streams = record {
+        leaf = λ j n f l. at-leaf j n f;
+        inner = λ j n f l. absurd (true≢false (sym (is-leaf j n f) ∙ l));
+      }
+        where
+          at-leaf : (j : ℕ) (n : Node (StageWork S K)) → slice_get (run.was ∷ []) j ≡ Some n → told_of s.bytes n.work ≡ flow_marks (stage_value stages opened root)
+          at-leaf zero n f = subst (λ (x : Node (StageWork S K)). told_of s.bytes x.work ≡ flow_marks (stage_value stages opened root)) (same_Some run.was n f) gives.told
+          at-leaf (suc j) n f = absurd (none-some n f)
+
+          is-leaf : (j : ℕ) (n : Node (StageWork S K)) → slice_get (run.was ∷ []) j ≡ Some n → is_leaf n.work ≡ true
+          is-leaf zero n f = subst (λ (x : Node (StageWork S K)). is_leaf x.work ≡ true) (same_Some run.was n f) leaf.leaf
+          is-leaf (suc j) n f = absurd (none-some n f)
+
+      over : EndsOver (as_works s k) ([] ∷ []) (run.was ∷ []) (run.is ∷ []) (λ _. stage_value stages opened root)
+      over = run.ran.ends quiet tells (λ _. stage_value stages opened root) streams
+
+      root-ends-so : slice_get after root ≡ Some m → EndsAsStage s k stages opened root m
+      root-ends-so f =
+          let o = some_at old root (let c = new.count in omega (arith, c, inside)) in
+          let same : run.is ≡ m = same_Some run.is m (sym run.back ∙ f) in
+          subst (EndsAsStage s k stages opened root) same
+          (held-ends s k stages old new down opened tell root o.0 run.is o.1 gathers (calm.op ∙ leaf.op) (over.gave 0 run.is refl) (over.told 0 run.was run.is refl refl leaf.leaf ∙ gives.sound))

@@ -1,0 +1,10 @@
+use Rattle.std.proofs.Common.{◌≡◌, ◌≤◌, vec_len}
+use Rattle.std.specs.Prelude.{vec_capacity}
+use Rattle.stage_runs.specs.Parts.{AreStandIns}
+use Rattle.stage_runs.proofs.nets.stand_ins.Given as goal
+
+abbrev pub invariant-loop-place : goal.invariant-loop-place
+invariant-loop-place g l = record {
+  made : AreStandIns g.S.Source g.K.Sink l._place l.nodes.items;
+  room : l.count ≤ vec_capacity l.nodes;
+}

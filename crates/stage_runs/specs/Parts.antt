@@ -1,0 +1,190 @@
+-- The nodes of a tree's stages while its parts are run, one after the other.
+use Rattle.std.specs.Prelude.{◌≡◌, ◌≢◌, ◌⊎◌, ℕ, zero, suc, ⊤, ◌+◌, ◌-◌, ◌<◌, ◌≤◌, ◌==◌, ◌||◌, nat_lt, Bool, true, false, List, [], ◌∷◌, length, map, slice_get, Some, None, if◌then◌else◌}
+use Rattle.file_devices.specs.Counts.{Rose}
+use Rattle.file_devices.specs.declared.devices.Source as source
+use Rattle.file_devices.specs.declared.devices.Sink as sink
+use Rattle.cloud_points.specs.declared.point.Point.{Point}
+use Rattle.cloud_points.specs.declared.work.Work.{Ghosts}
+use Rattle.cloud_points.specs.Events.{is_device, IsOf}
+use Rattle.cloud_points.specs.Flows.{Flow, empty_flow}
+use Rattle.cloud_points.specs.Marks.{flow_marks}
+use Rattle.network_theory.specs.Forest.{children}
+use Rattle.network_theory.specs.Opening.{IsFresh}
+use Rattle.network_core.specs.declared.node.Node.{Node}
+use Rattle.network_core.specs.Shown.{shown}
+use Rattle.network_solo.specs.Runs.{IsRanOver}
+use Rattle.network_solo.specs.Trees.{IsRanTree}
+use Rattle.stage_kinds.specs.declared.stage_work.StageWork.{StageWork}
+use Rattle.stage_kinds.specs.declared.stage_work.StageWork.TheVariants.{Collector}
+use Rattle.stage_kinds.specs.Gathers.{IsGathered}
+use Rattle.stage_kinds.specs.Held.{op_of, faults_of}
+use Rattle.stage_kinds.specs.Reads.{tells_of, told_of, told_fault_of}
+use Rattle.stage_kinds.specs.Stages.{is_leaf, is_short}
+use Rattle.stage_options.specs.Roles.{is_gathering, role_of}
+use Rattle.stage_options.specs.declared.stage.StageSpec.{StageSpec}
+use Rattle.stage_parts.specs.Parts.{AreHomes, home_at, is_of, part_ins}
+use Rattle.answer_model.specs.Values.{Opened, role_at, stage_value}
+use Rattle.stage_runs.specs.Ran.{EndsAsStage}
+use Rattle.stage_runs.specs.Works.{as_works, ins_of, ReadersTell}
+
+-- whether each stage needs whole views
+abbrev pub gathers_of : List StageSpec → List Bool
+gathers_of stages = map (λ (s : StageSpec). is_gathering (role_of s.options)) stages
+
+-- the elements of two lists at the first so many places, where they are picked, were exchanged
+pub record IsExchanged {T : Type 0} (picked : ℕ → Bool) (count : ℕ) (one other one_after other_after : List T) : Type 0 where
+  pub one_count : length one_after ≡ length one
+  pub other_count : length other_after ≡ length other
+  pub taken : (i : ℕ) → i < count → picked i ≡ true → (slice_get one_after i ≡ slice_get other i) × (slice_get other_after i ≡ slice_get one i)
+  pub left : (i : ℕ) → (i < count → picked i ≡ true → ⊥) → (slice_get one_after i ≡ slice_get one i) × (slice_get other_after i ≡ slice_get other i)
+
+-- the last node of a net is new over its work, with so many inputs
+pub record IsRenewed {W G : Type 0} (g : Ghosts W G) (inputs : ℕ) (net after : List (Node W)) : Type 0 where
+  pub count : length after ≡ length net
+  pub work : (n m : Node W) → slice_get net (length net - 1) ≡ Some n → slice_get after (length net - 1) ≡ Some m → m.work ≡ n.work
+  pub fresh : (m : Node W) (ins : List ℕ) → slice_get after (length net - 1) ≡ Some m → length ins ≡ inputs → IsFresh (shown g ins m)
+  pub other : (i : ℕ) → i ≢ length net - 1 → slice_get after i ≡ slice_get net i
+
+-- whether a node of the part of a home, or its root, stands at a place
+abbrev pub is_own : List ℕ → ℕ → ℕ → ℕ → Bool
+is_own homes home root i = (i == root) || is_of homes home i
+
+-- ---- nodes
+
+-- a work takes whole views
+abbrev pub IsCollecting : {S K : Type 0} → StageWork S K → Type 0
+IsCollecting (Collector c) = ⊤
+IsCollecting w = ⊥
+
+module _ {S K : Type 0} (s : source.Ghosts S) (k : sink.Ghosts K) where
+  -- the node of a stage later: it holds the device that it held, whose count of faults didn't fall, and where that failed, it rose
+  pub record IsLater (old new : Node (StageWork S K)) : Type 0 where
+    pub op : op_of new.work ≡ op_of old.work
+    pub faults : faults_of s.faults k.faults old.work ≤ faults_of s.faults k.faults new.work
+    pub cause : is_device new.fault ≡ true → Rose (faults_of s.faults k.faults old.work) (faults_of s.faults k.faults new.work)
+    pub named : IsOf (op_of old.work) new.fault
+
+  pub record AreLater (old new : List (Node (StageWork S K))) : Type 0 where
+    pub count : length new ≡ length old
+    pub each : (i : ℕ) (n m : Node (StageWork S K)) → slice_get old i ≡ Some n → slice_get new i ≡ Some m → IsLater n m
+
+  -- a leaf without a device that had no turn yet
+  pub record IsNewLeaf (n : Node (StageWork S K)) : Type 0 where
+    pub fresh : IsFresh (shown (as_works s k) [] n)
+    pub leaf : is_leaf n.work ≡ true
+    pub op : op_of n.work ≡ None
+
+  -- it gives this flow
+  pub record Gives (flow : Flow Point) (n : Node (StageWork S K)) : Type 0 where
+    pub tells : tells_of s.bytes n.work ≡ true
+    pub told : told_of s.bytes n.work ≡ flow_marks flow
+    pub sound : told_fault_of s.bytes n.work ≡ None
+
+  -- each node is as it was, or a later one
+  pub record AreSameOrLater (old new : List (Node (StageWork S K))) : Type 0 where
+    pub count : length new ≡ length old
+    pub each : (i : ℕ) (n m : Node (StageWork S K)) → slice_get old i ≡ Some n → slice_get new i ≡ Some m → (m ≡ n) ⊎ IsLater n m
+
+  -- so many leaves that give nothing
+  pub record AreStandIns (size : ℕ) (nodes : List (Node (StageWork S K))) : Type 0 where
+    pub count : length nodes ≡ size
+    pub each : (i : ℕ) (n : Node (StageWork S K)) → slice_get nodes i ≡ Some n → IsNewLeaf n × Gives empty_flow n
+
+  -- ---- the net of a part
+
+  -- the nodes of a part, each at the place of its stage: the root is new over its work, and the others of the home are as they are; in
+  -- the place of each stranger stands a leaf that gives nothing
+  pub record IsNet (part : List (List ℕ)) (homes : List ℕ) (home root : ℕ) (nodes net : List (Node (StageWork S K))) : Type 0 where
+    pub count : length net ≡ root + 1
+    pub work : (n m : Node (StageWork S K)) → slice_get net root ≡ Some n → slice_get nodes root ≡ Some m → n.work ≡ m.work
+    pub root_fresh : (n : Node (StageWork S K)) → slice_get net root ≡ Some n → IsFresh (shown (as_works s k) (children part root) n)
+    pub own : (i : ℕ) (n : Node (StageWork S K)) → i < root → is_of homes home i ≡ true → slice_get net i ≡ Some n → slice_get nodes i ≡ Some n
+    pub strange : (i : ℕ) (n : Node (StageWork S K)) → i < root → is_of homes home i ≡ false → slice_get net i ≡ Some n → IsNewLeaf n × Gives empty_flow n
+
+  -- the nodes of a part took turns until all were done, over queues of this capacity, and memory was wanting at none; each is back at its
+  -- place
+  pub record IsPartRun (queue : ℕ) (part : List (List ℕ)) (homes : List ℕ) (home root : ℕ) (nodes after : List (Node (StageWork S K))) : Type 0 where
+    pub net : List (Node (StageWork S K))
+    pub ended : List (Node (StageWork S K))
+    pub is_net : IsNet part homes home root nodes net
+    pub ran : IsRanTree (as_works s k) part net ended
+    pub over : IsRanOver (as_works s k) part queue net ended
+    pub enough : (i : ℕ) (m : Node (StageWork S K)) → slice_get ended i ≡ Some m → is_short m.work ≡ false
+    pub count : length after ≡ length nodes
+    pub back : (i : ℕ) → i ≤ root → is_own homes home root i ≡ true → slice_get after i ≡ slice_get ended i
+    pub other : (i : ℕ) → i ≤ root → is_own homes home root i ≡ false → slice_get after i ≡ slice_get nodes i
+    pub beyond : (i : ℕ) → root < i → slice_get after i ≡ slice_get nodes i
+
+  -- the node at a place, a leaf, gave all it had, alone
+  pub record IsLeafRun (queue at : ℕ) (nodes after : List (Node (StageWork S K))) : Type 0 where
+    pub was : Node (StageWork S K)
+    pub is : Node (StageWork S K)
+    pub before : slice_get nodes at ≡ Some was
+    pub ran : IsRanTree (as_works s k) ([] ∷ []) (was ∷ []) (is ∷ [])
+    pub over : IsRanOver (as_works s k) ([] ∷ []) queue (was ∷ []) (is ∷ [])
+    pub enough : is_short is.work ≡ false
+    pub count : length after ≡ length nodes
+    pub back : slice_get after at ≡ Some is
+    pub other : (i : ℕ) → i ≢ at → slice_get after i ≡ slice_get nodes i
+
+  -- the stage at a place made of the views that it took what it is to make, and gives that
+  pub record IsGatheredAt (at : ℕ) (nodes after : List (Node (StageWork S K))) : Type 0 where
+    pub count : length after ≡ length nodes
+    pub here : (n m : Node (StageWork S K)) → slice_get nodes at ≡ Some n → slice_get after at ≡ Some m → IsGathered n.work m.work
+    pub leaf : (m : Node (StageWork S K)) → slice_get after at ≡ Some m → IsNewLeaf m
+    pub other : (i : ℕ) → i ≢ at → slice_get after i ≡ slice_get nodes i
+
+  -- ---- all parts
+
+  module _ (stages : List StageSpec) (homes : List ℕ) (old : List (Node (StageWork S K))) where
+    -- the part of stage i was run, where those of the homes below this one were
+    abbrev pub is_past : ℕ → ℕ → Bool
+    is_past done i = nat_lt (home_at homes i) done
+
+    -- no device failed in the parts that were run
+    abbrev pub NoneFailedBefore : ℕ → List (Node (StageWork S K)) → Type 0
+    NoneFailedBefore done now = (i : ℕ) (m : Node (StageWork S K)) → slice_get now i ≡ Some m → is_past done i ≡ true → is_device m.fault ≡ false
+
+    -- the nodes once the parts of the homes below this one were run: those of the parts ended as their stages say, those below it that
+    -- need whole views give what they made of them, and all others had no turn yet
+    pub record AreRunBefore (done : ℕ) (now : List (Node (StageWork S K))) : Type 0 where
+      pub past : (opened : Opened) → NoneFailedBefore done now → ReadersTell s old opened
+          → (i : ℕ) (m : Node (StageWork S K)) → slice_get now i ≡ Some m → is_past done i ≡ true → EndsAsStage s k stages opened i m
+      pub held : (i : ℕ) (m : Node (StageWork S K)) → slice_get now i ≡ Some m → is_past done i ≡ false → i < done → is_gathering (role_at stages i) ≡ true → IsNewLeaf m
+      pub gives : (opened : Opened) → NoneFailedBefore done now → ReadersTell s old opened
+          → (i : ℕ) (m : Node (StageWork S K)) → slice_get now i ≡ Some m → is_past done i ≡ false → i < done → is_gathering (role_at stages i) ≡ true
+          → Gives (stage_value stages opened i) m
+      pub waits : (i : ℕ) (m : Node (StageWork S K)) → slice_get now i ≡ Some m → is_past done i ≡ false → (i < done → is_gathering (role_at stages i) ≡ true → ⊥) → slice_get old i ≡ Some m
+
+    -- ---- one part after the other
+
+    module _ (queue : ℕ) where
+      -- the part of this home and root was run, over queues of this capacity
+      abbrev pub PartRan : ℕ → ℕ → List (Node (StageWork S K)) → List (Node (StageWork S K)) → Type 0
+      PartRan home root now after = IsPartRun queue (part_ins (gathers_of stages) (ins_of stages) homes home root) homes home root now after
+
+      -- stage w needs whole views: its part was run, and it made of them what it is to make
+      pub record IsTurn (w : ℕ) (now last : List (Node (StageWork S K))) : Type 0 where
+        pub gathers : is_gathering (role_at stages w) ≡ true
+        pub after : List (Node (StageWork S K))
+        pub ran : PartRan w w now after
+        pub made : IsGatheredAt w after last
+
+      -- those of the first stages that need whole views took their turns, in the order of their numbers
+      abbrev pub AreTurned : ℕ → List (Node (StageWork S K)) → Type 0
+      AreTurned zero now = now ≡ old
+      AreTurned (suc w) now = (before : List (Node (StageWork S K))) × AreTurned w before
+          × (IsTurn w before now ⊎ ((is_gathering (role_at stages w) ≡ false) × (now ≡ before)))
+
+      -- then the last stage, with what stands below it alone, came to its end
+      pub record AreRunInTurn (new : List (Node (StageWork S K))) : Type 0 where
+        pub now : List (Node (StageWork S K))
+        pub turned : AreTurned (length stages) now
+        pub streams : is_gathering (role_at stages (length stages - 1)) ≡ false → PartRan (length stages) (length stages - 1) now new
+        pub gathers : is_gathering (role_at stages (length stages - 1)) ≡ true → IsLeafRun queue (length stages - 1) now new
+
+  -- the parts of a tree of stages were run one after the other, over queues of this capacity
+  pub record ByParts (stages : List StageSpec) (queue : ℕ) (old new : List (Node (StageWork S K))) : Type 0 where
+    pub homes : List ℕ
+    pub are : AreHomes (gathers_of stages) (ins_of stages) homes
+    pub ran : AreRunInTurn stages homes old queue new

@@ -1,0 +1,154 @@
+//! The parts of a tree of stages take turns, each as a net of its own.
+
+ghost use Rattle.std.specs.Prelude.{◌≡◌, ◌-◌, ◌<◌, ◌≤◌, ◌↔◌, ℕ, true, length, slice_get, Some, OnOk};
+ghost use Rattle.network_core.specs.declared.node.Node as node_type;
+ghost use Rattle.network_core.specs.Shown.{shown};
+ghost use Rattle.network_theory.specs.Forest.{IsForest, children};
+ghost use Rattle.network_theory.specs.Opening.{IsFresh};
+ghost use Rattle.stage_kinds.specs.Stages.{is_leaf};
+ghost use Rattle.stage_kinds.specs.declared.stage_work.StageWork as work_type;
+ghost use Rattle.stage_parts.specs.Parts.{is_of, part_ins};
+ghost use Rattle.stage_runs.specs.Works.{as_works};
+ghost use Rattle.stage_runs.specs.Parts.{IsExchanged, is_own, IsNewLeaf, IsCollecting, IsRenewed, IsPartRun, IsLeafRun, IsGatheredAt, AreSameOrLater};
+
+use crate::nets::{Alone, Ran, let_go, run_alone, run_net, stand_in, stand_ins};
+use crate::plan::Plan;
+use cloud_points::Work;
+use file_devices::{FileSink, Source};
+use network_core::Node;
+use stage_kinds::StageWork;
+use stage_parts::part_ins;
+use std::alloc::{AllocError, Global};
+use std::mem;
+
+/// How much the nodes of a net hold.
+#[derive(Clone, Copy)]
+pub(crate) struct Sizes {
+    /// How many points a leaf makes at once: 1 to 64.
+    pub(crate) chunk: usize,
+
+    /// How many items wait between two nodes: 1 to 64.
+    pub(crate) queue: usize,
+
+    pub ghost some: { 0 < chunk },
+    pub ghost most: { chunk ≤ 64 },
+    pub ghost room: { 0 < queue },
+    pub ghost small: { queue ≤ 64 },
+}
+
+/// Exchanges the nodes of a part for those that stand at their places in its net, whose last one is the root.
+fn exchange<T>(nodes: &mut [T], net: &mut [T], homes: &[u32], home: u32)
+    requires net { length net.old ≤ length nodes.old }
+    requires homes { length homes.now ≡ length nodes.old }
+    ensures { IsExchanged (is_own homes.now home (length net.old - 1)) (length net.old) nodes.old net.old nodes.new net.new }
+{
+    let count = net.len();
+    for k in 0..count {
+        if k + 1 == count || homes[k] == home {
+            mem::swap(&mut nodes[k], &mut net[k]);
+        }
+    }
+}
+
+/// Lends the nodes of a part to its net, or takes them back.
+fn lend<T>(nodes: &mut [T], net: &mut Vec<T>, homes: &[u32], home: u32)
+    requires net { length net.old.items ≤ length nodes.old }
+    requires homes { length homes.now ≡ length nodes.old }
+    ensures { IsExchanged (is_own homes.now home (length net.old.items - 1)) (length net.old.items) nodes.old net.old.items nodes.new net.new.items }
+{
+    exchange(nodes, net.as_mut_slice(), homes, home);
+}
+
+/// Makes the root of a net new over its work, with so many inputs.
+fn renew_root<W: Work>(net: &mut Vec<Node<W>>, inputs: u32, chunk: usize)
+    requires leaf { (n : node_type.Node W) → slice_get net.old.items (length net.old.items - 1) ≡ Some n → (W.leaf n.work ≡ true) ↔ (inputs ≡ 0) }
+    requires some { 0 < chunk }
+    requires most { chunk ≤ 64 }
+    ensures { IsRenewed W.Work inputs net.old.items net.new.items }
+{
+    if let Some(root) = net.pop() {
+        net.push_reserved(Node::new(root.into_work(), inputs, chunk));
+    }
+}
+
+/// Lets the nodes of the part of a home take turns until all are done. Each node stays at its place. Refuses where memory is wanting.
+pub(crate) fn run_part<S: Source, K: FileSink>(
+    alloc: Global,
+    nodes: &mut [Node<StageWork<S, K>>],
+    plan: &Plan,
+    home: u32,
+    root: usize,
+    sizes: Sizes,
+) -> Result<(), AllocError>
+    requires root { root < length nodes.old }
+    requires few { length nodes.old ≤ 64 }
+    requires ins { length plan.now.ins ≡ length nodes.old }
+    requires gathers { length plan.now.gathers.items ≡ length nodes.old }
+    requires homes { length plan.now.homes.items ≡ length nodes.old }
+    requires forest { IsForest (part_ins plan.now.gathers.items plan.now.ins plan.now.homes.items home root) root }
+    requires fresh { (i : ℕ) (n : node_type.Node (work_type.StageWork S K)) → i < root → is_of plan.now.homes.items home i ≡ true → slice_get nodes.old i ≡ Some n
+        → IsFresh (shown (as_works S.Source K.Sink) (children (part_ins plan.now.gathers.items plan.now.ins plan.now.homes.items home root) i) n) }
+    requires inputs { (n : node_type.Node (work_type.StageWork S K)) → slice_get nodes.old root ≡ Some n
+        → (is_leaf n.work ≡ true) ↔ (length (children (part_ins plan.now.gathers.items plan.now.ins plan.now.homes.items home root) root) ≡ 0) }
+    ensures later { AreSameOrLater S.Source K.Sink nodes.old nodes.new }
+    ensures run { OnOk result (IsPartRun S.Source K.Sink sizes.queue (part_ins plan.now.gathers.items plan.now.ins plan.now.homes.items home root) plan.now.homes.items home root nodes.old nodes.new) }
+{
+    let homes = plan.homes.as_slice();
+    let part = part_ins(
+        alloc,
+        &plan.ins,
+        plan.gathers.as_slice(),
+        homes,
+        home,
+        root as u32,
+    )?;
+    let mut net = stand_ins(alloc, root + 1, sizes.chunk)?;
+    lend(nodes, &mut net, homes, home);
+    renew_root(&mut net, part.children(root).len() as u32, sizes.chunk);
+    let Ran {
+        nodes: mut net,
+        enough,
+    } = run_net(alloc, net, part, sizes.queue);
+    lend(nodes, &mut net, homes, home);
+    let_go(net);
+    if enough { Ok(()) } else { Err(AllocError) }
+}
+
+/// Lets a leaf give all that it has, to no one.
+pub(crate) fn run_leaf<S: Source, K: FileSink>(
+    alloc: Global,
+    nodes: &mut [Node<StageWork<S, K>>],
+    at: usize,
+    sizes: Sizes,
+) -> Result<(), AllocError>
+    requires inside { at < length nodes.old }
+    requires leaf { (n : node_type.Node (work_type.StageWork S K)) → slice_get nodes.old at ≡ Some n → IsNewLeaf S.Source K.Sink n }
+    ensures later { AreSameOrLater S.Source K.Sink nodes.old nodes.new }
+    ensures run { OnOk result (IsLeafRun S.Source K.Sink sizes.queue at nodes.old nodes.new) }
+{
+    let empty = stand_in(alloc, sizes.chunk);
+    let node = mem::replace(&mut nodes[at], empty);
+    let Alone { node, enough } = run_alone(alloc, node, sizes.queue);
+    mem::replace(&mut nodes[at], node).into_work().let_go();
+    if enough { Ok(()) } else { Err(AllocError) }
+}
+
+/// Has the stage at a place make of the views that it took what it is to make: it is a leaf then that gives that. Refuses where memory
+/// is wanting.
+pub(crate) fn gather_at<S: Source, K: FileSink>(
+    alloc: Global,
+    nodes: &mut [Node<StageWork<S, K>>],
+    at: usize,
+    sizes: Sizes,
+) -> Result<(), AllocError>
+    requires inside { at < length nodes.old }
+    requires collects { (n : node_type.Node (work_type.StageWork S K)) → slice_get nodes.old at ≡ Some n → IsCollecting n.work }
+    ensures later { AreSameOrLater S.Source K.Sink nodes.old nodes.new }
+    ensures gathered { OnOk result (IsGatheredAt S.Source K.Sink at nodes.old nodes.new) }
+{
+    let empty = stand_in(alloc, sizes.chunk);
+    let work = mem::replace(&mut nodes[at], empty).into_work();
+    let made = Node::new(work.gather(alloc)?, 0, sizes.chunk);
+    mem::replace(&mut nodes[at], made).into_work().let_go();
+    Ok(())
+}
