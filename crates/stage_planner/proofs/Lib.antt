@@ -1,0 +1,5 @@
+pub mod Covers
+pub mod Forest
+pub mod Parts
+pub mod Ranges
+pub mod Ways

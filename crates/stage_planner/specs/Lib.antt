@@ -1,0 +1,3 @@
+pub mod Covering
+pub mod Examples
+pub mod Plans
