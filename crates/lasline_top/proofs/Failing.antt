@@ -1,9 +1,8 @@
 -- Where no device fails, none is named.
-use Rattle.std.proofs.Common.{◌≡◌, ◌⊎◌, List, Result, Ok, Err, IsOk, ap, sym, ◌∙◌, inl, inr}
+use Rattle.std.proofs.Common.{◌≡◌, ◌⊎◌, ℕ, List, Result, Ok, Err, IsOk, ap, sym, ◌∙◌, inl, inr}
 use Rattle.file_devices.specs.declared.devices.Op.{Op}
 use Rattle.file_devices.specs.declared.devices.Op.TheVariants.{Open, Read, Create, Write, Patch, Keep}
 use Rattle.file_devices.specs.Named.{Names}
-use Rattle.stage_options.specs.declared.stage.StageSpec.{StageSpec}
 use Rattle.run_report.specs.declared.refusal.Place.{Place}
 use Rattle.run_report.specs.declared.refusal.Place.TheVariants.{PipelineFile, Generated, Stage, Out}
 use Rattle.run_report.specs.declared.refusal.Refusal.{Refusal}
@@ -13,9 +12,9 @@ use Rattle.run_engine.specs.Cause.{Because}
 use Rattle.lasline_top.specs.declared.status.Status.{Status}
 use Rattle.lasline_top.specs.declared.status.Status.TheVariants as status
 use Rattle.lasline_top.specs.Refusals.{status_for}
-use Rattle.lasline_top.specs.Words.{Task, Run_file, Print}
-use Rattle.lasline_top.specs.Answer.{plan_in, ran, status_of}
-use Rattle.lasline_top.specs.Cause.{AtText, AtOut, AtRun, AtTask}
+use Rattle.lasline_top.specs.Words.{Task, Run_file, Plan_file, Make_file, Trial, Print}
+use Rattle.lasline_top.specs.Answer.{plan_in, ran, trial_run, status_of}
+use Rattle.lasline_top.specs.Cause.{AtText, AtOut, AtFile, AtPlan, AtMade, AtTrial, AtTask}
 
 no_text : (files : Type 0) (o : Op) → (files → ⊥) → AtText files PipelineFile o → ⊥
 no_text files Open none h = none h
@@ -33,12 +32,6 @@ no_out out right Write none h = none h.0
 no_out out right Patch none h = h
 no_out out right Keep none h = h
 
-no_device : (files out : Type 0) (m : Names) (plan : Result (List StageSpec) Refusal) (right : Type 0) (p : Place) (o : Op) → (files → ⊥) → (out → ⊥) → AtRun files out m plan right p o → ⊥
-no_device files out m plan right Generated o no_files no_output h = absurd h
-no_device files out m plan right PipelineFile o no_files no_output h = no_text files o no_files h
-no_device files out m plan right (Stage i) o no_files no_output h = no_files h.0
-no_device files out m plan right Out o no_files no_output h = no_out out right o no_output h
-
 no_page : (out : Type 0) (o : Op) → (out → ⊥) → AtOut out o → ⊥
 no_page out Open none h = h
 no_page out Read none h = h
@@ -47,8 +40,40 @@ no_page out Write none h = none h
 no_page out Patch none h = h
 no_page out Keep none h = h
 
+no_file : (files out : Type 0) (m : Names) (file : List ℕ) (p : Place) (o : Op) → (files → ⊥) → (out → ⊥) → AtFile files out m file p o → ⊥
+no_file files out m file PipelineFile o no_files no_output h = no_text files o no_files h
+no_file files out m file Generated o no_files no_output h = h
+no_file files out m file (Stage i) o no_files no_output h = no_files h.0
+no_file files out m file Out o no_files no_output h = no_out out (IsOk (ran m file)) o no_output h
+
+no_plan : (files out : Type 0) (m : Names) (file : List ℕ) (p : Place) (o : Op) → (files → ⊥) → (out → ⊥) → AtPlan files out m file p o → ⊥
+no_plan files out m file PipelineFile o no_files no_output h = no_text files o no_files h
+no_plan files out m file Generated o no_files no_output h = h
+no_plan files out m file (Stage i) o no_files no_output h = h
+no_plan files out m file Out o no_files no_output h = no_out out (IsOk (plan_in m file)) o no_output h
+
+no_made : (files out : Type 0) (p : Place) (o : Op) → (files → ⊥) → (out → ⊥) → AtMade files out p o → ⊥
+no_made files out Generated Create no_files no_output h = no_files h
+no_made files out Generated Write no_files no_output h = no_files h
+no_made files out Generated Patch no_files no_output h = no_files h
+no_made files out Generated Keep no_files no_output h = no_files h
+no_made files out Generated Open no_files no_output h = h
+no_made files out Generated Read no_files no_output h = h
+no_made files out PipelineFile o no_files no_output h = h
+no_made files out (Stage i) o no_files no_output h = h
+no_made files out Out o no_files no_output h = no_page out o no_output h
+
+no_trial : (files out : Type 0) (m : Names) (count : ℕ) (p : Place) (o : Op) → (files → ⊥) → (out → ⊥) → AtTrial files out m count p o → ⊥
+no_trial files out m count Generated o no_files no_output h = no_made files out Generated o no_files no_output h
+no_trial files out m count PipelineFile o no_files no_output h = h
+no_trial files out m count (Stage i) o no_files no_output h = no_files h.0
+no_trial files out m count Out o no_files no_output h = no_out out (IsOk (trial_run m count)) o no_output h
+
 no_task : (files out : Type 0) (m : Names) (task : Result Task Refusal) (p : Place) (o : Op) → (files → ⊥) → (out → ⊥) → AtTask files out m task p o → ⊥
-no_task files out m (Ok (Run_file file chunk queue)) p o no_files no_output h = no_device files out m (plan_in m file) (IsOk (ran m file)) p o no_files no_output h
+no_task files out m (Ok (Run_file file chunk queue)) p o no_files no_output h = no_file files out m file p o no_files no_output h
+no_task files out m (Ok (Plan_file file)) p o no_files no_output h = no_plan files out m file p o no_files no_output h
+no_task files out m (Ok (Make_file count name)) p o no_files no_output h = no_made files out p o no_files no_output h
+no_task files out m (Ok (Trial count chunk queue)) p o no_files no_output h = no_trial files out m count p o no_files no_output h
 no_task files out m (Ok (Print text)) p o no_files no_output h = no_page out o no_output h.1
 no_task files out m (Err refusal) p o no_files no_output h = h
 

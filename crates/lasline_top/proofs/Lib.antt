@@ -1,3 +1,7 @@
-pub mod Running
+pub mod Printed
+pub mod Planned
+pub mod Ran
+pub mod Made
+pub mod Tried
 pub mod Failing
 pub mod Statuses

@@ -11,19 +11,29 @@ use Rattle.run_report.specs.declared.refusal.Place.TheVariants as at
 use Rattle.run_report.specs.declared.refusal.Refusal.{Refusal}
 use Rattle.run_report.specs.declared.refusal.Refusal.TheVariants as of
 use Rattle.run_engine.specs.Cause.{MayFail}
-use Rattle.lasline_top.specs.Words.{Task, Run_file, Print}
-use Rattle.lasline_top.specs.Answer.{plan_in, ran}
+use Rattle.lasline_top.specs.Words.{Task, Run_file, Plan_file, Make_file, Trial, Print}
+use Rattle.lasline_top.specs.Answer.{plan_in, ran, stages_in, trial_text, with_trial, trial_run}
 
 -- a refusal that isn't for the words
 abbrev pub IsOfFiles : Refusal → Type 0
 IsOfFiles (of.Usage k) = ⊥
+IsOfFiles (of.NotBuilt r) = ⊥
 IsOfFiles refusal = ⊤
 
--- nor for the program's output
-abbrev pub IsInside : Refusal → Type 0
-IsInside (of.Usage k) = ⊥
-IsInside (of.Device at.Out o) = ⊥
-IsInside refusal = ⊤
+-- it is for a pipeline's text, or for want of memory
+abbrev pub IsOfText : Refusal → Type 0
+IsOfText (of.Pipeline f) = ⊤
+IsOfText of.Memory = ⊤
+IsOfText refusal = ⊥
+
+-- it is for a pipeline's file or its text, or for want of memory
+abbrev pub IsOfPlan : Refusal → Type 0
+IsOfPlan (of.Device at.PipelineFile o) = ⊤
+IsOfPlan refusal = IsOfText refusal
+
+-- no device is at fault
+abbrev pub Never : Place → Op → Type 0
+Never p o = ⊥
 
 -- over files that tell nothing a device is named only where its count rose: that of the files, or that of the output
 abbrev pub RisenAt : Type 0 → Type 0 → Place → Type 0
@@ -44,20 +54,43 @@ abbrev pub AtOut : Type 0 → Op → Type 0
 AtOut rose op.Write = rose
 AtOut rose o = ⊥
 
--- the device that an answer names may be at fault: its count rose, and the run had come that far
-abbrev pub AtRun : Type 0 → Type 0 → Names → Result (List StageSpec) Refusal → Type 0 → Place → Op → Type 0
-AtRun files_rose out_rose m plan right at.PipelineFile o = AtText files_rose at.PipelineFile o
-AtRun files_rose out_rose m plan right (at.Stage i) o = files_rose × IsOkAnd plan (λ stages. MayFail m stages i o)
-AtRun files_rose out_rose m plan right at.Generated o = ⊥
-AtRun files_rose out_rose m plan right at.Out o = AtOut (out_rose × right) o
+-- a device of a run's stages, where the run had come that far, or the output, where the run was right
+abbrev pub AtStages : Type 0 → Type 0 → Names → Result (List StageSpec) Refusal → Type 0 → Place → Op → Type 0
+AtStages files_rose out_rose m plan right (at.Stage i) o = files_rose × IsOkAnd plan (λ stages. MayFail m stages i o)
+AtStages files_rose out_rose m plan right at.Out o = AtOut (out_rose × right) o
+AtStages files_rose out_rose m plan right place o = ⊥
 
 -- that of a command that runs this file
 abbrev pub AtFile : Type 0 → Type 0 → Names → List ℕ → Place → Op → Type 0
-AtFile files_rose out_rose m file p o = AtRun files_rose out_rose m (plan_in m file) (IsOk (ran m file)) p o
+AtFile files_rose out_rose m file at.PipelineFile o = AtText files_rose at.PipelineFile o
+AtFile files_rose out_rose m file p o = AtStages files_rose out_rose m (plan_in m file) (IsOk (ran m file)) p o
 
--- that of a command: one that prints a page has the output alone
+-- of one that plans it
+abbrev pub AtPlan : Type 0 → Type 0 → Names → List ℕ → Place → Op → Type 0
+AtPlan files_rose out_rose m file at.Out o = AtOut (out_rose × IsOk (plan_in m file)) o
+AtPlan files_rose out_rose m file p o = AtText files_rose p o
+
+-- of one that makes a file of generated points
+abbrev pub AtMade : Type 0 → Type 0 → Place → Op → Type 0
+AtMade files_rose out_rose at.Generated op.Create = files_rose
+AtMade files_rose out_rose at.Generated op.Write = files_rose
+AtMade files_rose out_rose at.Generated op.Patch = files_rose
+AtMade files_rose out_rose at.Generated op.Keep = files_rose
+AtMade files_rose out_rose at.Out o = AtOut out_rose o
+AtMade files_rose out_rose p o = ⊥
+
+-- of one that makes such a file and runs the pipeline of the trial on it
+abbrev pub AtTrial : Type 0 → Type 0 → Names → ℕ → Place → Op → Type 0
+AtTrial files_rose out_rose m count at.Generated o = AtMade files_rose out_rose at.Generated o
+AtTrial files_rose out_rose m count p o = AtStages files_rose out_rose (with_trial m count) (stages_in trial_text) (IsOk (trial_run m count)) p o
+
+-- the device that an answer names may be at fault: its count rose, and the command had come that far. One that prints a page has the
+-- output alone
 abbrev pub AtTask : Type 0 → Type 0 → Names → Result Task Refusal → Place → Op → Type 0
 AtTask files_rose out_rose m (Ok (Run_file file chunk queue)) p o = AtFile files_rose out_rose m file p o
+AtTask files_rose out_rose m (Ok (Plan_file file)) p o = AtPlan files_rose out_rose m file p o
+AtTask files_rose out_rose m (Ok (Make_file count name)) p o = AtMade files_rose out_rose p o
+AtTask files_rose out_rose m (Ok (Trial count chunk queue)) p o = AtTrial files_rose out_rose m count p o
 AtTask files_rose out_rose m (Ok (Print text)) p o = (p ≡ at.Out) × AtOut out_rose o
 AtTask files_rose out_rose m (Err refusal) p o = ⊥
 

@@ -2,6 +2,9 @@ pub mod Refusals
 pub mod Pages
 pub mod Words
 pub mod Tasks
+pub mod Texts
 pub mod Answer
 pub mod Cause
+pub mod Left
+pub mod Ends
 pub mod Codes

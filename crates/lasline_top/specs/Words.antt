@@ -7,20 +7,25 @@ use Rattle.run_report.specs.declared.refusal.Refusal.{Refusal}
 use Rattle.run_report.specs.declared.refusal.Refusal.TheVariants.{Usage, NotBuilt}
 use Rattle.lasline_top.specs.Pages.{help_page, version_page}
 
--- what a command comes to: the run of a pipeline's file with so many points per chunk and items per queue, or a page that is printed
+-- what a command comes to: the run of a pipeline's file with so many points per chunk and items per queue; the plan of such a file; a
+-- LAS file of so many generated points; such a file and the run of a fixed pipeline on it; or a page that is printed
 pub data Task : Type 0 where
   Run_file : List ℕ → ℕ → ℕ → Task
+  Plan_file : List ℕ → Task
+  Make_file : ℕ → List ℕ → Task
+  Trial : ℕ → ℕ → ℕ → Task
   Print : List ℕ → Task
 
-abbrev pub run_task : List ℕ → RunOptions → Result Task Refusal
-run_task file options = if options.whole then Err (NotBuilt 1) else Ok (Run_file file options.chunk options.queue)
+-- an engine on whole lists isn't built
+abbrev pub unless_whole : RunOptions → Task → Result Task Refusal
+unless_whole options task = if options.whole then Err (NotBuilt 1) else Ok task
 
 -- the task of a command, as far as it is built
 abbrev pub task_in : Command → Result Task Refusal
-task_in (run file options) = run_task file options
-task_in (plan file) = Err (NotBuilt 1)
-task_in (gen count name) = Err (NotBuilt 1)
-task_in (trial count options) = Err (NotBuilt 1)
+task_in (run file options) = unless_whole options (Run_file file options.chunk options.queue)
+task_in (plan file) = Ok (Plan_file file)
+task_in (gen count name) = Ok (Make_file count name)
+task_in (trial count options) = unless_whole options (Trial count options.chunk options.queue)
 task_in help = Ok (Print help_page)
 task_in version = Ok (Print version_page)
 

@@ -1,10 +1,16 @@
 //! The top call of lasline: the words of a command line, the files, and what is printed.
 #![tactic(auto)]
 
+mod count;
+mod generating;
 mod pages;
 mod pipeline_file;
+mod planning;
+mod printing;
+mod running;
 mod solo;
 mod status;
+mod texts;
 mod words;
 
 pub use run_report::{Fault, Place, Refusal, StageCount, fault_text, report_text};

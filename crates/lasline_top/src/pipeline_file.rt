@@ -1,31 +1,30 @@
-//! The file of a pipeline.
+//! The file of a pipeline, and its stages.
 
 ghost use Rattle.std.specs.Prelude.{◌≡◌, Some, None, Ok, IfOk, IfErr};
 ghost use Rattle.file_devices.specs.Counts.{Rose};
 ghost use Rattle.file_devices.specs.Named.{Names};
-ghost use Rattle.lasline_top.specs.Answer.{raw_in};
 ghost use Rattle.answer_model.specs.Runs.{file_at};
 ghost use Rattle.run_report.specs.declared.refusal.Place.{Place};
 ghost use Rattle.run_engine.specs.Cause.{Because, IsSettled};
-ghost use Rattle.lasline_top.specs.Cause.{AtText, Risen, IsInside};
+ghost use Rattle.stage_options.specs.TreeShown.{specs_view};
+ghost use Rattle.lasline_top.specs.Answer.{plan_in, stages_in};
+ghost use Rattle.lasline_top.specs.Cause.{AtText, Never, Risen, IsOfPlan, IsOfText};
+ghost use Rattle.lasline_top.specs.Refusals.{refusal_of};
 
 use file_devices::{DeviceErr, Files, Op, WholeErr, read_whole};
-use pipeline_json::MOST_BYTES;
+use pipeline_json::{MOST_BYTES, read_pipeline};
 use run_report::{Place, Refusal};
-use stage_names::PipeFault;
+use stage_names::{PipeErr, PipeFault};
+use stage_options::{Tree, type_tree};
 use std::alloc::Global;
 
 /// The text in a pipeline's file. One of more than `MOST_BYTES` is a fault of the pipeline, and isn't read to its end. The file is
 /// given back.
-pub(crate) fn read_text<F: Files>(
-    alloc: Global,
-    files: &mut F,
-    name: &str,
-) -> Result<Vec<u8>, Refusal>
+fn read_text<F: Files>(alloc: Global, files: &mut F, name: &str) -> Result<Vec<u8>, Refusal>
     ensures ok { IfOk result (λ text. (m : Names) → F.map files.old ≡ Some m → file_at (m name.now) Place.PipelineFile ≡ Ok text.items) }
     ensures err { IfErr result (λ refusal. (m : Names) → F.map files.old ≡ Some m
-        → Because (raw_in m name.now) (AtText (Rose (F.faults files.old) (F.faults files.new))) refusal) }
-    ensures inside { IfErr result IsInside }
+        → Because (plan_in m name.now) (AtText (Rose (F.faults files.old) (F.faults files.new))) refusal) }
+    ensures of_plan { IfErr result IsOfPlan }
     ensures risen { IfErr result (λ refusal. F.map files.old ≡ None → Risen (Rose (F.faults files.old) (F.faults files.new)) ⊥ refusal) }
     ensures settled { IsSettled (F.map files.old) (F.map files.new) (F.lent files.old) (F.lent files.new)
         (F.faults files.old) (F.faults files.new) }
@@ -43,4 +42,44 @@ pub(crate) fn read_text<F: Files>(
         Err(WholeErr::Memory) => Err(Refusal::Memory),
         Err(WholeErr::Failed) => Err(Refusal::Device(Place::PipelineFile, Op::Read)),
     }
+}
+
+/// The refusal for a pipeline.
+fn refusal_of(e: PipeErr) -> Refusal
+    ensures { result ≡ refusal_of e }
+{
+    match e {
+        PipeErr::Fault(fault) => Refusal::Pipeline(fault),
+        PipeErr::Memory => Refusal::Memory,
+    }
+}
+
+/// The pipeline that a text is: its stages with their options.
+pub(crate) fn read_stages(alloc: Global, text: &[u8]) -> Result<Tree, Refusal>
+    ensures ok { IfOk result (λ tree. stages_in text.now ≡ Ok (specs_view tree)) }
+    ensures err { IfErr result (Because (stages_in text.now) Never) }
+    ensures of_text { IfErr result IsOfText }
+{
+    let raw = match read_pipeline(alloc, text) {
+        Ok(raw) => raw,
+        Err(e) => return Err(refusal_of(e)),
+    };
+    match type_tree(alloc, &raw) {
+        Ok(tree) => Ok(tree),
+        Err(e) => Err(refusal_of(e)),
+    }
+}
+
+/// The pipeline in a file: its stages with their options.
+pub(crate) fn read_plan<F: Files>(alloc: Global, files: &mut F, name: &str) -> Result<Tree, Refusal>
+    ensures ok { IfOk result (λ tree. (m : Names) → F.map files.old ≡ Some m → plan_in m name.now ≡ Ok (specs_view tree)) }
+    ensures err { IfErr result (λ refusal. (m : Names) → F.map files.old ≡ Some m
+        → Because (plan_in m name.now) (AtText (Rose (F.faults files.old) (F.faults files.new))) refusal) }
+    ensures of_plan { IfErr result IsOfPlan }
+    ensures risen { IfErr result (λ refusal. F.map files.old ≡ None → Risen (Rose (F.faults files.old) (F.faults files.new)) ⊥ refusal) }
+    ensures settled { IsSettled (F.map files.old) (F.map files.new) (F.lent files.old) (F.lent files.new)
+        (F.faults files.old) (F.faults files.new) }
+{
+    let text = read_text(alloc, files, name)?;
+    read_stages(alloc, &text)
 }

@@ -1,5 +1,5 @@
 -- The parts of the examples.
-use Rattle.std.proofs.Common.{◌≡◌, ℕ, List, [], ◌∷◌, take, length, codes, Option, Some, None, Result, Ok, Err, refl, pos, negsuc, ap, ◌∙◌}
+use Rattle.std.proofs.Common.{◌≡◌, ℕ, List, [], ◌∷◌, take, length, codes, Option, Some, None, Result, Ok, Err, IsOk, refl, pos, negsuc, ap, ◌∙◌}
 use Rattle.std.specs.Fmt.{digits}
 use Rattle.std.specs.Str.{is_utf8, chars}
 use Rattle.std.specs.Float.Numeral.{scan_numeral}
@@ -17,6 +17,8 @@ use Rattle.las_header.specs.declared.faults.HeaderFault.TheVariants.{NotLas, Hea
 use Rattle.las_header.specs.Headers.{record_format, format_in, scales_of, offsets_of, header_with, header_of}
 use Rattle.las_vlr.specs.declared.entry.VlrFault.TheVariants.{TooManyVlrs, VlrPastPoints, EvlrPastEnd}
 use Rattle.las_vlr.specs.Vlrs.{entries_from}
+use Rattle.limits_text.specs.Texts.{ranges_of, ranges_in}
+use Rattle.decimal_coords.specs.DecimalOfText.{decimal_of_text}
 use Rattle.las_reader.specs.Frames.{LasFault, In_header, In_list}
 use Rattle.cloud_points.specs.declared.faults.PointFault.TheVariants.{Cut}
 use Rattle.cloud_points.specs.Points.{zero_point}
@@ -29,7 +31,6 @@ use Rattle.run_report.specs.declared.refusal.Refusal.{Refusal}
 use Rattle.run_report.specs.declared.refusal.Refusal.TheVariants.{Device, Pipeline, NotBuilt}
 use Rattle.stage_names.specs.declared.faults.PipeFault.TheVariants.{Empty, NotJson, NotAPipeline, CannotInfer, NoInput, TagTwice, TagUnknown, UsedTwice, OptionValue, OptionUnknown, SameOutput}
 use Rattle.stage_options.specs.declared.stage.StageSpec.{StageSpec}
-use Rattle.pipeline_json.specs.Trees.{tree_of}
 use Rattle.answer_model.specs.Steps.{and_then}
 use Rattle.stage_options.specs.Roles.{Role, Reads}
 use Rattle.answer_model.specs.Steps.{why}
@@ -39,13 +40,11 @@ use Rattle.answer_model.specs.Examples.{read, head, write}
 use Rattle.answer_model.specs.Runs as runs
 use Rattle.answer_model.specs.Runs.{Run, las_file_of, las_read, file_or, no_file, unless_unread, run_of, opened_in}
 use Rattle.command_words.specs.Machine.{command_of}
-use Rattle.lasline_top.specs.Words.{Run_file, task_of}
-use Rattle.lasline_top.specs.Answer.{piped, typed, ran, done, answer}
+use Rattle.stage_planner.specs.Plans.{end_of, plan_of}
+use Rattle.lasline_top.specs.Texts.{plan_text}
+use Rattle.lasline_top.specs.Words.{Run_file, Plan_file, Make_file, task_of}
+use Rattle.lasline_top.specs.Answer.{stages_in, ran, planned, printed, made, trial_text, done, answer}
 use Rattle.worked_examples.specs.Rows.{run_p, files, files_with, pipeline_alone, pipeline_text, head_of_1, head_of_0, tagged_head, reader_alone, writer_between, file_a, file_of_format_6, file_of_a_vlr, file_of_many_vlrs, file_of_a_far_evlr, file_compressed, file_of_neighbour, file_far, file_with_x, file_without_points, first_point, none_pass, only_read, all_and_first, twice, second_absent, two_points_twice}
-
--- the stages of a text, with their options
-abbrev pub planned : List ℕ → Result (List StageSpec) Refusal
-planned text = and_then (piped (tree_of text)) typed
 
 -- a reader, and stages behind the reader of the LAS file
 abbrev from_las : List StageSpec → List StageSpec
@@ -79,79 +78,79 @@ run_by file stages = unless_unread (least_from (λ i. unread_by file i (role_at 
 abbrev read_of : List ℕ → Format → ReadFile
 read_of bytes format = said_in format (file_or (las_read 0 (las_file_of bytes))).read
 
-chain_is : planned pipeline_text ≡ Ok (from_las (writer_after 0 (codes "o.txt") ∷ []))
+chain_is : stages_in pipeline_text ≡ Ok (from_las (writer_after 0 (codes "o.txt") ∷ []))
 unfolding is_utf8 chars encode value punctuate lex content
 chain_is = refl
 
-one_is : planned head_of_1 ≡ Ok (from_las (head_after 0 1 ∷ writer_after 1 (codes "o.txt") ∷ []))
+one_is : stages_in head_of_1 ≡ Ok (from_las (head_after 0 1 ∷ writer_after 1 (codes "o.txt") ∷ []))
 unfolding is_utf8 chars encode value punctuate lex content word after_number number_of scan_numeral
 one_is = refl
 
-zero_is : planned head_of_0 ≡ Ok (from_las (head_after 0 0 ∷ writer_after 1 (codes "o.txt") ∷ []))
+zero_is : stages_in head_of_0 ≡ Ok (from_las (head_after 0 0 ∷ writer_after 1 (codes "o.txt") ∷ []))
 unfolding is_utf8 chars encode value punctuate lex content word after_number number_of scan_numeral
 zero_is = refl
 
-tagged_is : planned tagged_head ≡ Ok (from_las (head_after 0 1 ∷ writer_after 1 (codes "o.txt") ∷ []))
+tagged_is : stages_in tagged_head ≡ Ok (from_las (head_after 0 1 ∷ writer_after 1 (codes "o.txt") ∷ []))
 unfolding is_utf8 chars encode value punctuate lex content word after_number number_of scan_numeral
 tagged_is = refl
 
-reader_is : planned reader_alone ≡ Ok (from_las [])
+reader_is : stages_in reader_alone ≡ Ok (from_las [])
 unfolding is_utf8 chars encode value punctuate lex content
 reader_is = refl
 
-between_is : planned writer_between ≡ Ok (from_las (writer_after 0 (codes "all.txt") ∷ head_after 1 1 ∷ writer_after 2 (codes "o.txt") ∷ []))
+between_is : stages_in writer_between ≡ Ok (from_las (writer_after 0 (codes "all.txt") ∷ head_after 1 1 ∷ writer_after 2 (codes "o.txt") ∷ []))
 unfolding is_utf8 chars encode value punctuate lex content word after_number number_of scan_numeral
 between_is = refl
 
-pub empty_array : planned (codes "[]") ≡ Err (Pipeline Empty)
+pub empty_array : stages_in (codes "[]") ≡ Err (Pipeline Empty)
 unfolding is_utf8 chars encode value punctuate lex content
 empty_array = refl
 
-pub no_json : planned (codes "[\"in.las\"") ≡ Err (Pipeline NotJson)
+pub no_json : stages_in (codes "[\"in.las\"") ≡ Err (Pipeline NotJson)
 unfolding is_utf8 chars encode value punctuate lex content
 no_json = refl
 
-pub no_stages : planned (codes "{}") ≡ Err (Pipeline NotAPipeline)
+pub no_stages : stages_in (codes "{}") ≡ Err (Pipeline NotAPipeline)
 unfolding is_utf8 chars encode value punctuate lex content
 no_stages = refl
 
-pub another_ending : planned (codes "[\"in.las\",\"o.laz\"]") ≡ Err (Pipeline (CannotInfer 1))
+pub another_ending : stages_in (codes "[\"in.las\",\"o.laz\"]") ≡ Err (Pipeline (CannotInfer 1))
 unfolding is_utf8 chars encode value punctuate lex content
 another_ending = refl
 
-pub a_head_first : planned (codes "[{\"type\":\"filters.head\"},\"in.las\",\"o.txt\"]") ≡ Err (Pipeline (NoInput 0))
+pub a_head_first : stages_in (codes "[{\"type\":\"filters.head\"},\"in.las\",\"o.txt\"]") ≡ Err (Pipeline (NoInput 0))
 unfolding is_utf8 chars encode value punctuate lex content
 a_head_first = refl
 
-pub a_tag_twice : planned (codes "[{\"filename\":\"in.las\",\"tag\":\"a\"},{\"type\":\"filters.head\",\"tag\":\"a\"},\"o.txt\"]") ≡ Err (Pipeline (TagTwice 1))
+pub a_tag_twice : stages_in (codes "[{\"filename\":\"in.las\",\"tag\":\"a\"},{\"type\":\"filters.head\",\"tag\":\"a\"},\"o.txt\"]") ≡ Err (Pipeline (TagTwice 1))
 unfolding is_utf8 chars encode value punctuate lex content
 a_tag_twice = refl
 
-pub an_unknown_tag : planned (codes "[{\"filename\":\"in.las\",\"tag\":\"a\"},{\"filename\":\"o.txt\",\"inputs\":[\"b\"]}]") ≡ Err (Pipeline (TagUnknown 1))
+pub an_unknown_tag : stages_in (codes "[{\"filename\":\"in.las\",\"tag\":\"a\"},{\"filename\":\"o.txt\",\"inputs\":[\"b\"]}]") ≡ Err (Pipeline (TagUnknown 1))
 unfolding is_utf8 chars encode value punctuate lex content
 an_unknown_tag = refl
 
-pub an_input_taken_twice : planned (codes "[{\"filename\":\"in.las\",\"tag\":\"a\"},{\"type\":\"filters.head\",\"inputs\":[\"a\"]},{\"filename\":\"o.txt\",\"inputs\":[\"a\"]}]") ≡ Err (Pipeline (UsedTwice 2))
+pub an_input_taken_twice : stages_in (codes "[{\"filename\":\"in.las\",\"tag\":\"a\"},{\"type\":\"filters.head\",\"inputs\":[\"a\"]},{\"filename\":\"o.txt\",\"inputs\":[\"a\"]}]") ≡ Err (Pipeline (UsedTwice 2))
 unfolding is_utf8 chars encode value punctuate lex content
 an_input_taken_twice = refl
 
-pub a_numbered_name : planned (codes "[\"in.las\",\"o#.txt\"]") ≡ Err (Pipeline (OptionValue 1 (codes "filename")))
+pub a_numbered_name : stages_in (codes "[\"in.las\",\"o#.txt\"]") ≡ Err (Pipeline (OptionValue 1 (codes "filename")))
 unfolding is_utf8 chars encode value punctuate lex content
 a_numbered_name = refl
 
-pub an_unknown_option : planned (codes "[\"in.las\",{\"type\":\"filters.head\",\"cuont\":1},\"o.txt\"]") ≡ Err (Pipeline (OptionUnknown 1 (codes "cuont")))
+pub an_unknown_option : stages_in (codes "[\"in.las\",{\"type\":\"filters.head\",\"cuont\":1},\"o.txt\"]") ≡ Err (Pipeline (OptionUnknown 1 (codes "cuont")))
 unfolding is_utf8 chars encode value punctuate lex content word after_number number_of scan_numeral
 an_unknown_option = refl
 
-pub a_count_too_large : planned (codes "[\"in.las\",{\"type\":\"filters.head\",\"count\":4294967296},\"o.txt\"]") ≡ Err (Pipeline (OptionValue 1 (codes "count")))
+pub a_count_too_large : stages_in (codes "[\"in.las\",{\"type\":\"filters.head\",\"count\":4294967296},\"o.txt\"]") ≡ Err (Pipeline (OptionValue 1 (codes "count")))
 unfolding is_utf8 chars encode value punctuate lex content word after_number number_of scan_numeral
 a_count_too_large = refl
 
-pub two_writers_of_a_name : planned (codes "[\"in.las\",{\"type\":\"writers.text\",\"filename\":\"o.txt\"},\"o.txt\"]") ≡ Err (Pipeline (SameOutput 2))
+pub two_writers_of_a_name : stages_in (codes "[\"in.las\",{\"type\":\"writers.text\",\"filename\":\"o.txt\"},\"o.txt\"]") ≡ Err (Pipeline (SameOutput 2))
 unfolding is_utf8 chars encode value punctuate lex content
 two_writers_of_a_name = refl
 
-pub another_order : planned (codes "[\"in.las\",{\"type\":\"filters.sort\",\"dimension\":\"Z\",\"order\":\"up\"},\"o.txt\"]") ≡ Err (Pipeline (OptionValue 1 (codes "order")))
+pub another_order : stages_in (codes "[\"in.las\",{\"type\":\"filters.sort\",\"dimension\":\"Z\",\"order\":\"up\"},\"o.txt\"]") ≡ Err (Pipeline (OptionValue 1 (codes "order")))
 unfolding is_utf8 chars encode value punctuate lex content
 another_order = refl
 
@@ -159,11 +158,11 @@ another_order = refl
 abbrev joining : List ℕ → List StageSpec
 joining name = from_las (read name ∷ write (codes "o.txt") (0 ∷ 1 ∷ []) ∷ [])
 
-twice_is : planned twice ≡ Ok (joining (codes "in.las"))
+twice_is : stages_in twice ≡ Ok (joining (codes "in.las"))
 unfolding is_utf8 chars encode value punctuate lex content
 twice_is = refl
 
-absent_is : planned second_absent ≡ Ok (joining (codes "b.las"))
+absent_is : stages_in second_absent ≡ Ok (joining (codes "b.las"))
 unfolding is_utf8 chars encode value punctuate lex content
 absent_is = refl
 
@@ -236,7 +235,7 @@ pub run_is : (m : Names) → answer run_p m ≡ ran m (codes "p.json")
 run_is m = ap (λ task. and_then task (done m)) asked
 
 -- the run of a pipeline over a LAS file
-pub run_over : (pipeline las : List ℕ) {later : List StageSpec} {file : Result LasFile LasFault} → planned pipeline ≡ Ok (from_las later) → las_file_of las ≡ file
+pub run_over : (pipeline las : List ℕ) {later : List StageSpec} {file : Result LasFile LasFault} → stages_in pipeline ≡ Ok (from_las later) → las_file_of las ≡ file
     → run_of (files_with pipeline las) (from_las later) ≡ run_by (las_file_of las) (from_las later) → answer run_p (files_with pipeline las) ≡ run_by file (from_las later)
 run_over pipeline las {later} plan is same = run_is (files_with pipeline las) ∙ ap (λ stages. and_then stages (run_of (files_with pipeline las))) plan
     ∙ same ∙ ap (λ r. run_by r (from_las later)) is
@@ -247,7 +246,7 @@ unfolding evaluated
 run_whole las is = run_over _ las chain_is is refl
 
 -- a pipeline that is refused
-pub refused : (pipeline : List ℕ) {refusal : Refusal} → planned pipeline ≡ Err refusal → answer run_p (files_with pipeline file_a) ≡ Err refusal
+pub refused : (pipeline : List ℕ) {refusal : Refusal} → stages_in pipeline ≡ Err refusal → answer run_p (files_with pipeline file_a) ≡ Err refusal
 refused pipeline plan = run_is (files_with pipeline file_a) ∙ ap (λ stages. and_then stages (run_of (files_with pipeline file_a))) plan
 
 pub one_passes : answer run_p (files_with head_of_1 file_a) ≡ Ok first_point
@@ -282,3 +281,27 @@ twice_read = run_over _ _ twice_is two_read refl
 pub second_unread : answer run_p (files_with second_absent file_a) ≡ Err (Device (Stage 1) Open)
 second_unread = run_is (files_with second_absent file_a) ∙ ap (λ stages. and_then stages (run_of (files_with second_absent file_a))) absent_is
     ∙ ap (λ r. unless_unread (or_later 0 (why (las_read 0 r)) (Some (1, Device (Stage 1) Open))) (runs.run_over (joining (codes "b.las")) (opened_in (files_with second_absent file_a) (joining (codes "b.las"))))) two_read
+
+-- ---- the other commands
+
+plan_asked : task_of (codes "plan" ∷ codes "p.json" ∷ []) ≡ Ok (Plan_file (codes "p.json"))
+unfolding command_of
+plan_asked = refl
+
+plan_is : plan_text (plan_of (from_las (writer_after 0 (codes "o.txt") ∷ []))) ≡ codes "run 0 1\nsteps 1\n"
+unfolding end_of digits
+plan_is = refl
+
+pub chain_planned : answer (codes "plan" ∷ codes "p.json" ∷ []) (files file_a) ≡ Ok (printed (codes "run 0 1\nsteps 1\n"))
+chain_planned = ap (λ task. and_then task (done (files file_a))) plan_asked ∙ ap (λ stages. and_then stages (λ ss. Ok (printed (plan_text (plan_of ss))))) chain_is ∙ ap (λ text. Ok (printed text)) plan_is
+
+gen_asked : task_of (codes "gen" ∷ codes "1" ∷ codes "g.las" ∷ []) ≡ Ok (Make_file 1 (codes "g.las"))
+unfolding command_of
+gen_asked = refl
+
+pub one_made : (m : Names) → answer (codes "gen" ∷ codes "1" ∷ codes "g.las" ∷ []) m ≡ Ok (made 1 (codes "g.las"))
+one_made m = ap (λ task. and_then task (done m)) gen_asked
+
+pub trial_typed : IsOk (stages_in trial_text)
+unfolding trial_text ranges_of ranges_in decimal_of_text is_utf8 chars encode value punctuate lex content word after_number number_of scan_numeral
+trial_typed = refl

@@ -2,7 +2,7 @@
 //! meant: the functions have no code, and each clause of their contracts is one example.
 #![tactic(auto)]
 
-ghost use Rattle.std.specs.Prelude.{◌≡◌, ◌∷◌, [], ℕ, List, take, codes, None, Ok, Err};
+ghost use Rattle.std.specs.Prelude.{◌≡◌, ◌∷◌, [], ℕ, List, take, codes, None, Ok, Err, IsOk};
 ghost use Rattle.file_devices.specs.Named.{Names};
 ghost use Rattle.file_devices.specs.declared.devices.Op.{Op};
 ghost use Rattle.las_header.specs.declared.faults.Axis.{Axis};
@@ -10,7 +10,7 @@ ghost use Rattle.las_header.specs.declared.faults.HeaderFault.{HeaderFault};
 ghost use Rattle.las_vlr.specs.declared.entry.VlrFault.{VlrFault};
 ghost use Rattle.cloud_points.specs.declared.faults.PointFault.{PointFault};
 ghost use Rattle.stage_names.specs.declared.faults.PipeFault.{PipeFault};
-ghost use Rattle.lasline_top.specs.Answer.{answer, printed};
+ghost use Rattle.lasline_top.specs.Answer.{answer, made, printed, stages_in, trial_text};
 ghost use Rattle.run_report.specs.declared.refusal.Refusal.{Refusal};
 ghost use Rattle.run_report.specs.declared.refusal.Fault.{Fault};
 ghost use Rattle.run_report.specs.declared.refusal.Place.{Place};
@@ -87,8 +87,8 @@ pub fn pipelines_are_refused()
     ensures another_order { answer run_p (files_with (codes "[\"in.las\",{\"type\":\"filters.sort\",\"dimension\":\"Z\",\"order\":\"up\"},\"o.txt\"]") file_a) ≡ Err (Refusal.Pipeline (PipeFault.OptionValue 1 (codes "order"))) }
 {}
 
-/// Words that are no command are refused for the first one that is wrong or missing, whatever files there are, and some
-/// commands aren't built.
+/// Words that are no command are refused for the first one that is wrong or missing, whatever files there are, and an engine on whole
+/// lists isn't built.
 #[tactic(auto, unfolding(command_words::specs::Machine::command_of))]
 pub fn words_are_refused()
     ensures none { (m : Names) → answer [] m ≡ Err (Refusal.Usage 0) }
@@ -97,7 +97,7 @@ pub fn words_are_refused()
     ensures one_more { (m : Names) → answer (codes "run" ∷ codes "p.json" ∷ codes "--chunk" ∷ []) m ≡ Err (Refusal.Usage 3) }
     ensures chunk_of_none { (m : Names) → answer (codes "run" ∷ codes "p.json" ∷ codes "--chunk" ∷ codes "0" ∷ []) m ≡ Err (Refusal.Usage 3) }
     ensures an_option_twice { (m : Names) → answer (codes "run" ∷ codes "p.json" ∷ codes "--chunk" ∷ codes "4" ∷ codes "--chunk" ∷ codes "4" ∷ []) m ≡ Err (Refusal.Usage 4) }
-    ensures a_plan { (m : Names) → answer (codes "plan" ∷ codes "p.json" ∷ []) m ≡ Err (Refusal.NotBuilt 1) }
+    ensures a_plan_with_an_option { (m : Names) → answer (codes "plan" ∷ codes "p.json" ∷ codes "--whole" ∷ []) m ≡ Err (Refusal.Usage 2) }
     ensures a_whole_run { (m : Names) → answer (codes "run" ∷ codes "p.json" ∷ codes "--whole" ∷ []) m ≡ Err (Refusal.NotBuilt 1) }
 {}
 
@@ -105,4 +105,11 @@ pub fn words_are_refused()
 #[tactic(auto, unfolding(command_words::specs::Machine::command_of))]
 pub fn pages_are_printed()
     ensures version { (m : Names) → answer (codes "--version" ∷ []) m ≡ Ok (printed (codes "lasline 1\n")) }
+{}
+
+/// A plan is the text of its steps, and a generated file is the one that is kept. The pipeline of a trial is one.
+pub fn other_commands_are_answered()
+    ensures plan { answer (codes "plan" ∷ codes "p.json" ∷ []) (files file_a) ≡ Ok (printed (codes "run 0 1\nsteps 1\n")) }
+    ensures generated { (m : Names) → answer (codes "gen" ∷ codes "1" ∷ codes "g.las" ∷ []) m ≡ Ok (made 1 (codes "g.las")) }
+    ensures trial { IsOk (stages_in trial_text) }
 {}

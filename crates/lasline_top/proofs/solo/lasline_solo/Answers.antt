@@ -1,6 +1,6 @@
 use Rattle.std.proofs.Common.{map, string_bytes}
 use Rattle.lasline_top.specs.Answer.{answer}
-use Rattle.lasline_top.proofs.Running.{done_put, done_report}
+use Rattle.lasline_top.proofs.Printed.{done_put, done_report}
 use Rattle.lasline_top.proofs.Failing.{answer_or_memory}
 use Rattle.lasline_top.proofs.Statuses.{status_tells}
 use Rattle.lasline_top.proofs.solo.lasline_solo.Goals as goal
@@ -13,7 +13,7 @@ returns-in-Ok-clause-report g c = λ _ m e. done_report (answer (map string_byte
 
 pub returns-in-Err-clause-complete : goal.returns-in-Err-clause-complete
 returns-in-Err-clause-complete g c = λ m e no_files no_output.
-    answer_or_memory (answer (map string_bytes c.args.words.now) m) _ _ m _ c.in-Err.refusal c.refused.result c.refused.ensures.status no_files no_output (c.in-Err.ensures.err m e)
+    answer_or_memory (answer (map string_bytes c.args.words.now) m) _ _ m _ c.in-Err.refusal c.refused.result c.refused.ensures.status no_files no_output (c.in-Err.ensures.err.because m e)
 
 pub returns-in-Err-clause-told_why : goal.returns-in-Err-clause-told_why
 returns-in-Err-clause-told_why g c = λ refusal is.

@@ -1,0 +1,18 @@
+use Rattle.std.proofs.Common.{Ok, ap, sym, ◌∙◌}
+use Rattle.run_report.proofs.Lines.{OnOk-more}
+use Rattle.lasline_top.specs.Answer.{ran}
+use Rattle.lasline_top.proofs.Printed.{if-unprinted}
+use Rattle.lasline_top.proofs.Ran.{ran-as, done_is, run-unprinted}
+use Rattle.lasline_top.proofs.running.run_file.Goals as goal
+
+pub returns-clause-ok : goal.returns-clause-ok
+returns-clause-ok g c = OnOk-more c.print_report.result _ _ (λ printed m t.
+    done_is (ran m c.args.name.now) _ _ c.in_ok-report.report.items _ _ _ c.as_slice-2.ensures.value
+    (ran-as c.args.name.now c.as_slice.result.now c.in_ok-report.report.items _ _ _ (λ n e. c.in_ok-tree.ensures.ok n e ∙ ap (λ stages. Ok stages) (sym c.as_slice.ensures.stages)) c.in_ok-tree.ensures.settled.map_same c.in_ok-report.ensures.ok m t)
+    printed) c.print_report.ensures.ok
+
+pub returns-clause-err : goal.returns-clause-err
+returns-clause-err g c = if-unprinted c.print_report.result _ _ _ c.print_report.ensures.err c.print_report.ensures.part c.print_report.ensures.rose
+    (λ r is part rose. run-unprinted c.args.name.now c.args.shape.chunk c.args.shape.queue _ _ _ _ c.in_ok-report.report.items _ _ _ r is rose c.as_slice-2.ensures.value
+    (ran-as c.args.name.now c.as_slice.result.now c.in_ok-report.report.items _ _ _ (λ n e. c.in_ok-tree.ensures.ok n e ∙ ap (λ stages. Ok stages) (sym c.as_slice.ensures.stages)) c.in_ok-tree.ensures.settled.map_same c.in_ok-report.ensures.ok)
+    part)

@@ -1,0 +1,42 @@
+-- How a command ends.
+use Rattle.std.specs.Prelude.{◌≡◌, ◌⊎◌, ℕ, List, Option, None, Result, IsOkAnd}
+use Rattle.file_devices.specs.Named.{Names}
+use Rattle.file_devices.specs.declared.devices.Op.{Op}
+use Rattle.file_devices.specs.declared.devices.Op.TheVariants as op
+use Rattle.cloud_gen.specs.GeneratedFile.{IsLeft as IsUnmade}
+use Rattle.cloud_gen.specs.declared.faults.GenerateError.TheVariants as generating
+use Rattle.run_report.specs.declared.refusal.Place.TheVariants as at
+use Rattle.run_report.specs.declared.refusal.Refusal.{Refusal}
+use Rattle.run_report.specs.declared.refusal.Refusal.TheVariants as of
+use Rattle.answer_model.specs.Steps.{and_then}
+use Rattle.answer_model.specs.Runs.{Run}
+use Rattle.run_engine.specs.Cause.{Because, IsDone, IsPartDone}
+use Rattle.lasline_top.specs.Words.{Task}
+use Rattle.lasline_top.specs.Answer.{done}
+use Rattle.lasline_top.specs.Cause.{Risen, AtMade, AtTask}
+use Rattle.lasline_top.specs.Left.{AreTold, IsLeftBy}
+
+-- what it comes to
+abbrev pub answered : Result Task Refusal → Names → Result Run Refusal
+answered task m = and_then task (done m)
+
+-- it was done: its outputs were put, and its report was printed
+abbrev pub WasDone : Result Task Refusal → Option Names → Option Names → Option (List ℕ) → Option (List ℕ) → Type 0
+WasDone task old new out_before out = (m : Names) → AreTold task old new m → IsOkAnd (answered task m) (IsDone old new out_before out)
+
+-- it was refused, where the faults of the files and of the output rose or didn't
+pub record WasRefused (task : Result Task Refusal) (files_rose out_rose : Type 0) (old new : Option Names) (out_before out : Option (List ℕ)) (refusal : Refusal) : Type 0 where
+  -- for its own refusal, for want of memory, or for a device that failed
+  pub because : (m : Names) → AreTold task old new m → Because (answered task m) (AtTask files_rose out_rose m task) refusal
+  pub risen : old ≡ None → Risen files_rose out_rose refusal
+  pub out_risen : (o : Op) → refusal ≡ of.Device at.Out o → (o ≡ op.Write) × out_rose
+  -- and left this
+  pub left : (m : Names) → AreTold task old new m → IsLeftBy task refusal old new m
+  -- nothing was printed, or where only the output failed a part of what there was to print
+  pub quiet : (out ≡ out_before) ⊎ ((refusal ≡ of.Device at.Out op.Write) × ((m : Names) → AreTold task old new m → IsOkAnd (answered task m) (IsPartDone old new out_before out)))
+
+-- a file of generated points wasn't made: memory was wanting, or its device failed
+abbrev pub WasUnmade : Type 0 → Option Names → List ℕ → List ℕ → Option Names → Refusal → Type 0
+WasUnmade rose old name bytes new of.Memory = IsUnmade generating.Memory old name bytes new
+WasUnmade rose old name bytes new (of.Device at.Generated o) = AtMade rose ⊥ at.Generated o × IsUnmade (generating.Device o) old name bytes new
+WasUnmade rose old name bytes new refusal = ⊥
