@@ -149,6 +149,19 @@ def joined6(hill_points, coast_points):
     return data + b"".join(record6(point, 7, 9, -500, k / 2) for k, point in enumerate(coast_raw))
 
 
+def lies_in(point, corners):
+    """Whether a point lies in a polygon or on its border: by the even-odd rule over the edges with just one end above its Y."""
+    x, y = point[:2]
+    odd = False
+    for (ax, ay), (bx, by) in zip(corners, corners[1:] + corners[:1]):
+        side = (bx - ax) * (y - ay) - (by - ay) * (x - ax)
+        if side == 0 and min(ax, bx) <= x <= max(ax, bx) and min(ay, by) <= y <= max(ay, by):
+            return True
+        if (ay > y) != (by > y) and ax + (y - ay) * (bx - ax) / (by - ay) > x:
+            odd = not odd
+    return odd
+
+
 def old():
     """2 points in a file of LAS 1.2."""
     scale, offset = [Fraction(1, 100)] * 3, [Fraction(0)] * 3
@@ -166,6 +179,9 @@ def main():
     raised = [(x, y, z + Fraction(35, 100) if x < 500003 else z) for x, y, z in hill_points]
     # Points of one height stay in their order: `sorted` keeps it too.
     highest = sorted(hill_points, key=lambda point: -point[2])[:3]
+    corners = [tuple(map(Fraction, corner)) for corner in [(500003, 4800003), (500015, 4800003), (500009, 4800012)]]
+    # All points of the hill are ground.
+    ground = [point for point in hill_points if lies_in(point, corners)]
     reader, head, writer, las_writer = "readers.las", "filters.head", "writers.text", "writers.las"
 
     # By pipeline: the exit code, what is printed, what is said on standard error, and the files that are kept.
@@ -185,7 +201,34 @@ def main():
             "",
             {"highest.txt": text(highest)},
         ),
+        "ground": (
+            0,
+            report(
+                (reader, every),
+                ("filters.crop", len(ground)),
+                ("filters.range", len(ground)),
+                (writer, len(ground), len(ground)),
+            ),
+            "",
+            {"ground.txt": text(ground)},
+        ),
         # All points of the hill are of one class, and all of the coast of another.
+        "classes": (
+            0,
+            report(
+                (reader, every),
+                (reader, 5),
+                ("filters.merge", every + 5),
+                ("filters.sort", every + 5),
+                (writer, every + 5, every),
+                (writer, every + 5, 5),
+            ),
+            "",
+            {
+                "land.txt": text(sorted(hill_points, key=lambda point: point[2])),
+                "water.txt": text(sorted(coast_points, key=lambda point: point[2])),
+            },
+        ),
         "kinds": (
             0,
             report(
