@@ -224,7 +224,7 @@ const STAGES: &[(&str, &str)] = &[
         r#",{"type":"writers.text","filename":"a#","order":1}"#,
         "wrong 1 filename",
     ),
-    (r#",{"type":"writers.text","filename":""}"#, "write "),
+    (r#",{"type":"writers.text","filename":""}"#, "no tree"),
     (r#",{"type":"filters.head","where":"X > 1"}"#, "head 10"),
     (r#",{"type":"filters.head","where":1}"#, "wrong 1 where"),
     (r#",{"type":"filters.head","where":"X"}"#, "wrong 1 where"),
