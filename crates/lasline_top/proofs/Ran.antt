@@ -1,10 +1,9 @@
 -- What the run of a pipeline comes to, the command does.
-use Rattle.std.proofs.Common.{◌≡◌, ℕ, List, Option, Some, None, Result, Ok, Err, IsOkAnd, ap, subst, sym, ◌∙◌, inl, inr}
+use Rattle.std.proofs.Common.{◌≡◌, ℕ, List, Option, Some, Result, Ok, Err, IsOkAnd, ap, subst, sym, ◌∙◌, inl, inr}
 use Rattle.file_devices.specs.Named.{Names}
 use Rattle.file_devices.specs.Content.{Appends, AppendsPart}
 use Rattle.file_devices.specs.declared.devices.Op.{Op}
 use Rattle.file_devices.specs.declared.devices.Op.TheVariants as op
-use Rattle.stage_options.specs.declared.stage.StageSpec.{StageSpec}
 use Rattle.run_report.specs.declared.refusal.Place.{Place}
 use Rattle.run_report.specs.declared.refusal.Place.TheVariants as at
 use Rattle.run_report.specs.declared.refusal.Refusal.{Refusal}
@@ -12,65 +11,46 @@ use Rattle.run_report.specs.declared.refusal.Refusal.TheVariants as of
 use Rattle.run_report.specs.declared.report.StageCount.{StageCount}
 use Rattle.run_report.specs.Reports.{report_of}
 use Rattle.answer_model.specs.Steps.{and_then}
-use Rattle.answer_model.specs.Runs.{Run, run_of}
-use Rattle.run_engine.specs.Cause.{Because, IsCause, MayFail, IsRun, IsDone, IsPartDone}
+use Rattle.answer_model.specs.Runs.{Run, file_at, run_of}
+use Rattle.run_engine.specs.Cause.{Because, IsRun, IsDone, IsPartDone}
 use Rattle.lasline_top.specs.Words.{Run_file}
-use Rattle.lasline_top.specs.Answer.{plan_in, ran}
-use Rattle.lasline_top.specs.Cause.{Risen}
+use Rattle.lasline_top.specs.Answer.{ran, stages_in, text_run}
+use Rattle.lasline_top.specs.Cause.{Risen, IsOfRun}
 use Rattle.lasline_top.specs.Ends.{WasRefused}
 use Rattle.lasline_top.proofs.Printed.{part_ok, part_put, unprinted}
 
 -- ---- refusals of a run
 
--- the cause of a run's refusal, for any that a device of its stages may be
-pub run-because : (m : Names) (stages : List StageSpec) (rose files : Type 0) (failed : Place → Op → Type 0) (map : Option Names) (r : Refusal) → map ≡ Some m → (rose → files)
-    → ((i : ℕ) (o : Op) → files → MayFail m stages i o → failed (at.Stage i) o) → IsCause rose map stages r → Because (run_of m stages) failed r
-run-because m stages rose files failed map r told more device cause = go r cause
-  where
-    the-map : (n : Names) → map ≡ Some n → n ≡ m
-    the-map n e = let both : Some n ≡ Some m = sym e ∙ told in cc
+-- a cause for more devices
+pub because-more : {A : Type 0} (r : Refusal) (expected : Result A Refusal) (failed later : Place → Op → Type 0) → ((p : Place) (o : Op) → failed p o → later p o) → Because expected failed r → Because expected later r
+because-more of.Memory expected failed later more h = tt
+because-more (of.Device p o) expected failed later more (inl e) = inl e
+because-more (of.Device p o) expected failed later more (inr h) = inr (more p o h)
+because-more (of.Data i f) expected failed later more h = h
+because-more (of.Pipeline f) expected failed later more h = h
+because-more (of.Usage k) expected failed later more h = h
+because-more (of.NotBuilt k) expected failed later more h = h
 
-    go : (s : Refusal) → IsCause rose map stages s → Because (run_of m stages) failed s
-    go of.Memory c = tt
-    go (of.Data i f) c = c m told
-    go (of.Device (at.Stage i) o) c = elim c [
-      | inl a ↦ inl (subst (λ n. run_of n stages ≡ Err (of.Device (at.Stage i) o)) (the-map a.0 a.1) a.2)
-      | inr d ↦ inr (device i o (more d.0) (d.1 m told))
-    ]
-    go (of.Device at.PipelineFile o) c = absurd c
-    go (of.Device at.Generated o) c = absurd c
-    go (of.Device at.Out o) c = absurd c
-    go (of.Pipeline f) c = c m told
-    go (of.Usage k) c = absurd c
-    go (of.NotBuilt k) c = absurd c
-
--- it isn't for the output
-pub run-never-out : {A : Type 0} (rose : Type 0) (map : Option Names) (stages : List StageSpec) (r : Refusal) (o : Op) → IsCause rose map stages r → r ≡ of.Device at.Out o → A
-run-never-out rose map stages r o c is = absurd (subst (IsCause rose map stages) is c)
-
--- over files that tell nothing, a device that is named failed
-pub run-risen : (rose files out : Type 0) (map : Option Names) (stages : List StageSpec) (r : Refusal) → map ≡ None → (rose → files) → IsCause rose map stages r → Risen files out r
-run-risen rose files out map stages of.Memory none more c = tt
-run-risen rose files out map stages (of.Data i f) none more c = tt
-run-risen rose files out map stages (of.Device (at.Stage i) o) none more c = elim c [
-  | inl a ↦ absurd (let e : None ≡ Some a.0 = sym none ∙ a.1 in cc)
-  | inr d ↦ more d.0
-]
-run-risen rose files out map stages (of.Device at.PipelineFile o) none more c = absurd c
-run-risen rose files out map stages (of.Device at.Generated o) none more c = absurd c
-run-risen rose files out map stages (of.Device at.Out o) none more c = absurd c
-run-risen rose files out map stages (of.Pipeline f) none more c = tt
-run-risen rose files out map stages (of.Usage k) none more c = absurd c
-run-risen rose files out map stages (of.NotBuilt k) none more c = absurd c
+-- a device that is named failed, whatever the output did
+pub risen-more : (rose files out : Type 0) (r : Refusal) → (rose → files) → IsOfRun r → Risen rose ⊥ r → Risen files out r
+risen-more rose files out of.Memory more inside h = tt
+risen-more rose files out (of.Pipeline f) more inside h = tt
+risen-more rose files out (of.Data i f) more inside h = tt
+risen-more rose files out (of.Device (at.Stage i) o) more inside h = more h
+risen-more rose files out (of.Device at.PipelineFile o) more inside h = absurd inside
+risen-more rose files out (of.Device at.Generated o) more inside h = absurd inside
+risen-more rose files out (of.Device at.Out o) more inside h = absurd inside
+risen-more rose files out (of.Usage k) more inside h = absurd inside
+risen-more rose files out (of.NotBuilt k) more inside h = absurd inside
 
 -- ---- the run of a file
 
--- what it came to
-pub ran-as : (file : List ℕ) (stages : List StageSpec) (counts : List StageCount) (old middle new : Option Names) → ((m : Names) → old ≡ Some m → plan_in m file ≡ Ok stages) → middle ≡ old
-    → ((m : Names) → middle ≡ Some m → IsOkAnd (run_of m stages) (IsRun middle new counts)) → (m : Names) → old ≡ Some m → IsOkAnd (ran m file) (IsRun old new counts)
-ran-as file stages counts old middle new plan same run m t =
-    subst (λ p. IsOkAnd (and_then p (run_of m)) (IsRun old new counts)) (sym (plan m t))
-    (subst (λ o. IsOkAnd (run_of m stages) (IsRun o new counts)) same (run m (same ∙ t)))
+-- what the run of its text comes to, that of a file does
+pub ran-as : (file text : List ℕ) (counts : List StageCount) (old middle new : Option Names) → ((m : Names) → old ≡ Some m → file_at (m file) at.PipelineFile ≡ Ok text) → middle ≡ old
+    → ((m : Names) → middle ≡ Some m → IsOkAnd (text_run m text) (IsRun middle new counts)) → (m : Names) → old ≡ Some m → IsOkAnd (ran m file) (IsRun old new counts)
+ran-as file text counts old middle new is same run m t =
+    subst (λ p. IsOkAnd (and_then (and_then p stages_in) (run_of m)) (IsRun old new counts)) (sym (is m t))
+    (subst (λ o. IsOkAnd (text_run m text) (IsRun o new counts)) same (run m (same ∙ t)))
 
 pub done_is : (r : Result Run Refusal) (old new : Option Names) (counts shown : List StageCount) (out0 out1 : Option (List ℕ)) → shown ≡ counts → IsOkAnd r (IsRun old new counts) → Appends out0 (report_of shown) out1
     → IsOkAnd r (IsDone old new out0 out1)

@@ -5,7 +5,8 @@ use Rattle.file_devices.proofs.ContentLemmas.{appends_more}
 use Rattle.file_devices.specs.Named.{Names, put}
 use Rattle.file_devices.specs.declared.devices.Op.TheVariants as op
 use Rattle.cloud_gen.specs.GeneratedFile.{generated_file, IsPut}
-use Rattle.stage_options.specs.declared.stage.StageSpec.{StageSpec}
+use Rattle.file_devices.specs.declared.devices.Op.{Op}
+use Rattle.run_report.specs.declared.refusal.Place.{Place}
 use Rattle.run_report.specs.declared.refusal.Place.TheVariants as at
 use Rattle.run_report.specs.declared.refusal.Refusal.{Refusal}
 use Rattle.run_report.specs.declared.refusal.Refusal.TheVariants as of
@@ -13,17 +14,17 @@ use Rattle.run_report.specs.declared.report.StageCount.{StageCount}
 use Rattle.run_report.specs.Reports.{report_of}
 use Rattle.run_report.proofs.Lines.{part_of_first, part_of_second}
 use Rattle.answer_model.specs.Steps.{and_then}
-use Rattle.answer_model.specs.Runs.{Run, run_of}
-use Rattle.run_engine.specs.Cause.{Because, IsCause, MayFail, WerePut, IsRun, IsDone, IsPartDone, IsLeft}
+use Rattle.answer_model.specs.Runs.{Run}
+use Rattle.run_engine.specs.Cause.{Because, WerePut, IsRun, IsDone, IsPartDone, IsLeft}
 use Rattle.lasline_top.specs.Texts.{generated_line}
 use Rattle.lasline_top.specs.Words.{Trial}
-use Rattle.lasline_top.specs.Answer.{made, behind, stages_in, trial_name, trial_text, with_trial, trial_run, done}
-use Rattle.lasline_top.specs.Cause.{AtTask, AtTrial}
+use Rattle.lasline_top.specs.Answer.{made, behind, stages_in, text_run, trial_name, trial_text, with_trial, trial_run, done}
+use Rattle.lasline_top.specs.Cause.{IsOfRun, AtStages, AtTask, AtTrial}
 use Rattle.lasline_top.specs.Left.{IsTrialLeft}
-use Rattle.lasline_top.specs.Ends.{WasDone, WasRefused}
+use Rattle.lasline_top.specs.Ends.{WasDone, WasRefused, WasStopped}
 use Rattle.lasline_top.proofs.Planned.{because-then}
 use Rattle.lasline_top.proofs.Printed.{ok-only, ok-more, unprinted}
-use Rattle.lasline_top.proofs.Ran.{run-because, run-never-out, run-risen}
+use Rattle.lasline_top.proofs.Ran.{because-more, risen-more}
 
 -- ---- the map behind the file that was made
 
@@ -48,47 +49,53 @@ module _ (count chunk queue : ℕ) (files out : Type 0) where
   trial-because m r h =
       because-then r (trial_run m count) (λ run. Ok (behind (made count trial_name) run)) (AtTrial files out m count) (AtTask files out m (Ok (Trial count chunk queue))) (λ p o h. h) h
 
-  run-left : (rose : Type 0) (stages : List StageSpec) (r : Refusal) (old middle new : Option Names) (m : Names) → IsCause rose middle stages r → IsLeft r (Some (with_trial m count)) new (trial_run m count)
-      → IsTrialLeft r old new m count
-  run-left rose stages of.Memory old middle new m c left = inr left
-  run-left rose stages (of.Data i f) old middle new m c left = left
-  run-left rose stages (of.Pipeline f) old middle new m c left = left
-  run-left rose stages (of.Device (at.Stage i) o) old middle new m c left = left
-  run-left rose stages (of.Device at.PipelineFile o) old middle new m c left = absurd c
-  run-left rose stages (of.Device at.Generated o) old middle new m c left = absurd c
-  run-left rose stages (of.Device at.Out o) old middle new m c left = absurd c
-  run-left rose stages (of.Usage k) old middle new m c left = absurd c
-  run-left rose stages (of.NotBuilt k) old middle new m c left = absurd c
+  run-left : (r : Refusal) (old new : Option Names) (m : Names) → IsOfRun r → IsLeft r (Some (with_trial m count)) new (trial_run m count) → IsTrialLeft r old new m count
+  run-left of.Memory old new m inside left = inr left
+  run-left (of.Data i f) old new m inside left = left
+  run-left (of.Pipeline f) old new m inside left = left
+  run-left (of.Device (at.Stage i) o) old new m inside left = left
+  run-left (of.Device at.PipelineFile o) old new m inside left = absurd inside
+  run-left (of.Device at.Generated o) old new m inside left = absurd inside
+  run-left (of.Device at.Out o) old new m inside left = absurd inside
+  run-left (of.Usage k) old new m inside left = absurd inside
+  run-left (of.NotBuilt k) old new m inside left = absurd inside
 
-  pub trial-run-refused : (stages : List StageSpec) (rose : Type 0) (old middle new : Option Names) (out0 out1 : Option (List ℕ)) (r : Refusal) → out1 ≡ out0 → IsPut old trial_name (generated_file count) middle
-      → stages_in trial_text ≡ Ok stages → (rose → files) → (middle ≡ None → new ≡ None)
-      → IsCause rose middle stages r → ((m : Names) → middle ≡ Some m → IsLeft r middle new (run_of m stages))
-      → WasRefused (Ok (Trial count chunk queue)) files out old new out0 out1 r
-  trial-run-refused stages rose old middle new out0 out1 r quiet put-in plan more untold cause left = record {
-    because = λ m t. trial-because m r (subst (λ e. Because e (AtTrial files out m count) r) (sym (run-is m))
-        (run-because (with_trial m count) stages rose files (AtTrial files out m count) middle r (told-between count old middle new m put-in untold t.0 t.1) more
-        (λ i o h may. (h, subst (λ p. IsOkAnd p (λ ss. MayFail (with_trial m count) ss i o)) (sym plan) may)) cause));
-    risen = λ none. run-risen rose files out middle stages r (none-between count old middle put-in none) more cause;
-    out_risen = λ o e. run-never-out rose middle stages r o cause e;
-    left = λ m t. let is = told-between count old middle new m put-in untold t.0 t.1 in
-        run-left rose stages r old middle new m cause
-        (subst (λ e. IsLeft r (Some (with_trial m count)) new e) (sym (run-is m)) (subst (λ o. IsLeft r o new (run_of (with_trial m count) stages)) is (left (with_trial m count) is)));
+  at-trial : (rose : Type 0) (m : Names) → (rose → files) → (p : Place) (o : Op) → AtStages rose ⊥ (with_trial m count) (stages_in trial_text) ⊥ p o → AtTrial files out m count p o
+  at-trial rose m more (at.Stage i) o h = (more h.0, h.1)
+  at-trial rose m more at.PipelineFile o h = absurd h
+  at-trial rose m more at.Generated o h = absurd h
+  at-trial rose m more at.Out op.Write h = absurd h.0
+  at-trial rose m more at.Out op.Open h = absurd h
+  at-trial rose m more at.Out op.Read h = absurd h
+  at-trial rose m more at.Out op.Create h = absurd h
+  at-trial rose m more at.Out op.Patch h = absurd h
+  at-trial rose m more at.Out op.Keep h = absurd h
+
+  pub trial-stopped : (rose : Type 0) (text : List ℕ) (old middle new : Option Names) (out0 out1 : Option (List ℕ)) (r : Refusal) → out1 ≡ out0 → IsPut old trial_name (generated_file count) middle → text ≡ trial_text
+      → (rose → files) → (middle ≡ None → new ≡ None) → WasStopped rose middle new text r → WasRefused (Ok (Trial count chunk queue)) files out old new out0 out1 r
+  trial-stopped rose text old middle new out0 out1 r quiet put-in is more untold text-stopped = record {
+    because = λ m t. trial-because m r (because-more r (trial_run m count) (AtStages rose ⊥ (with_trial m count) (stages_in trial_text) ⊥) (AtTrial files out m count) (at-trial rose m more)
+        (stopped.because (with_trial m count) (told-between count old middle new m put-in untold t.0 t.1)));
+    risen = λ none. risen-more rose files out r more stopped.of_run (stopped.risen (none-between count old middle put-in none));
+    out_risen = λ o e. absurd (subst IsOfRun e stopped.of_run);
+    left = λ m t. let told = told-between count old middle new m put-in untold t.0 t.1 in
+        run-left r old new m stopped.of_run (subst (λ o. IsLeft r o new (trial_run m count)) told (stopped.left (with_trial m count) told));
     quiet = inl quiet;
   }
     where
-      run-is : (m : Names) → trial_run m count ≡ run_of (with_trial m count) stages
-      run-is m = ap (λ p. and_then p (run_of (with_trial m count))) plan
+      stopped : WasStopped rose middle new trial_text r
+      stopped = subst (λ b. WasStopped rose middle new b r) is text-stopped
 
 -- ---- runs that were right
 
 -- what the pipeline came to, over the map with the file
-pub trial-ran : (count : ℕ) (stages : List StageSpec) (counts : List StageCount) (old middle new : Option Names) → IsPut old trial_name (generated_file count) middle → stages_in trial_text ≡ Ok stages → (middle ≡ None → new ≡ None)
-    → ((m : Names) → middle ≡ Some m → IsOkAnd (run_of m stages) (IsRun middle new counts)) → (m : Names) → (old ≡ Some m) × (is_some new ≡ true)
+pub trial-ran : (count : ℕ) (text : List ℕ) (counts : List StageCount) (old middle new : Option Names) → IsPut old trial_name (generated_file count) middle → text ≡ trial_text → (middle ≡ None → new ≡ None)
+    → ((m : Names) → middle ≡ Some m → IsOkAnd (text_run m text) (IsRun middle new counts)) → (m : Names) → (old ≡ Some m) × (is_some new ≡ true)
     → IsOkAnd (trial_run m count) (IsRun (Some (with_trial m count)) new counts)
-trial-ran count stages counts old middle new put-in plan untold run m t =
-    let is = told-between count old middle new m put-in untold t.0 t.1 in
-    subst (λ p. IsOkAnd (and_then p (run_of (with_trial m count))) (IsRun (Some (with_trial m count)) new counts)) (sym plan)
-    (subst (λ o. IsOkAnd (run_of (with_trial m count) stages) (IsRun o new counts)) is (run (with_trial m count) is))
+trial-ran count text counts old middle new put-in is untold run m t =
+    let told = told-between count old middle new m put-in untold t.0 t.1 in
+    subst (λ b. IsOkAnd (text_run (with_trial m count) b) (IsRun (Some (with_trial m count)) new counts)) is
+    (subst (λ o. IsOkAnd (text_run (with_trial m count) text) (IsRun o new counts)) told (run (with_trial m count) told))
 
 -- the file and the outputs of the run were put then
 behind-put : (count : ℕ) (old new : Option Names) (m : Names) (run : Run) → old ≡ Some m → WerePut (Some (with_trial m count)) run.outputs new → WerePut old (behind (made count trial_name) run).outputs new

@@ -32,7 +32,11 @@ typed stages = piped (typed_tree stages)
 abbrev pub stages_in : List ℕ → Result (List StageSpec) Refusal
 stages_in text = and_then (piped (tree_of text)) typed
 
--- that of a file
+-- what the run of it comes to
+abbrev pub text_run : Names → List ℕ → Result Run Refusal
+text_run m text = and_then (stages_in text) (run_of m)
+
+-- the pipeline of a file
 abbrev pub plan_in : Names → List ℕ → Result (List StageSpec) Refusal
 plan_in m file = and_then (file_at (m file) PipelineFile) stages_in
 
@@ -70,7 +74,7 @@ with_trial m count = put m trial_name (generated_file count)
 
 -- what the pipeline comes to then
 abbrev pub trial_run : Names → ℕ → Result Run Refusal
-trial_run m count = and_then (stages_in trial_text) (run_of (with_trial m count))
+trial_run m count = text_run (with_trial m count) trial_text
 
 -- one run and then another: the outputs and the reports of both
 abbrev pub behind : Run → Run → Run

@@ -31,6 +31,12 @@ abbrev pub IsOfPlan : Refusal → Type 0
 IsOfPlan (of.Device at.PipelineFile o) = ⊤
 IsOfPlan refusal = IsOfText refusal
 
+-- it is for a pipeline's text or names, for what a file holds, for a stage's device, or for want of memory
+abbrev pub IsOfRun : Refusal → Type 0
+IsOfRun (of.Data i f) = ⊤
+IsOfRun (of.Device (at.Stage i) o) = ⊤
+IsOfRun refusal = IsOfText refusal
+
 -- no device is at fault
 abbrev pub Never : Place → Op → Type 0
 Never p o = ⊥

@@ -1,5 +1,5 @@
 -- How a command ends.
-use Rattle.std.specs.Prelude.{◌≡◌, ◌⊎◌, ℕ, List, Option, None, Result, IsOkAnd}
+use Rattle.std.specs.Prelude.{◌≡◌, ◌⊎◌, ℕ, List, Option, None, Result, IsOkAnd, Some}
 use Rattle.file_devices.specs.Named.{Names}
 use Rattle.file_devices.specs.declared.devices.Op.{Op}
 use Rattle.file_devices.specs.declared.devices.Op.TheVariants as op
@@ -10,10 +10,10 @@ use Rattle.run_report.specs.declared.refusal.Refusal.{Refusal}
 use Rattle.run_report.specs.declared.refusal.Refusal.TheVariants as of
 use Rattle.answer_model.specs.Steps.{and_then}
 use Rattle.answer_model.specs.Runs.{Run}
-use Rattle.run_engine.specs.Cause.{Because, IsDone, IsPartDone}
+use Rattle.run_engine.specs.Cause.{Because, IsDone, IsPartDone, IsLeft}
 use Rattle.lasline_top.specs.Words.{Task}
-use Rattle.lasline_top.specs.Answer.{done}
-use Rattle.lasline_top.specs.Cause.{Risen, AtMade, AtTask}
+use Rattle.lasline_top.specs.Answer.{stages_in, text_run, done}
+use Rattle.lasline_top.specs.Cause.{Risen, IsOfRun, AtMade, AtStages, AtTask}
 use Rattle.lasline_top.specs.Left.{AreTold, IsLeftBy}
 
 -- what it comes to
@@ -40,3 +40,12 @@ abbrev pub WasUnmade : Type 0 → Option Names → List ℕ → List ℕ → Opt
 WasUnmade rose old name bytes new of.Memory = IsUnmade generating.Memory old name bytes new
 WasUnmade rose old name bytes new (of.Device at.Generated o) = AtMade rose ⊥ at.Generated o × IsUnmade (generating.Device o) old name bytes new
 WasUnmade rose old name bytes new refusal = ⊥
+
+-- the run of a text was refused, where the faults of the files rose or didn't
+pub record WasStopped (rose : Type 0) (old new : Option Names) (text : List ℕ) (refusal : Refusal) : Type 0 where
+  pub of_run : IsOfRun refusal
+  -- for its own refusal, for want of memory, or for a stage's device that failed
+  pub because : (m : Names) → old ≡ Some m → Because (text_run m text) (AtStages rose ⊥ m (stages_in text) ⊥) refusal
+  pub risen : old ≡ None → Risen rose ⊥ refusal
+  -- and left this
+  pub left : (m : Names) → old ≡ Some m → IsLeft refusal old new (text_run m text)

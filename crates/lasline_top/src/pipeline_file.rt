@@ -20,7 +20,11 @@ use std::alloc::Global;
 
 /// The text in a pipeline's file. One of more than `MOST_BYTES` is a fault of the pipeline, and isn't read to its end. The file is
 /// given back.
-fn read_text<F: Files>(alloc: Global, files: &mut F, name: &str) -> Result<Vec<u8>, Refusal>
+pub(crate) fn read_text<F: Files>(
+    alloc: Global,
+    files: &mut F,
+    name: &str,
+) -> Result<Vec<u8>, Refusal>
     ensures ok { IfOk result (λ text. (m : Names) → F.map files.old ≡ Some m → file_at (m name.now) Place.PipelineFile ≡ Ok text.items) }
     ensures err { IfErr result (λ refusal. (m : Names) → F.map files.old ≡ Some m
         → Because (plan_in m name.now) (AtText (Rose (F.faults files.old) (F.faults files.new))) refusal) }

@@ -1,21 +1,42 @@
 //! Pipelines are run.
 
-ghost use Rattle.std.specs.Prelude.{◌≡◌, ◌≤◌, Ok, IfErr, OnOk};
+ghost use Rattle.std.specs.Prelude.{◌≡◌, ◌≤◌, Some, None, Ok, IsOkAnd, IfOk, IfErr, OnOk};
 ghost use Rattle.file_devices.specs.Counts.{Rose};
+ghost use Rattle.file_devices.specs.Named.{Names};
+ghost use Rattle.run_engine.specs.Cause.{IsRun};
 ghost use Rattle.lasline_top.specs.Words.{Run_file, Trial};
-ghost use Rattle.lasline_top.specs.Answer.{trial_name, trial_text};
+ghost use Rattle.lasline_top.specs.Answer.{text_run, trial_name, trial_text};
 ghost use Rattle.lasline_top.specs.Cause.{IsOfFiles};
-ghost use Rattle.lasline_top.specs.Ends.{WasDone, WasRefused};
+ghost use Rattle.lasline_top.specs.Ends.{WasDone, WasRefused, WasStopped};
 
 use crate::count::PointCount;
 use crate::generating::make;
-use crate::pipeline_file::{read_plan, read_stages};
+use crate::pipeline_file::{read_stages, read_text};
 use crate::printing::{print_report, print_text};
 use crate::texts::generated_line;
 use file_devices::{Files, Sink};
 use run_engine::{Shape, run_pipeline};
-use run_report::Refusal;
+use run_report::{Refusal, Report};
 use std::alloc::Global;
+
+/// Runs the pipeline that a text is, and answers what each of its stages gave on. Files that don't tell what they have don't tell it
+/// after the run.
+fn run_text<F: Files>(
+    alloc: Global,
+    text: &[u8],
+    shape: Shape,
+    files: &mut F,
+) -> Result<Report, Refusal>
+    ensures ok { IfOk result (λ report. (m : Names) → F.map files.old ≡ Some m
+        → IsOkAnd (text_run m text.now) (IsRun (F.map files.old) (F.map files.new) report.items)) }
+    ensures err { IfErr result (WasStopped (Rose (F.faults files.old) (F.faults files.new)) (F.map files.old) (F.map files.new) text.now) }
+    ensures untold { F.map files.old ≡ None → F.map files.new ≡ None }
+    ensures lent { F.lent files.new ≡ F.lent files.old }
+    ensures later { F.faults files.old ≤ F.faults files.new }
+{
+    let tree = read_stages(alloc, text)?;
+    run_pipeline(alloc, files, tree.as_slice(), shape)
+}
 
 /// Runs the pipeline in a file and prints the report.
 pub(crate) fn run_file<F: Files, K: Sink>(
@@ -32,8 +53,8 @@ pub(crate) fn run_file<F: Files, K: Sink>(
     ensures lent { F.lent files.new ≡ F.lent files.old }
     ensures later { F.faults files.old ≤ F.faults files.new }
 {
-    let tree = read_plan(alloc, files, name)?;
-    let report = run_pipeline(alloc, files, tree.as_slice(), shape)?;
+    let text = read_text(alloc, files, name)?;
+    let report = run_text(alloc, &text, shape, files)?;
     print_report(report.as_slice(), out)
 }
 
@@ -70,8 +91,7 @@ pub(crate) fn run_trial<F: Files, K: Sink>(
         return Err(Refusal::Memory);
     };
     make(alloc, files, trial_name(), count)?;
-    let tree = read_stages(alloc, trial_text().as_bytes())?;
-    let report = run_pipeline(alloc, files, tree.as_slice(), shape)?;
+    let report = run_text(alloc, trial_text().as_bytes(), shape, files)?;
     print_text(line.as_str(), out)?;
     print_report(report.as_slice(), out)
 }
