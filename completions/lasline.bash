@@ -31,7 +31,7 @@ _lasline() {
         --chunk | --queue) mapfile -t COMPREPLY < <(compgen -W "1 2 4 8 16 32 64" -- "$word") ;;
         *)
             # Each option at most once.
-            for option in --chunk --queue; do
+            for option in --chunk --queue --whole; do
                 [[ " ${COMP_WORDS[*]:3:COMP_CWORD-3} " == *" $option "* ]] || options+=("$option")
             done
             mapfile -t COMPREPLY < <(compgen -W "${options[*]}" -- "$word")

@@ -6,7 +6,7 @@ use Rattle.file_devices.specs.Named.{Names}
 use Rattle.run_report.specs.declared.refusal.Place.{Place}
 use Rattle.run_report.specs.declared.refusal.Place.TheVariants.{PipelineFile, Generated, Stage, Out}
 use Rattle.run_report.specs.declared.refusal.Refusal.{Refusal}
-use Rattle.run_report.specs.declared.refusal.Refusal.TheVariants.{Usage, Pipeline, Data, Device, Memory, NotBuilt}
+use Rattle.run_report.specs.declared.refusal.Refusal.TheVariants.{Usage, Pipeline, Data, Device, Memory}
 use Rattle.answer_model.specs.Runs.{Run}
 use Rattle.run_engine.specs.Cause.{Because}
 use Rattle.lasline_top.specs.declared.status.Status.{Status}
@@ -70,10 +70,10 @@ no_trial files out m count (Stage i) o no_files no_output h = no_files h.0
 no_trial files out m count Out o no_files no_output h = no_out out (IsOk (trial_run m count)) o no_output h
 
 no_task : (files out : Type 0) (m : Names) (task : Result Task Refusal) (p : Place) (o : Op) → (files → ⊥) → (out → ⊥) → AtTask files out m task p o → ⊥
-no_task files out m (Ok (Run_file file chunk queue)) p o no_files no_output h = no_file files out m file p o no_files no_output h
+no_task files out m (Ok (Run_file file engine)) p o no_files no_output h = no_file files out m file p o no_files no_output h
 no_task files out m (Ok (Plan_file file)) p o no_files no_output h = no_plan files out m file p o no_files no_output h
 no_task files out m (Ok (Make_file count name)) p o no_files no_output h = no_made files out p o no_files no_output h
-no_task files out m (Ok (Trial count chunk queue)) p o no_files no_output h = no_trial files out m count p o no_files no_output h
+no_task files out m (Ok (Trial count engine)) p o no_files no_output h = no_trial files out m count p o no_files no_output h
 no_task files out m (Ok (Print text)) p o no_files no_output h = no_page out o no_output h.1
 no_task files out m (Err refusal) p o no_files no_output h = h
 
@@ -84,6 +84,5 @@ answer_or_memory r files out m task Memory s is no_files no_output h = inr is
 answer_or_memory r files out m task (Usage k) s is no_files no_output h = inl (is ∙ sym (ap status_of h))
 answer_or_memory r files out m task (Pipeline f) s is no_files no_output h = inl (is ∙ sym (ap status_of h))
 answer_or_memory r files out m task (Data i f) s is no_files no_output h = inl (is ∙ sym (ap status_of h))
-answer_or_memory r files out m task (NotBuilt k) s is no_files no_output h = inl (is ∙ sym (ap status_of h))
 answer_or_memory r files out m task (Device p o) s is no_files no_output (inl h) = inl (is ∙ sym (ap status_of h))
 answer_or_memory r files out m task (Device p o) s is no_files no_output (inr h) = absurd (no_task files out m task p o no_files no_output h)

@@ -27,7 +27,6 @@ because-then (of.Device p o) first f failed later more (inr h) = inr (more p o h
 because-then (of.Data i g) first f failed later more h = ap (λ x. and_then x f) h
 because-then (of.Pipeline g) first f failed later more h = ap (λ x. and_then x f) h
 because-then (of.Usage k) first f failed later more h = ap (λ x. and_then x f) h
-because-then (of.NotBuilt k) first f failed later more h = ap (λ x. and_then x f) h
 
 -- ---- plans that were made
 

@@ -13,7 +13,7 @@ use Rattle.run_report.specs.Reports.{report_of}
 use Rattle.answer_model.specs.Steps.{and_then}
 use Rattle.answer_model.specs.Runs.{Run, file_at, run_of}
 use Rattle.run_engine.specs.Cause.{Because, IsRun, IsDone, IsPartDone}
-use Rattle.lasline_top.specs.Words.{Run_file}
+use Rattle.lasline_top.specs.Words.{Engine, Run_file}
 use Rattle.lasline_top.specs.Answer.{ran, stages_in, text_run}
 use Rattle.lasline_top.specs.Cause.{Risen, IsOfRun}
 use Rattle.lasline_top.specs.Ends.{WasRefused}
@@ -29,7 +29,6 @@ because-more (of.Device p o) expected failed later more (inr h) = inr (more p o 
 because-more (of.Data i f) expected failed later more h = h
 because-more (of.Pipeline f) expected failed later more h = h
 because-more (of.Usage k) expected failed later more h = h
-because-more (of.NotBuilt k) expected failed later more h = h
 
 -- a device that is named failed, whatever the output did
 pub risen-more : (rose files out : Type 0) (r : Refusal) → (rose → files) → IsOfRun r → Risen rose ⊥ r → Risen files out r
@@ -41,7 +40,6 @@ risen-more rose files out (of.Device at.PipelineFile o) more inside h = absurd i
 risen-more rose files out (of.Device at.Generated o) more inside h = absurd inside
 risen-more rose files out (of.Device at.Out o) more inside h = absurd inside
 risen-more rose files out (of.Usage k) more inside h = absurd inside
-risen-more rose files out (of.NotBuilt k) more inside h = absurd inside
 
 -- ---- the run of a file
 
@@ -63,11 +61,11 @@ part_done_is (Ok run) old new counts shown out0 out1 same h report = record { pu
 part_done_is (Err s) old new counts shown out0 out1 same h report = absurd h
 
 -- where only its report couldn't be printed
-pub run-unprinted : (file : List ℕ) (chunk queue : ℕ) (files out : Type 0) (old new : Option Names) (counts shown : List StageCount) (out0 out1 : Option (List ℕ)) (r : Refusal) → r ≡ of.Device at.Out op.Write → out → shown ≡ counts
+pub run-unprinted : (file : List ℕ) (engine : Engine) (files out : Type 0) (old new : Option Names) (counts shown : List StageCount) (out0 out1 : Option (List ℕ)) (r : Refusal) → r ≡ of.Device at.Out op.Write → out → shown ≡ counts
     → ((m : Names) → old ≡ Some m → IsOkAnd (ran m file) (IsRun old new counts)) → AppendsPart out0 (report_of shown) out1
-    → WasRefused (Ok (Run_file file chunk queue)) files out old new out0 out1 r
-run-unprinted file chunk queue files out old new counts shown out0 out1 r is rose same run report =
-    unprinted (Run_file file chunk queue) files out old new out0 out1 r is rose part
+    → WasRefused (Ok (Run_file file engine)) files out old new out0 out1 r
+run-unprinted file engine files out old new counts shown out0 out1 r is rose same run report =
+    unprinted (Run_file file engine) files out old new out0 out1 r is rose part
     (λ m t. (rose, part_ok (ran m file) old new out0 out1 (part m t)))
     (λ m t. part_put (ran m file) old new out0 out1 (part m t))
   where

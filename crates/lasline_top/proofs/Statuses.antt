@@ -1,7 +1,7 @@
 -- A status tells its refusal.
 use Rattle.std.proofs.Common.{◌≡◌, refl, ap, sym, ◌∙◌}
 use Rattle.run_report.specs.declared.refusal.Refusal.{Refusal}
-use Rattle.run_report.specs.declared.refusal.Refusal.TheVariants.{Usage, Pipeline, Data, Device, Memory, NotBuilt}
+use Rattle.run_report.specs.declared.refusal.Refusal.TheVariants.{Usage, Pipeline, Data, Device, Memory}
 use Rattle.lasline_top.specs.declared.status.Status.{Status}
 use Rattle.lasline_top.specs.declared.status.Status.TheVariants as status
 use Rattle.lasline_top.specs.Refusals.{status_for}
@@ -14,7 +14,6 @@ refusal_in (status.Pipeline f) = Pipeline f
 refusal_in (status.Data i f) = Data i f
 refusal_in (status.Device p o) = Device p o
 refusal_in status.Memory = Memory
-refusal_in (status.NotBuilt r) = NotBuilt r
 
 back : (refusal : Refusal) → refusal_in (status_for refusal) ≡ refusal
 back (Usage k) = refl
@@ -22,7 +21,6 @@ back (Pipeline f) = refl
 back (Data i f) = refl
 back (Device p o) = refl
 back Memory = refl
-back (NotBuilt r) = refl
 
 -- two refusals with one status are the same
 pub status_tells : (s : Status) (a b : Refusal) → s ≡ status_for a → s ≡ status_for b → a ≡ b

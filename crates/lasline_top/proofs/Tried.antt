@@ -17,7 +17,7 @@ use Rattle.answer_model.specs.Steps.{and_then}
 use Rattle.answer_model.specs.Runs.{Run}
 use Rattle.run_engine.specs.Cause.{Because, WerePut, IsRun, IsDone, IsPartDone, IsLeft}
 use Rattle.lasline_top.specs.Texts.{generated_line}
-use Rattle.lasline_top.specs.Words.{Trial}
+use Rattle.lasline_top.specs.Words.{Engine, Trial}
 use Rattle.lasline_top.specs.Answer.{made, behind, stages_in, text_run, trial_name, trial_text, with_trial, trial_run, done}
 use Rattle.lasline_top.specs.Cause.{IsOfRun, AtStages, AtTask, AtTrial}
 use Rattle.lasline_top.specs.Left.{IsTrialLeft}
@@ -44,10 +44,10 @@ none-between count old (Some n) put-in none =
 -- ---- refusals
 
 -- what refuses the run of the pipeline refuses the trial
-module _ (count chunk queue : ℕ) (files out : Type 0) where
-  trial-because : (m : Names) (r : Refusal) → Because (trial_run m count) (AtTrial files out m count) r → Because (done m (Trial count chunk queue)) (AtTask files out m (Ok (Trial count chunk queue))) r
+module _ (count : ℕ) (engine : Engine) (files out : Type 0) where
+  trial-because : (m : Names) (r : Refusal) → Because (trial_run m count) (AtTrial files out m count) r → Because (done m (Trial count engine)) (AtTask files out m (Ok (Trial count engine))) r
   trial-because m r h =
-      because-then r (trial_run m count) (λ run. Ok (behind (made count trial_name) run)) (AtTrial files out m count) (AtTask files out m (Ok (Trial count chunk queue))) (λ p o h. h) h
+      because-then r (trial_run m count) (λ run. Ok (behind (made count trial_name) run)) (AtTrial files out m count) (AtTask files out m (Ok (Trial count engine))) (λ p o h. h) h
 
   run-left : (r : Refusal) (old new : Option Names) (m : Names) → IsOfRun r → IsLeft r (Some (with_trial m count)) new (trial_run m count) → IsTrialLeft r old new m count
   run-left of.Memory old new m inside left = inr left
@@ -58,7 +58,6 @@ module _ (count chunk queue : ℕ) (files out : Type 0) where
   run-left (of.Device at.Generated o) old new m inside left = absurd inside
   run-left (of.Device at.Out o) old new m inside left = absurd inside
   run-left (of.Usage k) old new m inside left = absurd inside
-  run-left (of.NotBuilt k) old new m inside left = absurd inside
 
   at-trial : (rose : Type 0) (m : Names) → (rose → files) → (p : Place) (o : Op) → AtStages rose ⊥ (with_trial m count) (stages_in trial_text) ⊥ p o → AtTrial files out m count p o
   at-trial rose m more (at.Stage i) o h = (more h.0, h.1)
@@ -72,7 +71,7 @@ module _ (count chunk queue : ℕ) (files out : Type 0) where
   at-trial rose m more at.Out op.Keep h = absurd h
 
   pub trial-stopped : (rose : Type 0) (text : List ℕ) (old middle new : Option Names) (out0 out1 : Option (List ℕ)) (r : Refusal) → out1 ≡ out0 → IsPut old trial_name (generated_file count) middle → text ≡ trial_text
-      → (rose → files) → (middle ≡ None → new ≡ None) → WasStopped rose middle new text r → WasRefused (Ok (Trial count chunk queue)) files out old new out0 out1 r
+      → (rose → files) → (middle ≡ None → new ≡ None) → WasStopped rose middle new text r → WasRefused (Ok (Trial count engine)) files out old new out0 out1 r
   trial-stopped rose text old middle new out0 out1 r quiet put-in is more untold text-stopped = record {
     because = λ m t. trial-because m r (because-more r (trial_run m count) (AtStages rose ⊥ (with_trial m count) (stages_in trial_text) ⊥) (AtTrial files out m count) (at-trial rose m more)
         (stopped.because (with_trial m count) (told-between count old middle new m put-in untold t.0 t.1)));
@@ -101,10 +100,10 @@ trial-ran count text counts old middle new put-in is untold run m t =
 behind-put : (count : ℕ) (old new : Option Names) (m : Names) (run : Run) → old ≡ Some m → WerePut (Some (with_trial m count)) run.outputs new → WerePut old (behind (made count trial_name) run).outputs new
 behind-put count old new m run told h n e = let same : Some n ≡ Some m = sym e ∙ told in let is : n ≡ m = cc in rw is (h (with_trial m count) refl)
 
-pub trial-done : (count chunk queue : ℕ) (old new : Option Names) (counts shown : List StageCount) (out0 out1 out2 : Option (List ℕ)) → shown ≡ counts
+pub trial-done : (count : ℕ) (engine : Engine) (old new : Option Names) (counts shown : List StageCount) (out0 out1 out2 : Option (List ℕ)) → shown ≡ counts
     → ((m : Names) → (old ≡ Some m) × (is_some new ≡ true) → IsOkAnd (trial_run m count) (IsRun (Some (with_trial m count)) new counts))
-    → Appends out0 (generated_line count) out1 → Appends out1 (report_of shown) out2 → WasDone (Ok (Trial count chunk queue)) old new out0 out2
-trial-done count chunk queue old new counts shown out0 out1 out2 same run line report m t = go (trial_run m count) (run m t)
+    → Appends out0 (generated_line count) out1 → Appends out1 (report_of shown) out2 → WasDone (Ok (Trial count engine)) old new out0 out2
+trial-done count engine old new counts shown out0 out1 out2 same run line report m t = go (trial_run m count) (run m t)
   where
     go : (r : Result Run Refusal) → IsOkAnd r (IsRun (Some (with_trial m count)) new counts) → IsOkAnd (and_then r (λ run. Ok (behind (made count trial_name) run))) (IsDone old new out0 out2)
     go (Ok x) h = record {
@@ -114,11 +113,11 @@ trial-done count chunk queue old new counts shown out0 out1 out2 same run line r
     go (Err e) h = absurd h
 
 -- where only a text couldn't be printed
-pub trial-unprinted : (count chunk queue : ℕ) (files out : Type 0) (old new : Option Names) (counts : List StageCount) (out0 out1 : Option (List ℕ)) (r : Refusal) → r ≡ of.Device at.Out op.Write → out
+pub trial-unprinted : (count : ℕ) (engine : Engine) (files out : Type 0) (old new : Option Names) (counts : List StageCount) (out0 out1 : Option (List ℕ)) (r : Refusal) → r ≡ of.Device at.Out op.Write → out
     → ((m : Names) → (old ≡ Some m) × (is_some new ≡ true) → IsOkAnd (trial_run m count) (IsRun (Some (with_trial m count)) new counts))
-    → AppendsPart out0 (generated_line count ++ report_of counts) out1 → WasRefused (Ok (Trial count chunk queue)) files out old new out0 out1 r
-trial-unprinted count chunk queue files out old new counts out0 out1 r is rose run text =
-    unprinted (Trial count chunk queue) files out old new out0 out1 r is rose
+    → AppendsPart out0 (generated_line count ++ report_of counts) out1 → WasRefused (Ok (Trial count engine)) files out old new out0 out1 r
+trial-unprinted count engine files out old new counts out0 out1 r is rose run text =
+    unprinted (Trial count engine) files out old new out0 out1 r is rose
     (λ m t. go m t (trial_run m count) (run m t))
     (λ m t. (rose, ok-only (trial_run m count) (IsRun (Some (with_trial m count)) new counts) (run m t)))
     (λ m t. ok-more (trial_run m count) (IsRun (Some (with_trial m count)) new counts) (λ x. WerePut (Some (with_trial m count)) x.outputs new) (λ x h. h.put) (run m t))

@@ -83,13 +83,13 @@ behind first run = record { outputs = first.outputs ++ run.outputs; report = fir
 -- ---- all
 
 abbrev pub done : Names → Task → Result Run Refusal
-done m (Run_file file chunk queue) = ran m file
+done m (Run_file file engine) = ran m file
 done m (Plan_file file) = planned m file
 done m (Make_file count name) = Ok (made count name)
-done m (Trial count chunk queue) = and_then (trial_run m count) (λ run. Ok (behind (made count trial_name) run))
+done m (Trial count engine) = and_then (trial_run m count) (λ run. Ok (behind (made count trial_name) run))
 done m (Print text) = Ok (printed text)
 
--- the answer of a command: what it keeps and reports, or why it is refused. How a run is cut into pieces doesn't matter
+-- the answer of a command: what it keeps and reports, or why it is refused. The engine of a run doesn't matter
 abbrev pub answer : List (List ℕ) → Names → Result Run Refusal
 answer words m = and_then (task_of words) (done m)
 

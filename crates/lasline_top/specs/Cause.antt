@@ -17,7 +17,6 @@ use Rattle.lasline_top.specs.Answer.{plan_in, ran, stages_in, trial_text, with_t
 -- a refusal that isn't for the words
 abbrev pub IsOfFiles : Refusal → Type 0
 IsOfFiles (of.Usage k) = ⊥
-IsOfFiles (of.NotBuilt r) = ⊥
 IsOfFiles refusal = ⊤
 
 -- it is for a pipeline's text, or for want of memory
@@ -93,10 +92,10 @@ AtTrial files_rose out_rose m count p o = AtStages files_rose out_rose (with_tri
 -- the device that an answer names may be at fault: its count rose, and the command had come that far. One that prints a page has the
 -- output alone
 abbrev pub AtTask : Type 0 → Type 0 → Names → Result Task Refusal → Place → Op → Type 0
-AtTask files_rose out_rose m (Ok (Run_file file chunk queue)) p o = AtFile files_rose out_rose m file p o
+AtTask files_rose out_rose m (Ok (Run_file file engine)) p o = AtFile files_rose out_rose m file p o
 AtTask files_rose out_rose m (Ok (Plan_file file)) p o = AtPlan files_rose out_rose m file p o
 AtTask files_rose out_rose m (Ok (Make_file count name)) p o = AtMade files_rose out_rose p o
-AtTask files_rose out_rose m (Ok (Trial count chunk queue)) p o = AtTrial files_rose out_rose m count p o
+AtTask files_rose out_rose m (Ok (Trial count engine)) p o = AtTrial files_rose out_rose m count p o
 AtTask files_rose out_rose m (Ok (Print text)) p o = (p ≡ at.Out) × AtOut out_rose o
 AtTask files_rose out_rose m (Err refusal) p o = ⊥
 

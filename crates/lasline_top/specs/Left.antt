@@ -14,7 +14,7 @@ use Rattle.lasline_top.specs.Answer.{done, trial_name, with_trial, trial_run}
 
 -- the files tell what names have: at entry, and at the return too where the command reads a file that it wrote
 abbrev pub AreTold : Result Task Refusal → Option Names → Option Names → Names → Type 0
-AreTold (Ok (Trial count chunk queue)) old new m = (old ≡ Some m) × (is_some new ≡ true)
+AreTold (Ok (Trial count engine)) old new m = (old ≡ Some m) × (is_some new ≡ true)
 AreTold task old new m = old ≡ Some m
 
 -- what is left where a file of generated points was to be made: what a call leaves that couldn't make it, and the file where only
@@ -35,5 +35,5 @@ IsTrialLeft refusal old new m count = IsLeft refusal (Some (with_trial m count))
 -- what the refusal of a command leaves
 abbrev pub IsLeftBy : Result Task Refusal → Refusal → Option Names → Option Names → Names → Type 0
 IsLeftBy (Ok (Make_file count name)) refusal old new m = IsMadeLeft refusal old name (generated_file count) new
-IsLeftBy (Ok (Trial count chunk queue)) refusal old new m = IsTrialLeft refusal old new m count
+IsLeftBy (Ok (Trial count engine)) refusal old new m = IsTrialLeft refusal old new m count
 IsLeftBy task refusal old new m = IsLeft refusal old new (and_then task (done m))

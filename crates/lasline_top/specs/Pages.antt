@@ -2,7 +2,7 @@
 use Rattle.std.specs.Prelude.{ℕ, List, codes}
 
 unfoldable pub help_page : List ℕ
-help_page = codes "lasline runs lidar points through a pipeline of stages.\n\n  lasline run FILE [OPTIONS]   run the pipeline in FILE\n  lasline plan FILE            print its steps\n  lasline gen N NAME           make a LAS file of N points\n  lasline trial N [OPTIONS]    make one and run a fixed pipeline on it\n  lasline --help               print this page\n  lasline --version            print the version\n\nOptions, each at most once and in any order:\n\n  --chunk N      points that a stage hands on at once: 1 to 64, else 64\n  --queue N      items that wait between two stages: 1 to 64, else 8\n  --workers N    1 to 32, else 1 (without effect yet)\n  --patience N   0 to 1000000, else 1000 (without effect yet)\n  --whole        run each stage on whole lists (not built yet)\n\nFor example, a file p.json with the text\n\n  [\"in.las\",\"o.txt\"]\n\nmakes of `lasline run p.json` a text file of the points of in.las.\n\nExit codes:\n\n  0  all was done\n  1  the words are no command\n  2  the pipeline isn't right\n  3  a LAS file isn't read\n  4  a device failed, or a file to read isn't there\n  5  there was no memory\n  6  what was asked isn't built\n\nREADME.md, docs/PIPELINES.md, docs/FORMATS.md and docs/ERRORS.md of the source tell the rest.\n"
+help_page = codes "lasline runs lidar points through a pipeline of stages.\n\n  lasline run FILE [OPTIONS]   run the pipeline in FILE\n  lasline plan FILE            print its steps\n  lasline gen N NAME           make a LAS file of N points\n  lasline trial N [OPTIONS]    make one and run a fixed pipeline on it\n  lasline --help               print this page\n  lasline --version            print the version\n\nOptions, each at most once and in any order:\n\n  --chunk N      points that a stage hands on at once: 1 to 64, else 64\n  --queue N      items that wait between two stages: 1 to 64, else 8\n  --workers N    1 to 32, else 1 (without effect yet)\n  --patience N   0 to 1000000, else 1000 (without effect yet)\n  --whole        run the stages one after the other, on whole lists\n\nFor example, a file p.json with the text\n\n  [\"in.las\",\"o.txt\"]\n\nmakes of `lasline run p.json` a text file of the points of in.las.\n\nExit codes:\n\n  0  all was done\n  1  the words are no command\n  2  the pipeline isn't right\n  3  a LAS file isn't read\n  4  a device failed, or a file to read isn't there\n  5  there was no memory\n\nREADME.md, docs/PIPELINES.md, docs/FORMATS.md and docs/ERRORS.md of the source tell the rest.\n"
 
 abbrev pub version_page : List ℕ
 version_page = codes "lasline 1\n"

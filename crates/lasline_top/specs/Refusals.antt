@@ -2,7 +2,7 @@
 use Rattle.stage_names.specs.declared.faults.PipeErr.{PipeErr}
 use Rattle.stage_names.specs.declared.faults.PipeErr.TheVariants as pipe
 use Rattle.run_report.specs.declared.refusal.Refusal.{Refusal}
-use Rattle.run_report.specs.declared.refusal.Refusal.TheVariants.{Usage, Pipeline, Data, Device, Memory, NotBuilt}
+use Rattle.run_report.specs.declared.refusal.Refusal.TheVariants.{Usage, Pipeline, Data, Device, Memory}
 use Rattle.lasline_top.specs.declared.status.Status.{Status}
 use Rattle.lasline_top.specs.declared.status.Status.TheVariants as status
 
@@ -12,7 +12,6 @@ status_for (Pipeline f) = status.Pipeline f
 status_for (Data i f) = status.Data i f
 status_for (Device p o) = status.Device p o
 status_for Memory = status.Memory
-status_for (NotBuilt r) = status.NotBuilt r
 
 abbrev pub refusal_of : PipeErr → Refusal
 refusal_of (pipe.Fault f) = Pipeline f

@@ -4,6 +4,7 @@ ghost use Rattle.std.specs.Prelude.{◌≡◌, ◌≤◌, Some, None, Ok, IsOkAn
 ghost use Rattle.file_devices.specs.Counts.{Rose};
 ghost use Rattle.file_devices.specs.Named.{Names};
 ghost use Rattle.run_engine.specs.Cause.{IsRun};
+ghost use Rattle.lasline_top.specs.Tasks.{engine_view};
 ghost use Rattle.lasline_top.specs.Words.{Run_file, Trial};
 ghost use Rattle.lasline_top.specs.Answer.{text_run, trial_name, trial_text};
 ghost use Rattle.lasline_top.specs.Cause.{IsOfFiles};
@@ -15,7 +16,7 @@ use crate::pipeline_file::{read_stages, read_text};
 use crate::printing::{print_report, print_text};
 use crate::texts::generated_line;
 use file_devices::{Files, Sink};
-use run_engine::{Shape, run_pipeline};
+use run_engine::{Engine, run_pipeline};
 use run_report::{Refusal, Report};
 use std::alloc::Global;
 
@@ -24,7 +25,7 @@ use std::alloc::Global;
 fn run_text<F: Files>(
     alloc: Global,
     text: &[u8],
-    shape: Shape,
+    engine: Engine,
     files: &mut F,
 ) -> Result<Report, Refusal>
     ensures ok { IfOk result (λ report. (m : Names) → F.map files.old ≡ Some m
@@ -35,26 +36,26 @@ fn run_text<F: Files>(
     ensures later { F.faults files.old ≤ F.faults files.new }
 {
     let tree = read_stages(alloc, text)?;
-    run_pipeline(alloc, files, tree.as_slice(), shape)
+    run_pipeline(alloc, files, tree.as_slice(), engine)
 }
 
 /// Runs the pipeline in a file and prints the report.
 pub(crate) fn run_file<F: Files, K: Sink>(
     alloc: Global,
     name: &str,
-    shape: Shape,
+    engine: Engine,
     files: &mut F,
     out: &mut K,
 ) -> Result<(), Refusal>
-    ensures ok { OnOk result (WasDone (Ok (Run_file name.now shape.chunk shape.queue)) (F.map files.old) (F.map files.new) (K.bytes out.old) (K.bytes out.new)) }
-    ensures err { IfErr result (WasRefused (Ok (Run_file name.now shape.chunk shape.queue)) (Rose (F.faults files.old) (F.faults files.new)) (Rose (K.faults out.old) (K.faults out.new))
+    ensures ok { OnOk result (WasDone (Ok (Run_file name.now (engine_view engine))) (F.map files.old) (F.map files.new) (K.bytes out.old) (K.bytes out.new)) }
+    ensures err { IfErr result (WasRefused (Ok (Run_file name.now (engine_view engine))) (Rose (F.faults files.old) (F.faults files.new)) (Rose (K.faults out.old) (K.faults out.new))
         (F.map files.old) (F.map files.new) (K.bytes out.old) (K.bytes out.new)) }
     ensures of_files { IfErr result IsOfFiles }
     ensures lent { F.lent files.new ≡ F.lent files.old }
     ensures later { F.faults files.old ≤ F.faults files.new }
 {
     let text = read_text(alloc, files, name)?;
-    let report = run_text(alloc, &text, shape, files)?;
+    let report = run_text(alloc, &text, engine, files)?;
     print_report(report.as_slice(), out)
 }
 
@@ -76,12 +77,12 @@ fn trial_text() -> &'static str
 pub(crate) fn run_trial<F: Files, K: Sink>(
     alloc: Global,
     count: PointCount,
-    shape: Shape,
+    engine: Engine,
     files: &mut F,
     out: &mut K,
 ) -> Result<(), Refusal>
-    ensures ok { OnOk result (WasDone (Ok (Trial count.points shape.chunk shape.queue)) (F.map files.old) (F.map files.new) (K.bytes out.old) (K.bytes out.new)) }
-    ensures err { IfErr result (WasRefused (Ok (Trial count.points shape.chunk shape.queue)) (Rose (F.faults files.old) (F.faults files.new)) (Rose (K.faults out.old) (K.faults out.new))
+    ensures ok { OnOk result (WasDone (Ok (Trial count.points (engine_view engine))) (F.map files.old) (F.map files.new) (K.bytes out.old) (K.bytes out.new)) }
+    ensures err { IfErr result (WasRefused (Ok (Trial count.points (engine_view engine))) (Rose (F.faults files.old) (F.faults files.new)) (Rose (K.faults out.old) (K.faults out.new))
         (F.map files.old) (F.map files.new) (K.bytes out.old) (K.bytes out.new)) }
     ensures of_files { IfErr result IsOfFiles }
     ensures lent { F.lent files.new ≡ F.lent files.old }
@@ -91,7 +92,7 @@ pub(crate) fn run_trial<F: Files, K: Sink>(
         return Err(Refusal::Memory);
     };
     make(alloc, files, trial_name(), count)?;
-    let report = run_text(alloc, trial_text().as_bytes(), shape, files)?;
+    let report = run_text(alloc, trial_text().as_bytes(), engine, files)?;
     print_text(line.as_str(), out)?;
     print_report(report.as_slice(), out)
 }

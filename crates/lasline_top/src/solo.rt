@@ -40,17 +40,16 @@ fn run_command<F: Files, K: Sink>(
         (F.map files.old) (F.map files.new) (K.bytes out.old) (K.bytes out.new)) }
     ensures words_first { (refusal : Refusal) → task_of (map string_bytes words.now) ≡ Err refusal → result ≡ Err refusal }
     ensures of_words { (k : ℕ) → result ≡ Err (Refusal.Usage k) → task_of (map string_bytes words.now) ≡ Err (Refusal.Usage k) }
-    ensures not_built { (r : ℕ) → result ≡ Err (Refusal.NotBuilt r) → task_of (map string_bytes words.now) ≡ Err (Refusal.NotBuilt r) }
     ensures page { (text : List ℕ) → task_of (map string_bytes words.now) ≡ Ok (Print text) → OnOk result (Appends (K.bytes out.old) text (K.bytes out.new)) }
     ensures page_part { (text : List ℕ) → task_of (map string_bytes words.now) ≡ Ok (Print text) → OnErr result (AppendsPart (K.bytes out.old) text (K.bytes out.new)) }
     ensures lent { F.lent files.new ≡ F.lent files.old }
     ensures later { F.faults files.old ≤ F.faults files.new }
 {
     match task_of(words)? {
-        Task::Run { file, shape } => run_file(alloc, file, shape, files, out),
+        Task::Run { file, engine } => run_file(alloc, file, engine, files, out),
         Task::Plan { file } => plan_file(alloc, file, files, out),
         Task::Generate { count, name } => make_file(alloc, count, name, files, out),
-        Task::Trial { count, shape } => run_trial(alloc, count, shape, files, out),
+        Task::Trial { count, engine } => run_trial(alloc, count, engine, files, out),
         Task::Print(page) => print_text(page, out),
     }
 }
@@ -77,17 +76,16 @@ pub fn refused<E: Sink>(refusal: Refusal, err: &mut E) -> Status
 /// - `--help` and `--version` print a page.
 ///
 /// Behind `run FILE` and `trial N` may stand `--chunk N`, the points that a stage hands on at once, and `--queue N`, the items that a
-/// queue between two stages holds: each at most once, in any order, with N from 1 to 64. Without them N is 64 and 8. They change
-/// nothing of what is kept or reported.
+/// queue between two stages holds: each at most once, in any order, with N from 1 to 64. Without them N is 64 and 8. With `--whole`
+/// the stages are evaluated one after the other, each on all its points. None of these changes what is kept or reported.
 ///
 /// On `Ok` the outputs are kept in `files` and the report is appended to `out`; on any other status a line that says why is appended to
 /// `err`. Every object that `files` handed out is given back.
 ///
 /// `Pipeline` comes only where the pipeline has that fault and no earlier one, `Data` only where the files hold that fault,
-/// `NotBuilt` only where what is asked isn't built, `Device` only where the named device failed or a file to read isn't
-/// there, and `Memory` where there was none. After a refusal the files are as before. Only where the keeping of an output
-/// failed or found no memory are those of the stages before it kept, and that one may be; where the report couldn't be
-/// printed all are. What `trial` generated stays.
+/// `Device` only where the named device failed or a file to read isn't there, and `Memory` where there was none. After a
+/// refusal the files are as before. Only where the keeping of an output failed or found no memory are those of the stages before
+/// it kept, and that one may be; where the report couldn't be printed all are. What `trial` generated stays.
 pub fn lasline_solo<F: Files, K: Sink, E: Sink>(
     alloc: Global,
     words: &[String],
@@ -110,7 +108,6 @@ pub fn lasline_solo<F: Files, K: Sink, E: Sink>(
         → answer (map string_bytes words.now) m ≡ Err (Refusal.Pipeline f) }
     ensures data { (i : ℕ) (f : Fault) → result ≡ Status.Data i f → (m : Names) → AreTold (task_of (map string_bytes words.now)) (F.map files.old) (F.map files.new) m
         → answer (map string_bytes words.now) m ≡ Err (Refusal.Data i f) }
-    ensures not_built { (r : ℕ) → result ≡ Status.NotBuilt r → task_of (map string_bytes words.now) ≡ Err (Refusal.NotBuilt r) }
     ensures usage { (k : ℕ) → result ≡ Status.Usage k → task_of (map string_bytes words.now) ≡ Err (Refusal.Usage k) }
     ensures words_first { (refusal : Refusal) → task_of (map string_bytes words.now) ≡ Err refusal → result ≡ status_for refusal }
     ensures device { (p : Place) (o : Op) → result ≡ Status.Device p o → (m : Names) → AreTold (task_of (map string_bytes words.now)) (F.map files.old) (F.map files.new) m

@@ -26,9 +26,6 @@ pub enum Status {
 
     /// There was no memory.
     Memory,
-
-    /// What was asked isn't built yet: 1 the command, 4 a stage of the pipeline, or an option of it.
-    NotBuilt(u8),
 }
 
 impl Status {
@@ -45,7 +42,6 @@ impl Status {
             Refusal::Data(stage, fault) => Status::Data(stage, fault),
             Refusal::Device(place, op) => Status::Device(place, op),
             Refusal::Memory => Status::Memory,
-            Refusal::NotBuilt(part) => Status::NotBuilt(part),
         }
     }
 
@@ -60,7 +56,6 @@ impl Status {
             Status::Data(_, _) => 3,
             Status::Device(_, _) => 4,
             Status::Memory => 5,
-            Status::NotBuilt(_) => 6,
         }
     }
 }

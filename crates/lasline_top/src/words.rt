@@ -1,22 +1,21 @@
 //! What the words of a command line ask for.
 
-ghost use Rattle.std.specs.Prelude.{◌≡◌, map, true, false, Ok, Err, IfOk, IfErr, string_bytes};
-ghost use Rattle.run_report.specs.declared.refusal.Refusal.{Refusal};
-ghost use Rattle.lasline_top.specs.Words.{task_of};
-ghost use Rattle.lasline_top.specs.Tasks.{task_view};
+ghost use Rattle.std.specs.Prelude.{◌≡◌, map, Ok, Err, IfOk, IfErr, string_bytes};
+ghost use Rattle.lasline_top.specs.Words.{engine_of, task_of};
+ghost use Rattle.lasline_top.specs.Tasks.{engine_view, task_view};
 ghost use Rattle.command_words.specs.Commands.{AreWithin};
 
 use crate::count::PointCount;
 use crate::pages::{help, version};
 use command_words::{Command, RunOptions, read_command};
-use run_engine::Shape;
+use run_engine::{Engine, Shape};
 use run_report::Refusal;
 
 /// What a command comes to.
 #[derive(Clone, Copy)]
 pub(crate) enum Task<'a> {
-    /// The run of a pipeline's file, cut into pieces of this shape.
-    Run { file: &'a str, shape: Shape },
+    /// The run of a pipeline's file by this engine.
+    Run { file: &'a str, engine: Engine },
 
     /// The plan of a pipeline's file.
     Plan { file: &'a str },
@@ -25,27 +24,24 @@ pub(crate) enum Task<'a> {
     Generate { count: PointCount, name: &'a str },
 
     /// Such a file, and the run of a fixed pipeline on it.
-    Trial { count: PointCount, shape: Shape },
+    Trial { count: PointCount, engine: Engine },
 
     /// A page that is printed.
     Print(&'static str),
 }
 
-/// The shape that options ask for. An engine on whole lists isn't built.
-fn shape_of(options: RunOptions) -> Result<Shape, Refusal>
+/// The engine that options ask for.
+fn engine_of(options: RunOptions) -> Engine
     requires { AreWithin options }
-    ensures chunk { IfOk result (λ shape. shape.chunk ≡ options.chunk) }
-    ensures queue { IfOk result (λ shape. shape.queue ≡ options.queue) }
-    ensures streamed { IfOk result (λ shape. options.whole ≡ false) }
-    ensures err { IfErr result (λ refusal. (options.whole ≡ true) × (refusal ≡ Refusal.NotBuilt 1)) }
+    ensures { engine_view result ≡ engine_of options }
 {
     if options.whole {
-        return Err(Refusal::NotBuilt(1));
+        return Engine::Whole;
     }
-    Ok(Shape::new(options.chunk as usize, options.queue as usize))
+    Engine::Queues(Shape::new(options.chunk as usize, options.queue as usize))
 }
 
-/// The task of the words. `--whole` isn't built.
+/// The task of the words.
 pub(crate) fn task_of(words: &[String]) -> Result<Task<'_>, Refusal>
     ensures ok { IfOk result (λ task. task_of (map string_bytes words.now) ≡ Ok (task_view task)) }
     ensures err { IfErr result (λ refusal. task_of (map string_bytes words.now) ≡ Err refusal) }
@@ -56,8 +52,8 @@ pub(crate) fn task_of(words: &[String]) -> Result<Task<'_>, Refusal>
     };
     Ok(match command {
         Command::Run { file, options } => {
-            let shape = shape_of(options)?;
-            Task::Run { file, shape }
+            let engine = engine_of(options);
+            Task::Run { file, engine }
         }
         Command::Plan { file } => Task::Plan { file },
         Command::Gen { count, name } => {
@@ -66,8 +62,8 @@ pub(crate) fn task_of(words: &[String]) -> Result<Task<'_>, Refusal>
         }
         Command::Trial { count, options } => {
             let count = PointCount { points: count };
-            let shape = shape_of(options)?;
-            Task::Trial { count, shape }
+            let engine = engine_of(options);
+            Task::Trial { count, engine }
         }
         Command::Help => Task::Print(help()),
         Command::Version => Task::Print(version()),

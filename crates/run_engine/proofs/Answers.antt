@@ -25,13 +25,15 @@ use Rattle.run_report.specs.declared.refusal.Fault.TheVariants as fault
 use Rattle.answer_model.specs.Values.{Opened, role_at, unbound_at, unless_fault, evaluated, least_fault, outputs_of, counts_of}
 use Rattle.answer_model.specs.Runs.{Run, AreRead, holds, unread_at, unless_unread, unless_unbound, run_with, run_over, run_of, opened_in}
 use Rattle.answer_model.proofs.Least.{least-nowhere}
-use Rattle.stage_runs.specs.Works.{op_for, Tells}
+use Rattle.stage_forms.specs.Below.{Tells}
+use Rattle.stage_runs.specs.Works.{op_for}
 use Rattle.las_reader.specs.declared.reader.LasReader.{LasReader}
 use Rattle.std.proofs.lemmas.List.Sums.{sum_by-cons}
 use Rattle.run_engine.specs.Begun.{AreBegun, there, all_held}
 use Rattle.run_engine.specs.Keeping.{AreFor, kept_first, BrokeOff}
 use Rattle.run_engine.specs.Cause.{CanBegin, IsCause, IsEarly, IsLeft, IsRun, WerePut, WerePutBefore, AtRole}
-use Rattle.run_engine.specs.Turns.{WorksTell, AreLater, AreDone, IsTurnsCause, IsUnfinished, IsRunCause}
+use Rattle.set_engine.specs.Evaluated.{AreTold, IsUnevaluated}
+use Rattle.run_engine.specs.Turns.{AreLater, AreDone, IsUnfinished, IsRunCause}
 use Rattle.run_engine.proofs.Puts.{outputs_below, were-put, before-below}
 
 -- an early refusal leaves the files as they were
@@ -40,7 +42,6 @@ early-left of.Memory old new expected early same = inl same
 early-left (of.Data i f) old new expected early same = same
 early-left (of.Pipeline f) old new expected early same = same
 early-left (of.Usage k) old new expected early same = same
-early-left (of.NotBuilt k) old new expected early same = same
 early-left (of.Device at.PipelineFile o) old new expected early same = same
 early-left (of.Device at.Generated o) old new expected early same = same
 early-left (of.Device at.Out o) old new expected early same = absurd early
@@ -112,10 +113,10 @@ rose-given before after files end rose back = omega (arith, rose, back)
 module _ {S K : Type 0} (s : source.Ghosts S) (faults : StageWork S K → ℕ) (map : Option Names) (stages : List StageSpec) (old new : List (StageWork S K)) (start mid end : ℕ)
     (few : length old ≡ length stages)
     (come : (m : Names) → map ≡ Some m → CanBegin m stages)
-    (tells : (m : Names) → map ≡ Some m → WorksTell s old (opened_in m stages))
+    (tells : (m : Names) → map ≡ Some m → AreTold s old (opened_in m stages))
     (fit : (i : ℕ) (w : StageWork S K) → slice_get old i ≡ Some w → op_of w ≡ op_for (role_at stages i))
     (low : start ≤ mid) (back : (i : ℕ) (w : StageWork S K) → slice_get new i ≡ Some w → saturating mid (faults w) ≤ end) where
-  pub turns-to-cause : (r : Refusal) → IsTurnsCause s faults stages old new r → IsCause (Rose start end) map stages r
+  pub turns-to-cause : (r : Refusal) → IsUnevaluated s faults stages old new r → IsCause (Rose start end) map stages r
   turns-to-cause of.Memory c = tt
   turns-to-cause (of.Data i (fault.Point f)) c = λ m e. run-fault m stages i f (come m e) (c (opened_in m stages) (tells m e))
   turns-to-cause (of.Data i (fault.Header f)) c = absurd c
@@ -133,9 +134,8 @@ module _ {S K : Type 0} (s : source.Ghosts S) (faults : StageWork S K → ℕ) (
   turns-to-cause (of.Device at.Out o) c = absurd c
   turns-to-cause (of.Pipeline f) c = absurd c
   turns-to-cause (of.Usage k) c = absurd c
-  turns-to-cause (of.NotBuilt k) c = absurd c
 
-  unfinished-to-cause : (r : Refusal) → IsUnfinished faults old new r → ((opened : Opened) → WorksTell s old opened → least_fault stages opened ≡ None) → IsCause (Rose start end) map stages r
+  unfinished-to-cause : (r : Refusal) → IsUnfinished faults old new r → ((opened : Opened) → AreTold s old opened → least_fault stages opened ≡ None) → IsCause (Rose start end) map stages r
   unfinished-to-cause (of.Device (at.Stage i) o) c sound = inr (
     (let a = rose-given (faults c.before) (faults c.after) mid end c.rose (back i c.after c.is) in omega (arith, a, low)),
     λ m e. record {
@@ -151,7 +151,6 @@ module _ {S K : Type 0} (s : source.Ghosts S) (faults : StageWork S K → ℕ) (
   unfinished-to-cause of.Memory c sound = absurd c
   unfinished-to-cause (of.Pipeline f) c sound = absurd c
   unfinished-to-cause (of.Usage k) c sound = absurd c
-  unfinished-to-cause (of.NotBuilt k) c sound = absurd c
 
   pub run-to-cause : (r : Refusal) → IsRunCause s faults stages old new r → IsCause (Rose start end) map stages r
   run-to-cause r c = elim c [ inl t ↦ turns-to-cause r t | inr u ↦ unfinished-to-cause r u.0 u.1 ]
@@ -167,7 +166,7 @@ op-early i h op.Create e = tt
 op-early i h op.Write e = tt
 op-early i h op.Patch e = tt
 
-pub turns-early : {S K : Type 0} (s : source.Ghosts S) (faults : StageWork S K → ℕ) (stages : List StageSpec) (old new : List (StageWork S K)) (r : Refusal) → IsTurnsCause s faults stages old new r → IsEarly r
+pub turns-early : {S K : Type 0} (s : source.Ghosts S) (faults : StageWork S K → ℕ) (stages : List StageSpec) (old new : List (StageWork S K)) (r : Refusal) → IsUnevaluated s faults stages old new r → IsEarly r
 turns-early s faults stages old new of.Memory c = tt
 turns-early s faults stages old new (of.Data i f) c = tt
 turns-early s faults stages old new (of.Device (at.Stage i) o) c = op-early i (held_by c.before) o c.does
@@ -176,7 +175,6 @@ turns-early s faults stages old new (of.Device at.Generated o) c = tt
 turns-early s faults stages old new (of.Device at.Out o) c = absurd c
 turns-early s faults stages old new (of.Pipeline f) c = tt
 turns-early s faults stages old new (of.Usage k) c = tt
-turns-early s faults stages old new (of.NotBuilt k) c = tt
 
 named-early : (i : ℕ) (o : Op) → (o ≡ op.Write) ⊎ (o ≡ op.Patch) → IsEarly (of.Device (at.Stage i) o)
 named-early i o named = elim named [
@@ -193,7 +191,6 @@ unfinished-early faults old new of.Memory c = tt
 unfinished-early faults old new (of.Data i f) c = tt
 unfinished-early faults old new (of.Pipeline f) c = tt
 unfinished-early faults old new (of.Usage k) c = tt
-unfinished-early faults old new (of.NotBuilt k) c = tt
 
 pub run-early : {S K : Type 0} (s : source.Ghosts S) (faults : StageWork S K → ℕ) (stages : List StageSpec) (old new : List (StageWork S K)) (r : Refusal) → IsRunCause s faults stages old new r → IsEarly r
 run-early s faults stages old new r c = elim c [ inl t ↦ turns-early s faults stages old new r t | inr u ↦ unfinished-early faults old new r u.0 ]
@@ -248,7 +245,7 @@ same-held faults old new later = held-same old new later.count (λ i v w e f. ap
 -- a run whose stages came to their end
 module _ {S K : Type 0} (s : source.Ghosts S) (k : sink.Ghosts K) (map : Option Names) (stages : List StageSpec) (works done : List (StageWork S K)) (few : length works ≡ length stages)
     (readers : List (Option (LasReader S))) (forms : List StageForm) (begun : AreBegun s k map stages readers forms works) (come : (m : Names) → map ≡ Some m → CanBegin m stages) (faults : StageWork S K → ℕ) (later : AreLater faults works done) where
-  pub works-tell : (m : Names) → map ≡ Some m → WorksTell s works (opened_in m stages)
+  pub works-tell : (m : Names) → map ≡ Some m → AreTold s works (opened_in m stages)
   works-tell m e i w r a b = tells-there s m stages i r ((begun i w a).tells m e r b)
 
   pub starts-fit : (i : ℕ) (w : StageWork S K) → slice_get works i ≡ Some w → op_of w ≡ op_for (role_at stages i)
@@ -262,7 +259,7 @@ module _ {S K : Type 0} (s : source.Ghosts S) (k : sink.Ghosts K) (map : Option 
   size : length done ≡ length stages
   size = later.count ∙ few
 
-  module _ (counts : List StageCount) (came : (opened : Opened) → WorksTell s works opened → AreDone k.bytes stages opened done counts) where
+  module _ (counts : List StageCount) (came : (opened : Opened) → AreTold s works opened → AreDone k.bytes stages opened done counts) where
     at-end : (m : Names) → map ≡ Some m → AreDone k.bytes stages (opened_in m stages) done counts
     at-end m e = came (opened_in m stages) (works-tell m e)
 

@@ -35,4 +35,3 @@ uncreated-cause rose map stages i (of.Device at.Out o) lt come writes why = absu
 uncreated-cause rose map stages i (of.Data j f) lt come writes why = absurd why
 uncreated-cause rose map stages i (of.Pipeline f) lt come writes why = absurd why
 uncreated-cause rose map stages i (of.Usage k) lt come writes why = absurd why
-uncreated-cause rose map stages i (of.NotBuilt k) lt come writes why = absurd why

@@ -49,4 +49,3 @@ unbound-here stages readers i found (of.Pipeline f) lt before is why = λ opened
 unbound-here stages readers i found (of.Data k f) lt before is why = absurd why
 unbound-here stages readers i found (of.Device p o) lt before is why = absurd why
 unbound-here stages readers i found (of.Usage k) lt before is why = absurd why
-unbound-here stages readers i found (of.NotBuilt k) lt before is why = absurd why

@@ -55,7 +55,6 @@ unbound-cause rose map stages readers (of.Pipeline f) read have why = λ m e.
 unbound-cause rose map stages readers (of.Data i f) read have why = absurd why
 unbound-cause rose map stages readers (of.Device p o) read have why = absurd why
 unbound-cause rose map stages readers (of.Usage k) read have why = absurd why
-unbound-cause rose map stages readers (of.NotBuilt k) read have why = absurd why
 
 pub unbound-early : {S : Type 0} (stages : List StageSpec) (readers : List (Option (LasReader S))) (refusal : Refusal) → IsUnbound stages readers refusal → IsEarly refusal
 unbound-early stages readers of.Memory why = tt
@@ -63,7 +62,6 @@ unbound-early stages readers (of.Pipeline f) why = tt
 unbound-early stages readers (of.Data i f) why = absurd why
 unbound-early stages readers (of.Device p o) why = absurd why
 unbound-early stages readers (of.Usage k) why = absurd why
-unbound-early stages readers (of.NotBuilt k) why = absurd why
 
 -- where the readers are opened over the map and all names are bound, a run can begin
 pub can-begin : {S : Type 0} (s : source.Ghosts S) (map : Option Names) (stages : List StageSpec) (readers : List (Option (LasReader S))) → length readers ≡ length stages → AreOpened s map stages readers

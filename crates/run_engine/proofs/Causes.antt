@@ -21,4 +21,3 @@ cause-weaker map stages (of.Device at.Generated o) f c = absurd c
 cause-weaker map stages (of.Device at.Out o) f c = absurd c
 cause-weaker map stages (of.Pipeline f) g c = c
 cause-weaker map stages (of.Usage k) f c = absurd c
-cause-weaker map stages (of.NotBuilt k) f c = absurd c

@@ -15,3 +15,4 @@ pub mod Puts
 pub mod Answers
 pub mod Bound
 pub mod Binding
+pub mod Plainly

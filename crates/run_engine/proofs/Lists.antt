@@ -1,6 +1,5 @@
 -- Facts that hold at each place of a list.
 use Rattle.std.proofs.Common.{◌≡◌, ℕ, zero, suc, ◌+◌, ◌<◌, List, [], ◌∷◌, ◌++◌, length, take, drop, map, reverse, slice_get, Some, refl, ap, subst, sym, ◌∙◌, arith, add-one}
-use Rattle.std.specs.List.{range_with_len}
 use Rattle.std.proofs.lemmas.List.{reverse-append}
 
 -- it holds of what is put behind a list
@@ -44,19 +43,3 @@ take-more xs i x e = rw add-one (go xs i x e)
 pub length-mapped : {A B : Type 0} (f : A → B) (xs : List A) → length (map f xs) ≡ length xs
 length-mapped f [] = refl
 length-mapped f (x ∷ xs) = let r = length-mapped f xs in omega (arith, r)
-
--- lists with the same at each place
-pub same-lists : {A : Type 0} (xs ys : List A) → length xs ≡ length ys → ((i : ℕ) → i < length xs → slice_get xs i ≡ slice_get ys i) → xs ≡ ys
-same-lists [] [] l h = refl
-same-lists [] (y ∷ ys) l h = absurd (omega (arith, l))
-same-lists (x ∷ xs) [] l h = absurd (omega (arith, l))
-same-lists (x ∷ xs) (y ∷ ys) l h =
-    let first : Some x ≡ Some y = h 0 (omega arith) in
-    let one : x ≡ y = cc in
-    let rest = same-lists xs ys (omega (arith, l)) (λ i k. h (suc i) (omega (arith, k))) in
-    ap (λ z. z ∷ xs) one ∙ ap (λ zs. y ∷ zs) rest
-
-pub range-at : {A : Type 0} (f : ℕ → A) (from count i : ℕ) → i < count → slice_get (map f (range_with_len from count)) i ≡ Some (f (from + i))
-range-at f from zero i h = absurd (omega (arith, h))
-range-at f from (suc n) zero h = ap (λ k. Some (f k)) (omega arith)
-range-at f from (suc n) (suc i) h = range-at f (from + 1) n i (omega (arith, h)) ∙ ap (λ k. Some (f k)) (omega arith)

@@ -10,7 +10,7 @@ use Rattle.file_devices.specs.declared.devices.Source as source
 use Rattle.file_devices.specs.declared.devices.Sink as sink
 use Rattle.las_reader.specs.declared.reader.LasReader.{LasReader}
 use Rattle.answer_model.specs.Rows.{Setting}
-use Rattle.stage_forms.specs.Below.{AreReaders, HaveReaders}
+use Rattle.stage_forms.specs.Below.{AreReaders, HaveReaders, Tells}
 use Rattle.stage_kinds.specs.declared.file_form.StageForm.{StageForm}
 use Rattle.stage_kinds.specs.declared.stage_work.StageWork.{StageWork}
 use Rattle.stage_kinds.specs.declared.stage_work.StageWork.TheVariants.{Reader, Filter, Collector, Views, Writer}
@@ -23,7 +23,7 @@ use Rattle.run_report.specs.declared.refusal.Refusal.TheVariants as of
 use Rattle.run_report.specs.declared.refusal.Place.TheVariants as at
 use Rattle.answer_model.specs.Values.{LasFile, stage_at, role_at}
 use Rattle.answer_model.specs.Runs.{AreRead, holds, unread, unread_at, unless_unread, run_over, run_of, opened_in}
-use Rattle.stage_runs.specs.Works.{IsAtStart, form_for, op_for, Tells}
+use Rattle.stage_runs.specs.Works.{IsAtStart, form_for, op_for}
 use Rattle.stage_runs.proofs.Works.{op-at-start, reader-start}
 use Rattle.answer_model.proofs.Least.{least-at}
 use Rattle.run_engine.specs.Begun.{IsReading, IsOpened, AreOpened, IsWork, reader_of}
@@ -92,10 +92,6 @@ unopened-cause rose map stages i refusal lt read why = go (role_at stages i) ref
     go Gathers is (of.Usage k) w = absurd w
     go (Reads name) is (of.Usage k) w = absurd w
     go (Writes name) is (of.Usage k) w = absurd w
-    go Filters is (of.NotBuilt k) w = absurd w
-    go Gathers is (of.NotBuilt k) w = absurd w
-    go (Reads name) is (of.NotBuilt k) w = absurd w
-    go (Writes name) is (of.NotBuilt k) w = absurd w
 
 module _ {S : Type 0} (s : source.Ghosts S) (map : Option Names) (i : ℕ) where
   pub by-reader : (role : Role) (r : LasReader S) → IsOpened s map i role (Some r) → (is_reading role ≡ true) × IsReading s map i role r

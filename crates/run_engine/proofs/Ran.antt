@@ -31,10 +31,13 @@ use Rattle.stage_runs.specs.Parts.{AreLater as AreLaterNodes}
 use Rattle.stage_runs.proofs.Places.{mapped-at, map-at}
 use Rattle.stage_kinds.specs.Files.{chosen}
 use Rattle.stage_runs.proofs.Works.{writes-form, writer-row, wrote-is}
-use Rattle.stage_runs.specs.Ran.{HoldsAll, EndsAsStage, AreRanStages}
+use Rattle.stage_kinds.specs.Stages.{HoldsAll}
+use Rattle.stage_runs.specs.Ran.{EndsAsStage, AreRanStages}
 use Rattle.run_engine.specs.Outcomes.{device_op, point_fault, HasFirst, NoFault, node_count, AreCounted, IsOutcome}
-use Rattle.run_engine.specs.Turns.{WorksTell, AreLater, AreFinished, FailedAt, CameToEnd, AreDone, IsTurnsCause, IsUnfinished}
-use Rattle.run_engine.proofs.Lists.{length-mapped, same-lists, range-at}
+use Rattle.set_engine.specs.Evaluated.{AreTold, FailedAt, IsUnevaluated}
+use Rattle.run_engine.specs.Turns.{AreLater, AreFinished, CameToEnd, AreDone, IsUnfinished}
+use Rattle.run_engine.proofs.Lists.{length-mapped}
+use Rattle.set_engine.proofs.Lists.{same-lists, range-at}
 use Rattle.run_engine.proofs.Opening.{stage-is}
 
 no-point : (o : Option PointFault) → None ≡ option_map stage.Point o → o ≡ None
@@ -102,7 +105,7 @@ module _ {S K : Type 0} (s : source.Ghosts S) (k : sink.Ghosts K) (stages : List
   after : (i : ℕ) → i < length stages → (m : Node (StageWork S K)) × (slice_get new i ≡ Some m)
   after i lt = some_at new i (let a = lasted.count in let b = fresh.count in omega (arith, a, b, lt))
 
-  module _ (ran : AreRanStages s k stages old new) (opened : Opened) (tell : WorksTell s works opened) where
+  module _ (ran : AreRanStages s k stages old new) (opened : Opened) (tell : AreTold s works opened) where
     readers-tell : ReadersTell s old opened
     readers-tell i n r e w = tell i (work_of n) r (ap (λ xs. slice_get xs i) (sym is_works) ∙ map-at work_of old i n e) w
 
@@ -164,7 +167,7 @@ module _ {S K : Type 0} (s : source.Ghosts S) (k : sink.Ghosts K) (stages : List
         rose = later.cause (ap is_device is);
       }
 
-  pub turns-cause : AreRanStages s k stages old new → (r : Refusal) → IsOutcome new r → IsTurnsCause s (faults_of s.faults k.faults) stages works (map work_of new) r
+  pub turns-cause : AreRanStages s k stages old new → (r : Refusal) → IsOutcome new r → IsUnevaluated s (faults_of s.faults k.faults) stages works (map work_of new) r
   turns-cause ran (of.Device (at.Stage i) o) out = failed-at i o out
   turns-cause ran (of.Data i (fault.Point f)) out = λ opened tell.
       let none : (j : ℕ) (m : Node (StageWork S K)) → slice_get new j ≡ Some m → device_op m.fault ≡ None = λ j m e. out.0 j m (slice_get_within new j m e) e in
@@ -177,7 +180,6 @@ module _ {S K : Type 0} (s : source.Ghosts S) (k : sink.Ghosts K) (stages : List
   turns-cause ran (of.Data i (fault.Vlr f)) out = absurd out
   turns-cause ran (of.Pipeline f) out = absurd out
   turns-cause ran (of.Usage n) out = absurd out
-  turns-cause ran (of.NotBuilt n) out = absurd out
 
 -- works that stay
 pub same-later : {S K : Type 0} (faults : StageWork S K → ℕ) (old new : List (StageWork S K)) → new ≡ old → AreLater faults old new
@@ -230,4 +232,3 @@ module _ {S K : Type 0} (faults : StageWork S K → ℕ) (old now new : List (St
   unfinished-on of.Memory u = absurd u
   unfinished-on (of.Pipeline f) u = absurd u
   unfinished-on (of.Usage n) u = absurd u
-  unfinished-on (of.NotBuilt n) u = absurd u

@@ -13,14 +13,14 @@ use Rattle.stage_kinds.specs.Files.{IsFileForm}
 use Rattle.stage_kinds.specs.Held.{op_of}
 use Rattle.run_report.specs.declared.refusal.Refusal.{Refusal}
 use Rattle.run_report.specs.declared.refusal.Refusal.TheVariants.{Memory, Pipeline}
-use Rattle.stage_forms.specs.Below.{HaveReaders}
+use Rattle.stage_forms.specs.Below.{HaveReaders, Tells}
 use Rattle.stage_options.specs.Roles.{Role, Reads, Filters, Gathers, role_of, is_reading, is_writing}
 use Rattle.stage_options.specs.declared.options.Options.{Options}
 use Rattle.stage_options.specs.declared.stage.StageSpec.{StageSpec}
 use Rattle.answer_model.specs.Rows.{Setting}
 use Rattle.answer_model.specs.Values.{Opened, options_at, role_at, setting_at, unbound_at, least_from}
 use Rattle.answer_model.specs.Runs.{holds, unread}
-use Rattle.stage_runs.specs.Works.{IsAtStart, form_for, op_for, Tells}
+use Rattle.stage_runs.specs.Works.{IsAtStart, form_for, op_for}
 
 -- ---- readers
 

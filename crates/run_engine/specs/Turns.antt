@@ -1,5 +1,5 @@
 -- What turns, and the finishing of writers, make of the works of a tree's stages.
-use Rattle.std.specs.Prelude.{◌≡◌, ◌⊎◌, ℕ, ◌≤◌, true, List, length, slice_get, Option, Some, None, ⊤}
+use Rattle.std.specs.Prelude.{◌≡◌, ◌⊎◌, ℕ, ◌≤◌, true, List, length, slice_get, Option, Some, None}
 use Rattle.file_devices.specs.Counts.{Rose}
 use Rattle.file_devices.specs.Told.{IsAsTold}
 use Rattle.file_devices.specs.declared.devices.Op.{Op}
@@ -7,9 +7,7 @@ use Rattle.file_devices.specs.declared.devices.Op.TheVariants.{Write, Patch}
 use Rattle.file_devices.specs.declared.devices.Source as source
 use Rattle.cloud_points.specs.declared.point.Point.{Point}
 use Rattle.cloud_points.specs.Flows.{points}
-use Rattle.las_reader.specs.declared.reader.LasReader.{LasReader}
 use Rattle.stage_kinds.specs.declared.stage_work.StageWork.{StageWork}
-use Rattle.stage_kinds.specs.declared.stage_work.StageWork.TheVariants.{Reader}
 use Rattle.stage_kinds.specs.declared.file_form.StageForm.TheVariants.{Writes}
 use Rattle.stage_kinds.specs.declared.file_form.Writing.{Writing}
 use Rattle.stage_kinds.specs.Files.{chosen, file_bytes}
@@ -17,17 +15,13 @@ use Rattle.stage_kinds.specs.Held.{op_of, told_by}
 use Rattle.stage_options.specs.Roles.{is_writing}
 use Rattle.stage_options.specs.declared.stage.StageSpec.{StageSpec}
 use Rattle.run_report.specs.declared.report.StageCount.{StageCount}
-use Rattle.run_report.specs.declared.refusal.Fault.TheVariants as fault
 use Rattle.run_report.specs.declared.refusal.Place.TheVariants as at
 use Rattle.run_report.specs.declared.refusal.Refusal.{Refusal}
 use Rattle.run_report.specs.declared.refusal.Refusal.TheVariants as of
 use Rattle.answer_model.specs.Values.{Opened, options_at, role_at, row_at, setting_at, stage_input, written_at, least_fault, counts_of}
-use Rattle.stage_runs.specs.Ran.{HoldsAll}
-use Rattle.stage_runs.specs.Works.{form_for, Tells}
-
--- the readers' sources tell these files
-abbrev pub WorksTell : {S K : Type 0} → source.Ghosts S → List (StageWork S K) → Opened → Type 0
-WorksTell {S} {K} s works opened = (i : ℕ) (w : StageWork S K) (r : LasReader S) → slice_get works i ≡ Some w → w ≡ Reader r → Tells s opened i r
+use Rattle.stage_kinds.specs.Stages.{HoldsAll}
+use Rattle.set_engine.specs.Evaluated.{AreTold, IsUnevaluated}
+use Rattle.stage_runs.specs.Works.{form_for}
 
 -- the same works later: each holds the device that it held, whose count of faults didn't fall
 pub record AreLater {S K : Type 0} (faults : StageWork S K → ℕ) (old new : List (StageWork S K)) : Type 0 where
@@ -41,15 +35,6 @@ IsFinished bytes v w = (x : Writing) (ps : List Point) → HoldsAll bytes x ps v
 
 abbrev pub AreFinished : {S K : Type 0} → (K → Option (List ℕ)) → List (StageWork S K) → List (StageWork S K) → Type 0
 AreFinished {S} {K} bytes old new = (i : ℕ) (v w : StageWork S K) → slice_get old i ≡ Some v → slice_get new i ≡ Some w → IsFinished bytes v w
-
--- the device of the work at a place failed in this
-pub record FailedAt {S K : Type 0} (faults : StageWork S K → ℕ) (old new : List (StageWork S K)) (i : ℕ) (o : Op) : Type 0 where
-  pub before : StageWork S K
-  pub after : StageWork S K
-  pub was : slice_get old i ≡ Some before
-  pub is : slice_get new i ≡ Some after
-  pub does : op_of before ≡ Some o
-  pub rose : Rose (faults before) (faults after)
 
 -- the device of a writer failed in this as its file was finished
 pub record UnfinishedAt {S K : Type 0} (faults : StageWork S K → ℕ) (old new : List (StageWork S K)) (i : ℕ) (o : Op) : Type 0 where
@@ -75,13 +60,6 @@ pub record AreDone {S K : Type 0} (bytes : K → Option (List ℕ)) (stages : Li
   pub told : (i : ℕ) (w : StageWork S K) → slice_get works i ≡ Some w → is_writing (role_at stages i) ≡ true
       → IsAsTold (told_by bytes w) (Some ((row_at stages opened i).bytes (written_at stages opened i)))
 
--- why they didn't come to their end: memory was wanting, a device failed, or this is the fault of the least stage that has one
-abbrev pub IsTurnsCause : {S K : Type 0} → source.Ghosts S → (StageWork S K → ℕ) → List StageSpec → List (StageWork S K) → List (StageWork S K) → Refusal → Type 0
-IsTurnsCause s faults stages old new of.Memory = ⊤
-IsTurnsCause s faults stages old new (of.Data i (fault.Point f)) = (opened : Opened) → WorksTell s old opened → least_fault stages opened ≡ Some (i, f)
-IsTurnsCause s faults stages old new (of.Device (at.Stage i) o) = FailedAt faults old new i o
-IsTurnsCause s faults stages old new refusal = ⊥
-
 -- a writer couldn't finish, since its device failed
 abbrev pub IsUnfinished : {S K : Type 0} → (StageWork S K → ℕ) → List (StageWork S K) → List (StageWork S K) → Refusal → Type 0
 IsUnfinished faults old new (of.Device (at.Stage i) o) = UnfinishedAt faults old new i o
@@ -89,5 +67,5 @@ IsUnfinished faults old new refusal = ⊥
 
 -- why the stages didn't come to their end, or else a writer to the end of its file
 abbrev pub IsRunCause : {S K : Type 0} → source.Ghosts S → (StageWork S K → ℕ) → List StageSpec → List (StageWork S K) → List (StageWork S K) → Refusal → Type 0
-IsRunCause s faults stages old new refusal = IsTurnsCause s faults stages old new refusal
-    ⊎ (IsUnfinished faults old new refusal × ((opened : Opened) → WorksTell s old opened → least_fault stages opened ≡ None))
+IsRunCause s faults stages old new refusal = IsUnevaluated s faults stages old new refusal
+    ⊎ (IsUnfinished faults old new refusal × ((opened : Opened) → AreTold s old opened → least_fault stages opened ≡ None))

@@ -3,6 +3,8 @@
 
 mod begin;
 mod bind;
+mod engine;
+mod evaluate;
 mod finish;
 mod keep;
 mod nodes;
@@ -12,6 +14,8 @@ mod release;
 mod run;
 mod shape;
 mod turns;
+mod whole;
 
+pub use engine::Engine;
 pub use run::run_pipeline;
 pub use shape::Shape;

@@ -11,12 +11,12 @@ ghost use Rattle.run_engine.specs.Cause.{IsCause, IsRun, IsLeft};
 
 use crate::begin::begin_works;
 use crate::bind::bind_stages;
+use crate::engine::Engine;
+use crate::evaluate::evaluate;
 use crate::finish::Ran;
 use crate::keep::keep_works;
 use crate::open::open_readers;
 use crate::release::{give_back, release_works};
-use crate::shape::Shape;
-use crate::turns::take_turns;
 use file_devices::Files;
 use run_report::{Refusal, Report};
 use stage_options::StageSpec;
@@ -34,7 +34,7 @@ pub fn run_pipeline<F: Files>(
     alloc: Global,
     files: &mut F,
     stages: &[StageSpec],
-    shape: Shape,
+    engine: Engine,
 ) -> Result<Report, Refusal>
     requires tree { IsTree (shapes stages.now) }
     requires own { HaveOwnOptions stages.now }
@@ -61,7 +61,7 @@ pub fn run_pipeline<F: Files>(
         Ok(works) => works,
         Err(refusal) => return Err(refusal),
     };
-    let Ran { works, outcome } = take_turns(alloc, works, stages, shape);
+    let Ran { works, outcome } = evaluate(alloc, works, stages, engine);
     match outcome {
         Ok(report) => match keep_works(files, works, stages) {
             Ok(()) => Ok(report),

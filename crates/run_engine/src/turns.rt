@@ -7,9 +7,10 @@ ghost use Rattle.stage_options.specs.Kinds.{HaveOwnOptions};
 ghost use Rattle.stage_options.specs.Shapes.{shapes};
 ghost use Rattle.answer_model.specs.Values.{Opened};
 ghost use Rattle.stage_runs.specs.Works.{AreAtStart};
-ghost use Rattle.run_engine.specs.Turns.{WorksTell, AreLater, CameToEnd, AreDone, IsTurnsCause, IsRunCause};
+ghost use Rattle.run_engine.specs.Turns.{AreLater, CameToEnd};
+ghost use Rattle.set_engine.specs.Evaluated.{AreTold, IsUnevaluated};
 
-use crate::finish::{Ran, finish};
+use crate::finish::Ran;
 use crate::nodes::{nodes_over, works_in};
 use crate::outcome::outcome;
 use crate::shape::Shape;
@@ -22,7 +23,7 @@ use std::alloc::Global;
 
 /// Lets the stages of a tree take turns until all are done, part by part. It answers what each stage gave on, or the first stage whose device
 /// failed, or else the fault of the first stage that has one.
-fn turn_works<S: Source, K: FileSink>(
+pub(crate) fn turn_works<S: Source, K: FileSink>(
     alloc: Global,
     works: Vec<StageWork<S, K>>,
     stages: &[StageSpec],
@@ -34,9 +35,9 @@ fn turn_works<S: Source, K: FileSink>(
     requires starts { AreAtStart K.bytes stages.now works.items }
     requires count { length works.items ≡ length stages.now }
     ensures later { AreLater (faults_of S.faults K.faults) works.items result.works.items }
-    ensures ok { IfOk result.outcome (λ report. (opened : Opened) → WorksTell S.Source works.items opened
+    ensures ok { IfOk result.outcome (λ report. (opened : Opened) → AreTold S.Source works.items opened
         → CameToEnd K.bytes stages.now opened result.works.items report.items) }
-    ensures err { IfErr result.outcome (IsTurnsCause S.Source (faults_of S.faults K.faults) stages.now works.items result.works.items) }
+    ensures err { IfErr result.outcome (IsUnevaluated S.Source (faults_of S.faults K.faults) stages.now works.items result.works.items) }
 {
     let Ok(nodes) = Vec::with_capacity(alloc, stages.len()) else {
         let outcome = Err(Refusal::Memory);
@@ -61,44 +62,4 @@ fn turn_works<S: Source, K: FileSink>(
     };
     let works = works_in(nodes, room);
     Ran { works, outcome }
-}
-
-/// Lets the stages of a tree take turns until all are done; where the run came to its end, the writers finish. It answers what
-/// each stage gave on, or the first stage whose device failed in turns, or else the fault of the first stage that has one, or
-/// else the first writer that couldn't finish.
-pub(crate) fn take_turns<S: Source, K: FileSink>(
-    alloc: Global,
-    works: Vec<StageWork<S, K>>,
-    stages: &[StageSpec],
-    shape: Shape,
-) -> Ran<S, K, Report>
-    requires tree { IsTree (shapes stages.now) }
-    requires own { HaveOwnOptions stages.now }
-    requires few { length stages.now ≤ 64 }
-    requires starts { AreAtStart K.bytes stages.now works.items }
-    requires count { length works.items ≡ length stages.now }
-    ensures later { AreLater (faults_of S.faults K.faults) works.items result.works.items }
-    ensures ok { IfOk result.outcome (λ report. (opened : Opened) → WorksTell S.Source works.items opened
-        → AreDone K.bytes stages.now opened result.works.items report.items) }
-    ensures err { IfErr result.outcome (IsRunCause S.Source (faults_of S.faults K.faults) stages.now works.items result.works.items) }
-{
-    let Ran { works, outcome } = turn_works(alloc, works, stages, shape);
-    let report = match outcome {
-        Ok(report) => report,
-        Err(refusal) => {
-            let outcome = Err(refusal);
-            return Ran { works, outcome };
-        }
-    };
-    let Ran { works, outcome } = finish(works);
-    match outcome {
-        Ok(()) => {
-            let outcome = Ok(report);
-            Ran { works, outcome }
-        }
-        Err(refusal) => {
-            let outcome = Err(refusal);
-            Ran { works, outcome }
-        }
-    }
 }

@@ -18,7 +18,7 @@ use Rattle.run_report.specs.declared.refusal.Place.TheVariants.{PipelineFile, St
 use Rattle.run_report.specs.declared.refusal.Fault.{Fault}
 use Rattle.run_report.specs.declared.refusal.Fault.TheVariants.{Header, Vlr, Point}
 use Rattle.run_report.specs.declared.refusal.Refusal.{Refusal}
-use Rattle.run_report.specs.declared.refusal.Refusal.TheVariants.{Usage, Pipeline, Data, Device, Memory, NotBuilt}
+use Rattle.run_report.specs.declared.refusal.Refusal.TheVariants.{Usage, Pipeline, Data, Device, Memory}
 
 abbrev pub axis_text : Axis → List ℕ
 axis_text X = codes "X"
@@ -108,7 +108,6 @@ reason_text (Pipeline fault) = codes "pipeline: " ++ pipe_fault_text fault
 reason_text (Data i fault) = at_stage i (fault_text fault)
 reason_text (Device place op) = codes "device: " ++ place_text place ++ codes ": " ++ op_text op ++ codes " failed"
 reason_text Memory = codes "out of memory"
-reason_text (NotBuilt r) = codes "not built"
 
 -- the line that says why a command was refused
 abbrev pub fault_line : Refusal → List ℕ

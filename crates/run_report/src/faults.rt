@@ -315,7 +315,6 @@ fn refusal_line(refusal: &Refusal) -> Line<'_>
         Refusal::Data(stage, fault) => data_line(*stage, *fault),
         Refusal::Device(place, op) => device_line(*place, *op),
         Refusal::Memory => words_line("out of memory"),
-        Refusal::NotBuilt(_) => words_line("not built"),
     }
 }
 

@@ -52,7 +52,4 @@ pub enum Refusal {
 
     /// There was no memory.
     Memory,
-
-    /// What was asked isn't built yet: 1 the command, 4 a stage of the pipeline, or an option of it.
-    NotBuilt(u8),
 }

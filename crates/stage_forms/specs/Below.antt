@@ -3,6 +3,8 @@ use Rattle.std.specs.Prelude.{◌≡◌, ℕ, ◌<◌, All, List, [], ◌∷◌,
 use Rattle.cloud_points.specs.declared.dims.Dim.{Dim}
 use Rattle.cloud_points.specs.Layouts.{holds}
 use Rattle.forward_rules.specs.Forwarded.{ReadFile, read_file}
+use Rattle.file_devices.specs.declared.devices.Source as source
+use Rattle.las_reader.specs.Files.{las_with}
 use Rattle.las_reader.specs.declared.reader.LasReader.{LasReader}
 use Rattle.stage_options.specs.Roles.{is_reading}
 use Rattle.stage_options.specs.declared.stage.StageSpec.{StageSpec}
@@ -12,6 +14,12 @@ use Rattle.stage_forms.specs.declared.below.Below.{Below}
 -- the file of a reader, as a writer may take it over
 abbrev pub read_of : {S : Type 0} → LasReader S → ReadFile
 read_of r = read_file r.header r.vlrs r.evlrs
+
+-- a reader's source tells a file that holds this
+pub record Tells {S : Type 0} (s : source.Ghosts S) (opened : Opened) (i : ℕ) (r : LasReader S) : Type 0 where
+  pub file : List ℕ
+  pub told : s.bytes r.source ≡ Some file
+  pub holds : opened i ≡ record { read = read_of r; las = las_with r.header file }
 
 -- the same, where there is one
 abbrev pub read_in : {S : Type 0} → Option (LasReader S) → List ReadFile

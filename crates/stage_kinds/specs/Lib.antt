@@ -5,3 +5,4 @@ pub mod Gathers
 pub mod Held
 pub mod Reads
 pub mod Keeps
+pub mod Takes

@@ -1,5 +1,5 @@
 -- What the work of each stage means.
-use Rattle.std.specs.Prelude.{ℕ, ◌==◌, Bool, true, false, not, ◌&&◌, ◌||◌, List, length, Option, Some, None, is_some}
+use Rattle.std.specs.Prelude.{◌≡◌, ℕ, ◌==◌, Bool, true, false, not, ◌&&◌, ◌||◌, List, length, Option, Some, None, is_some}
 use Rattle.std.specs.List.{list_any}
 use Rattle.cloud_points.specs.declared.dims.Dim.{Dim}
 use Rattle.cloud_points.specs.declared.point.Point.{Point}
@@ -42,9 +42,13 @@ writing_filter x = By (writing_rule x) x.only
 abbrev pub writing_steps : Writes → Steps Spot Point StageFault
 writing_steps x = steps_of (writing_rule x) (passes x.only)
 
+-- why it stops at a point
+abbrev pub why_not : Writes → Point → Option Reason
+why_not x p = why (writing_rule x) (passes x.only) p
+
 -- it stops at this point
 abbrev pub stops_at : Writes → Point → Bool
-stops_at x p = is_some (why (writing_rule x) (passes x.only) p)
+stops_at x p = is_some (why_not x p)
 
 -- what the writer writes stands in its state, beside where its next point stands
 abbrev pub writing_meaning : Meaning (Writes × Spot) Point StageFault
@@ -137,6 +141,12 @@ module _ {S K : Type 0} where
   abbrev pub written_by : StageWork S K → Option ℕ
   written_by (Writer w) = Some w.written
   written_by _ = None
+
+-- a writer of this holds these points, and stops at none of them
+pub record HoldsAll {S K : Type 0} (bytes : K → Option (List ℕ)) (writing : Writes) (points : List Point) (w : StageWork S K) : Type 0 where
+  pub is : writing_of w ≡ Some writing
+  pub holds : holds_of bytes w points ≡ true
+  pub nowhere : stops_nowhere writing points ≡ true
 
 -- a work with one input, before its first mark
 abbrev pub fresh : StageState → Machine StageState StageFault

@@ -15,4 +15,4 @@ pub use file_writer::FileWriter;
 pub use held::Held;
 pub use laws::stages_stream;
 pub use stage_work::{StageState, StageWork};
-pub use writer_stage::WriterStage;
+pub use writer_stage::{TakeErr, WriterStage};

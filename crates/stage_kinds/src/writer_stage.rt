@@ -1,6 +1,6 @@
 //! A writer as a stage's work.
 
-ghost use Rattle.std.specs.Prelude.{◌≡◌, ◌≤◌, ◌++◌, List, [], Some, None, true, false, length, IfOk, IfErr, OnOk};
+ghost use Rattle.std.specs.Prelude.{◌≡◌, ◌≤◌, ◌++◌, ◌∷◌, List, [], Some, None, true, false, length, IfOk, IfErr, OnOk};
 ghost use Rattle.cloud_points.specs.Events.{is_device, IsOf};
 ghost use Rattle.cloud_points.specs.declared.point.Point as point_type;
 ghost use Rattle.file_devices.specs.Counts.{Rose};
@@ -8,12 +8,47 @@ ghost use Rattle.file_devices.specs.declared.devices.Op as op_type;
 ghost use Rattle.stage_meanings.specs.ByRule.{spot_anew};
 ghost use Rattle.stage_meanings.specs.Steps.{given, reached, stopped};
 ghost use Rattle.stage_kinds.specs.Files.{IsUnwritten, chosen, file_form, file_holds, first_unwritten, sink_of};
-ghost use Rattle.stage_kinds.specs.Stages.{holds_chosen, only_of, writes_of, writing_steps};
+ghost use Rattle.stage_kinds.specs.Stages.{holds_chosen, only_of, why_not, writes_of, writing_steps};
+ghost use Rattle.stage_kinds.specs.Takes.{IsUntaken, take_err_of};
+ghost use Rattle.stage_meanings.specs.Conditions.{passes};
 
 use crate::file_writer::{FileWriter, PutErr};
-use cloud_points::{Spread, StageFault};
+use cloud_points::{Point, Spread, StageFault};
+use expr_eval::holds;
 use file_devices::{FileSink, Op};
+use stage_meanings::Reason;
 use stream_filters::Written;
+
+/// Why a writer doesn't take a point.
+#[derive(Clone, Copy, Debug, PartialEq, Eq)]
+pub enum TakeErr {
+    /// Its `where` has no value for the point, or the point has no place in the file.
+    Refused(Reason),
+
+    /// The sink failed.
+    Failed,
+}
+
+impl From<Reason> for TakeErr {
+    ghost use Rattle.stage_kinds.specs.declared.writer_stage.TakeErr.TheVariants.{Refused};
+
+    ghost from_gives = { λ reason e. e ≡ Refused reason };
+
+    fn from(reason: Reason) -> TakeErr {
+        TakeErr::Refused(reason)
+    }
+}
+
+impl From<PutErr> for TakeErr {
+    ghost from_gives = { λ e mine. mine ≡ take_err_of e };
+
+    fn from(e: PutErr) -> TakeErr {
+        match e {
+            PutErr::Refused(_, reason) => TakeErr::Refused(reason),
+            PutErr::Failed => TakeErr::Failed,
+        }
+    }
+}
 
 /// Writes the points for which its `where` holds, counts them, and lets all points pass, up to the first at which that has no value
 /// or that has no place in the file.
@@ -50,6 +85,36 @@ impl<K: FileSink> WriterStage<K> {
                 Ok(self.chosen.len())
             }
         }
+    }
+
+    /// Whether it writes a point: whether its `where` holds.
+    fn chooses(&self, p: &Point) -> Result<bool, Reason>
+        ensures { result ≡ passes (only_of self.now) p.now }
+    {
+        match self.taken.only() {
+            None => Ok(true),
+            Some(condition) => Ok(holds(condition, p)?),
+        }
+    }
+
+    /// Takes one point: writes it, if its `where` holds, and counts it.
+    ///
+    /// It is `Refused` exactly where its `where` has no value for the point, or holds and the point has no place in the file. It is
+    /// `Failed` only where the sink failed.
+    pub fn take(&mut self, p: &Point) -> Result<(), TakeErr>
+        ensures form { writes_of self.new ≡ writes_of self.old }
+        ensures ok { OnOk result (why_not (writes_of self.old) p.now ≡ None) }
+        ensures err { IfErr result (IsUntaken (why_not (writes_of self.old) p.now)) }
+        ensures holds { OnOk result ((before : List point_type.Point)
+            → holds_chosen K.bytes self.old before ≡ true → holds_chosen K.bytes self.new (before ++ p.now ∷ []) ≡ true) }
+        ensures failed { IfErr result (λ e. e ≡ TakeErr.Failed → Rose (K.faults (sink_of self.old.file)) (K.faults (sink_of self.new.file))) }
+        ensures later { K.faults (sink_of self.old.file) ≤ K.faults (sink_of self.new.file) }
+    {
+        if self.chooses(p)? {
+            self.file.put(&[*p])?;
+            self.written = self.written.saturating_add(1);
+        }
+        Ok(())
     }
 
     /// Writes the points for which the `where` holds, and lets those pass that stand before the first at which it has no value. Where

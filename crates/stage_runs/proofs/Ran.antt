@@ -17,7 +17,7 @@ use Rattle.stage_kinds.specs.declared.file_form.StageForm.TheVariants.{Reads, Fi
 use Rattle.stage_kinds.specs.declared.file_form.Writing.{Writing}
 use Rattle.stage_kinds.specs.Files.{chosen}
 use Rattle.stage_kinds.specs.Held.{op_of}
-use Rattle.stage_kinds.specs.Stages.{is_leaf, holds_of, stops_nowhere, writes_of, writing_of, written_by}
+use Rattle.stage_kinds.specs.Stages.{HoldsAll, is_leaf, holds_of, stops_nowhere, writes_of, writing_of, written_by}
 use Rattle.stage_kinds.specs.Reads.{told_of, told_fault_of}
 use Rattle.stage_kinds.proofs.Streams.{written-count}
 use Rattle.view_works.specs.declared.collector.Collector.{Collector as Collecting}
@@ -36,7 +36,7 @@ use Rattle.answer_model.specs.Values.{LasFile, Opened, IsDown, options_at, role_
 use Rattle.answer_model.specs.Rows as rows
 use Rattle.answer_model.proofs.Values.{value-input}
 use Rattle.stage_runs.specs.Works.{HoldsNone, as_works, form_for, op_for, HaveRead, IsAtStart, AreNewStages, ReadersTell}
-use Rattle.stage_runs.specs.Ran.{HoldsAll, wrote_of, EndsAsStage}
+use Rattle.stage_runs.specs.Ran.{wrote_of, EndsAsStage}
 use Rattle.stage_runs.proofs.Kept.{writing-kept}
 use Rattle.stage_runs.proofs.Places.{mapped-at, map-at}
 use Rattle.stage_runs.proofs.Works.{IsLeaf, IsInner, leaf-is, inner-is, holds-nothing, IsRow, row-is, op-at-start, writing-at-start, collects-at-start, writer-row, nowhere-is}

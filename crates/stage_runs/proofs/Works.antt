@@ -39,7 +39,8 @@ use Rattle.answer_model.specs.Values.{LasFile, Opened}
 use Rattle.stage_runs.specs.Ran.{wrote_of}
 use Rattle.whole_filters.specs.declared.gathering.Gathering.{Gathering}
 use Rattle.view_works.specs.declared.collector.Collector.{Collector as Collecting}
-use Rattle.stage_runs.specs.Works.{HoldsNone, IsAtStart, IsStarted, form_for, op_for, Tells}
+use Rattle.stage_runs.specs.Works.{HoldsNone, IsAtStart, IsStarted, form_for, op_for}
+use Rattle.stage_forms.specs.Below.{Tells}
 
 -- a leaf is the work of a reader, and tells the flow and the fault of its file
 pub record IsLeaf {S K : Type 0} (s : source.Ghosts S) (o : Options) (las : LasPoints) (w : StageWork S K) : Type 0 where

@@ -11,7 +11,6 @@ use Rattle.expr_lang.specs.Formula.{Formula}
 use Rattle.whole_filters.specs.declared.gathering.Gathering.{Gathering}
 use Rattle.view_works.specs.declared.collector.Collector.{Collector as Collecting}
 use Rattle.forward_rules.specs.Forwarded.{form_of}
-use Rattle.las_reader.specs.Files.{las_with}
 use Rattle.las_reader.specs.declared.reader.LasReader.{LasReader}
 use Rattle.las_reader.specs.declared.reader.Progress.TheVariants.{Records}
 use Rattle.stage_kinds.specs.declared.file_form.FileForm.{FileForm}
@@ -43,7 +42,7 @@ use Rattle.stage_options.specs.declared.stage.StageSpec.{StageSpec}
 use Rattle.network_theory.specs.Opening.{IsFresh}
 use Rattle.network_core.specs.declared.node.Node.{Node}
 use Rattle.network_core.specs.Shown.{shown, work_of}
-use Rattle.stage_forms.specs.Below.{read_of}
+use Rattle.stage_forms.specs.Below.{Tells, read_of}
 use Rattle.answer_model.specs.Forms.{text_form}
 use Rattle.answer_model.specs.Rows.{Setting}
 use Rattle.answer_model.specs.Values.{Opened, stage_at, options_at, setting_at}
@@ -157,12 +156,6 @@ pub record AreNewStages {S K : Type 0} (s : source.Ghosts S) (k : sink.Ghosts K)
   pub fresh : (i : ℕ) (n : Node (StageWork S K)) → slice_get nodes i ≡ Some n → IsFresh (shown (as_works s k) ((stage_at stages i).ins) n)
   pub works : AreAtStart k.bytes stages (map work_of nodes)
 
--- a reader's source tells a file that holds this
-pub record Tells {S : Type 0} (s : source.Ghosts S) (opened : Opened) (i : ℕ) (r : LasReader S) : Type 0 where
-  pub file : List ℕ
-  pub told : s.bytes r.source ≡ Some file
-  pub holds : opened i ≡ record { read = read_of r; las = las_with r.header file }
-
--- so do all
+-- the sources of all readers tell their files
 abbrev pub ReadersTell : {S K : Type 0} → source.Ghosts S → List (Node (StageWork S K)) → Opened → Type 0
 ReadersTell {S} {K} s nodes opened = (i : ℕ) (n : Node (StageWork S K)) (r : LasReader S) → slice_get nodes i ≡ Some n → work_of n ≡ Reader r → Tells s opened i r

@@ -30,6 +30,18 @@ impl<R> PointFilter<R> {
             spot: Spot::first(),
         }
     }
+
+    /// The rule and the `where`, with the filter ended.
+    pub fn into_parts(self) -> (R, Option<Bound>)
+        ensures { (result.0 ≡ self.rule) × (result.1 ≡ self.only) }
+    {
+        let PointFilter {
+            rule,
+            only,
+            spot: _,
+        } = self;
+        (rule, only)
+    }
 }
 
 impl<R: PointRule> PointFilter<R> {

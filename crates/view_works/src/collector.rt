@@ -72,6 +72,13 @@ impl Collector {
         }
     }
 
+    /// What the stage makes of whole views.
+    pub fn gathering(&self) -> Gathering
+        ensures { result ≡ self.now.gathering }
+    {
+        self.gathering
+    }
+
     /// Whether memory was wanting.
     pub fn is_short(&self) -> bool
         ensures { result ≡ self.now.short }

@@ -28,7 +28,7 @@ use Rattle.file_devices.specs.Named.{Names}
 use Rattle.file_devices.specs.declared.devices.Op.TheVariants.{Open}
 use Rattle.run_report.specs.declared.refusal.Place.TheVariants.{Stage}
 use Rattle.run_report.specs.declared.refusal.Refusal.{Refusal}
-use Rattle.run_report.specs.declared.refusal.Refusal.TheVariants.{Device, Pipeline, NotBuilt}
+use Rattle.run_report.specs.declared.refusal.Refusal.TheVariants.{Device, Pipeline}
 use Rattle.stage_names.specs.declared.faults.PipeFault.TheVariants.{Empty, NotJson, NotAPipeline, CannotInfer, NoInput, TagTwice, TagUnknown, UsedTwice, OptionValue, OptionUnknown, SameOutput}
 use Rattle.stage_options.specs.declared.stage.StageSpec.{StageSpec}
 use Rattle.answer_model.specs.Steps.{and_then}
@@ -42,7 +42,7 @@ use Rattle.answer_model.specs.Runs.{Run, las_file_of, las_read, file_or, no_file
 use Rattle.command_words.specs.Machine.{command_of}
 use Rattle.stage_planner.specs.Plans.{end_of, plan_of}
 use Rattle.lasline_top.specs.Texts.{plan_text}
-use Rattle.lasline_top.specs.Words.{Run_file, Plan_file, Make_file, task_of}
+use Rattle.lasline_top.specs.Words.{Queues, Run_file, Plan_file, Make_file, task_of}
 use Rattle.lasline_top.specs.Answer.{stages_in, ran, planned, printed, made, trial_text, done, answer}
 use Rattle.worked_examples.specs.Rows.{run_p, files, files_with, pipeline_alone, pipeline_text, head_of_1, head_of_0, tagged_head, reader_alone, writer_between, file_a, file_of_format_6, file_of_a_vlr, file_of_many_vlrs, file_of_a_far_evlr, file_compressed, file_of_neighbour, file_far, file_with_x, file_without_points, first_point, none_pass, only_read, all_and_first, twice, second_absent, two_points_twice}
 
@@ -227,7 +227,7 @@ unfolding header_of format_in
 no_bytes = refl
 
 -- the words of the example ask for the run of its pipeline's file
-asked : task_of run_p ≡ Ok (Run_file (codes "p.json") 64 8)
+asked : task_of run_p ≡ Ok (Run_file (codes "p.json") (Queues 64 8))
 unfolding command_of
 asked = refl
 

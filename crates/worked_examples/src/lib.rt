@@ -87,8 +87,7 @@ pub fn pipelines_are_refused()
     ensures another_order { answer run_p (files_with (codes "[\"in.las\",{\"type\":\"filters.sort\",\"dimension\":\"Z\",\"order\":\"up\"},\"o.txt\"]") file_a) ≡ Err (Refusal.Pipeline (PipeFault.OptionValue 1 (codes "order"))) }
 {}
 
-/// Words that are no command are refused for the first one that is wrong or missing, whatever files there are, and an engine on whole
-/// lists isn't built.
+/// Words that are no command are refused for the first one that is wrong or missing, whatever files there are.
 #[tactic(auto, unfolding(command_words::specs::Machine::command_of))]
 pub fn words_are_refused()
     ensures none { (m : Names) → answer [] m ≡ Err (Refusal.Usage 0) }
@@ -98,7 +97,14 @@ pub fn words_are_refused()
     ensures chunk_of_none { (m : Names) → answer (codes "run" ∷ codes "p.json" ∷ codes "--chunk" ∷ codes "0" ∷ []) m ≡ Err (Refusal.Usage 3) }
     ensures an_option_twice { (m : Names) → answer (codes "run" ∷ codes "p.json" ∷ codes "--chunk" ∷ codes "4" ∷ codes "--chunk" ∷ codes "4" ∷ []) m ≡ Err (Refusal.Usage 4) }
     ensures a_plan_with_an_option { (m : Names) → answer (codes "plan" ∷ codes "p.json" ∷ codes "--whole" ∷ []) m ≡ Err (Refusal.Usage 2) }
-    ensures a_whole_run { (m : Names) → answer (codes "run" ∷ codes "p.json" ∷ codes "--whole" ∷ []) m ≡ Err (Refusal.NotBuilt 1) }
+{}
+
+/// A run on whole lists answers what one over queues does, and so does one over queues of another size.
+#[tactic(auto, unfolding(command_words::specs::Machine::command_of))]
+pub fn engines_answer_alike()
+    ensures whole { (m : Names) → answer (codes "run" ∷ codes "p.json" ∷ codes "--whole" ∷ []) m ≡ answer run_p m }
+    ensures short { (m : Names) → answer (codes "run" ∷ codes "p.json" ∷ codes "--queue" ∷ codes "1" ∷ []) m ≡ answer run_p m }
+    ensures trial { (m : Names) → answer (codes "trial" ∷ codes "9" ∷ codes "--whole" ∷ []) m ≡ answer (codes "trial" ∷ codes "9" ∷ []) m }
 {}
 
 /// A page is printed, and nothing is kept.

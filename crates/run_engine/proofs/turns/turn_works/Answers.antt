@@ -1,4 +1,4 @@
-use Rattle.std.proofs.Common.{◌≡◌, List, map, length, Err, IfErr, ap, sym, subst, ◌∙◌, arith}
+use Rattle.std.proofs.Common.{List, map, length, Err, IfErr, ap, sym, subst, ◌∙◌, arith}
 use Rattle.network_core.specs.declared.node.Node.{Node}
 use Rattle.network_core.specs.Shown.{work_of}
 use Rattle.stage_kinds.specs.Held.{faults_of}
@@ -7,7 +7,8 @@ use Rattle.stage_runs.specs.Ran.{AreRanStages}
 use Rattle.stage_runs.proofs.Lending.{slice-back}
 use Rattle.run_report.specs.declared.refusal.Refusal.TheVariants.{Memory}
 use Rattle.run_engine.specs.Outcomes.{NoFault, AreCounted, IsOutcome}
-use Rattle.run_engine.specs.Turns.{AreLater, CameToEnd, IsTurnsCause}
+use Rattle.set_engine.specs.Evaluated.{IsUnevaluated}
+use Rattle.run_engine.specs.Turns.{AreLater, CameToEnd}
 use Rattle.run_engine.proofs.Results.{if-ok3, if-err, ok-same}
 use Rattle.run_engine.proofs.Ran.{later, came, turns-cause, no-fault-device}
 use Rattle.run_engine.proofs.turns.turn_works.Goals.{in-Ok-ran, in-Err}
@@ -64,12 +65,12 @@ returns-clause-err g c =
     let lasted = subst (λ xs. AreLaterNodes s k xs new) c.as_mut_slice.ensures.value c.run_stages-ran.ensures.later in
     let back = slice-back old new c.nodes_over-nodes.result.len lasted.count c.nodes_over-nodes.result.ok.0 in
     let is-works = c.works_in-works.ensures ∙ ap (map work_of) back in
-    let P = IsTurnsCause s (faults_of s.faults k.faults) stages works c.works_in-works.result.items in
+    let P = IsUnevaluated s (faults_of s.faults k.faults) stages works c.works_in-works.result.items in
     elim c.match-ran.branch [
       | in-Ok-ran w ↦ (
           let ran = subst (λ xs. AreRanStages s k stages xs new) c.as_mut_slice.ensures.value w.in-Ok-ran.ensures.ran in
           subst (λ o. IfErr o P) (sym w.outcome-is) (if-err w.outcome-outcome.result w.outcome-outcome.ensures.err (λ refusal out.
-          subst (λ ws. IsTurnsCause s (faults_of s.faults k.faults) stages works ws refusal) (sym is-works)
+          subst (λ ws. IsUnevaluated s (faults_of s.faults k.faults) stages works ws refusal) (sym is-works)
           (turns-cause s k stages old new works made.works made.new lasted ran refusal (subst (λ (ns : List (Node _)). IsOutcome ns refusal) (w.deref.ensures.value ∙ back) out)))))
       | in-Err w ↦ subst (λ o. IfErr o P) (sym w.outcome-is) tt
     ]

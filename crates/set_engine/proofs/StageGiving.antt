@@ -1,0 +1,188 @@
+-- What a stage gives on.
+use Rattle.std.proofs.Common.{◌≡◌, ℕ, ◌+◌, Bool, true, false, List, [], ◌∷◌, ◌++◌, map, length, filter, Option, Some, None, Result, Ok, Err, refl, ap, sym, ◌∙◌, true≢false, append_assoc}
+use Rattle.std.specs.Prelude.{option_map, IfErr, IfOk, OnOk, if◌then◌else◌}
+use Rattle.std.specs.List.{cons_option}
+use Rattle.answer_model.specs.Rows.{Row, Judging, made, stop}
+use Rattle.answer_model.specs.Values.{value_of}
+use Rattle.cloud_points.specs.Flows.{Flow, all_of, points}
+use Rattle.cloud_points.specs.Marks.{flow_of, flow_marks}
+use Rattle.cloud_points.specs.Queue.{up_to_limit}
+use Rattle.cloud_points.specs.declared.faults.PointFault.{PointFault}
+use Rattle.cloud_points.specs.declared.faults.StageFault.TheVariants as stage
+use Rattle.cloud_points.specs.declared.point.Point.{Point}
+use Rattle.cloud_points.proofs.FlowLaws.{flow_of-flow_marks}
+use Rattle.file_devices.specs.declared.devices.Op.{Op}
+use Rattle.las_reader.specs.Files.{Las, las_with}
+use Rattle.las_reader.specs.Flows.{las_flow, las_fault}
+use Rattle.stage_kinds.specs.Reads.{tells_of, told_of, told_fault_of}
+use Rattle.stage_kinds.specs.Stages.{holds_chosen, is_leaf, only_of, stops_nowhere, why_not, writes_of, writing_filter, writing_of, written_by, writing_rule}
+use Rattle.stage_kinds.specs.Files.{chosen}
+use Rattle.stage_kinds.specs.declared.file_form.Writing.{Writing}
+use Rattle.stage_kinds.specs.declared.stage_work.StageWork.{StageWork}
+use Rattle.stage_kinds.specs.declared.stage_work.StageWork.TheVariants.{Reader, Filter, Collector, Views, Writer}
+use Rattle.stage_kinds.specs.declared.writer_stage.WriterStage.{WriterStage}
+use Rattle.stage_kinds.proofs.Streams.{sound_nowhere, written-count}
+use Rattle.stage_kinds.proofs.Telling.{reader_starts}
+use Rattle.stage_meanings.specs.Filtering.{filtered, filtered_stop}
+use Rattle.stage_meanings.specs.Conditions.{passes}
+use Rattle.stage_meanings.specs.Filters.{◌>>=◌, first_from, found, at_point, or_nothing, on_view, reason_of, stop_of, before_stop}
+use Rattle.stage_meanings.specs.Rules.{unless_against}
+use Rattle.stage_meanings.specs.declared.reason.Reason.{Reason}
+use Rattle.stage_kinds.specs.Files.{unwritten}
+use Rattle.stage_options.specs.Roles.{Role, target_of}
+use Rattle.set_engine.specs.Fits.{IsFor, IsWriting, HasFile}
+use Rattle.set_engine.specs.Given.{IsGiven, IsUngivenBy, fault_of}
+use Rattle.set_engine.specs.Stops.{HasFailed, IsUngiven}
+use Rattle.set_engine.specs.declared.stop.Stop.{Stop}
+use Rattle.set_engine.specs.declared.stop.Stop.TheVariants.{Fault, Failed, Memory}
+
+-- who has no device doesn't stop for one
+pub no-device : {A : Type 0} (op : Option Op) (rose : Type 0) (r : Result A Stop) → IfErr r (HasFailed None ⊥) → IfErr r (HasFailed op rose)
+no-device op rose (Ok a) h = h
+no-device op rose (Err (Failed o)) h = absurd h.1
+no-device op rose (Err (Fault f)) h = tt
+no-device op rose (Err Memory) h = tt
+
+-- ---- writers
+
+-- a point that a writer takes goes on as it is
+goes-on : (x : Writing) (p : Point) → why_not x p ≡ None → at_point (writing_rule x) (passes x.only) p ≡ Ok (Some p)
+goes-on x p e = go (passes x.only p) (unwritten x.form p) e
+  where
+    go : (r : Result Bool Reason) (o : Option Reason) → reason_of (r >>= λ b. if b then unless_against o p else Ok (Some p)) ≡ None → (r >>= λ b. if b then unless_against o p else Ok (Some p)) ≡ Ok (Some p)
+    go (Ok true) None e = refl
+    go (Ok true) (Some q) e = absurd cc
+    go (Ok false) o e = refl
+    go (Err q) o e = absurd cc
+
+view-goes-on : (x : Writing) (n : ℕ) (view : List Point) → first_from (why_not x) n view ≡ None → on_view (writing_rule x) (passes x.only) view ≡ view
+view-goes-on x n [] e = refl
+view-goes-on x n (p ∷ view) e = go (why_not x p) refl (view-goes-on x (n + 1) view) e
+  where
+    go : (o : Option Reason) → why_not x p ≡ o → (first_from (why_not x) (n + 1) view ≡ None → on_view (writing_rule x) (passes x.only) view ≡ view) → found n o (first_from (why_not x) (n + 1) view) ≡ None
+        → cons_option (or_nothing (at_point (writing_rule x) (passes x.only) p)) (on_view (writing_rule x) (passes x.only) view) ≡ p ∷ view
+    go None is later e = ap (λ r. cons_option (or_nothing r) (on_view (writing_rule x) (passes x.only) view)) (goes-on x p is) ∙ ap (λ ps. p ∷ ps) (later e)
+    go (Some r) is later e = absurd cc
+
+-- of points in which there is nothing, there is nothing in the first and the last
+module _ {P R : Type 0} (f : P → Option R) where
+  nothing-first : (n : ℕ) (a b : List P) → first_from f n (a ++ b) ≡ None → first_from f n a ≡ None
+  nothing-first n [] b e = refl
+  nothing-first n (p ∷ a) b e = go (f p) e (nothing-first (n + 1) a b)
+    where
+      go : (o : Option R) → found n o (first_from f (n + 1) (a ++ b)) ≡ None → (first_from f (n + 1) (a ++ b) ≡ None → first_from f (n + 1) a ≡ None) → found n o (first_from f (n + 1) a) ≡ None
+      go None e later = later e
+      go (Some r) e later = absurd cc
+
+  nothing-last : (n : ℕ) (a b : List P) → first_from f n (a ++ b) ≡ None → (m : ℕ) × (first_from f m b ≡ None)
+  nothing-last n [] b e = (n, e)
+  nothing-last n (p ∷ a) b e = go (f p) e (nothing-last (n + 1) a b)
+    where
+      go : (o : Option R) → found n o (first_from f (n + 1) (a ++ b)) ≡ None → (first_from f (n + 1) (a ++ b) ≡ None → (m : ℕ) × (first_from f m b ≡ None)) → (m : ℕ) × (first_from f m b ≡ None)
+      go None e later = later e
+      go (Some r) e later = absurd cc
+
+views-go-on : (x : Writing) (n : ℕ) (views : List (List Point)) (last : List Point) → first_from (why_not x) n (all_of views ++ last) ≡ None
+    → (map (on_view (writing_rule x) (passes x.only)) views ≡ views) × (on_view (writing_rule x) (passes x.only) last ≡ last)
+views-go-on x n [] last e = (refl, view-goes-on x n last e)
+views-go-on x n (v ∷ views) last e =
+    let joined : first_from (why_not x) n (v ++ (all_of views ++ last)) ≡ None = ap (first_from (why_not x) n) (sym (append_assoc v (all_of views) last)) ∙ e in
+    let first = view-goes-on x n v (nothing-first (why_not x) n v (all_of views ++ last) joined) in
+    let later = nothing-last (why_not x) n v (all_of views ++ last) joined in
+    let rest = views-go-on x later.0 views last later.1 in
+    (ap (λ w. w ∷ map (on_view (writing_rule x) (passes x.only)) views) first ∙ ap (λ vs. v ∷ vs) rest.0, rest.1)
+
+no_stop : {A B : Type 0} (f : A → B) (o : Option A) → option_map f o ≡ None → o ≡ None
+no_stop f None e = refl
+no_stop f (Some s) e = absurd cc
+
+-- a writer that stops nowhere gives on what it takes
+flow-goes-on : (x : Writing) (flow : Flow Point) → filtered_stop (writing_filter x) flow ≡ None → filtered (writing_filter x) flow ≡ flow
+flow-goes-on x flow e =
+    let none : first_from (why_not x) 0 (points flow) ≡ None = no_stop _ (stop_of (writing_rule x) (passes x.only) flow) e in
+    let same = views-go-on x 0 flow.views flow.open_view none in
+    ap (λ o. record { views = map (on_view (writing_rule x) (passes x.only)) (before_stop o flow).views; open_view = on_view (writing_rule x) (passes x.only) (before_stop o flow).open_view; cut = (before_stop o flow).cut }) none
+    ∙ ap (λ vs. record { views = vs; open_view = on_view (writing_rule x) (passes x.only) flow.open_view; cut = flow.cut }) same.0
+    ∙ ap (λ ps. record { views = flow.views; open_view = ps; cut = flow.cut }) same.1
+
+pub writer-given : {S K : Type 0} (bytes : K → Option (List ℕ)) (role : Role) (row : Row) (las : Las) (taken : Flow Point) (v w : WriterStage K) → IsWriting bytes role row v → writes_of w ≡ writes_of v
+    → filtered_stop (writing_filter (writes_of v)) taken ≡ None → (holds_chosen bytes v [] ≡ true → holds_chosen bytes w (points taken) ≡ true) → IsGiven {S = S} bytes role row las taken (Writer w) taken
+writer-given bytes role row las taken v w start same sound holds =
+    let x = writes_of v in
+    let judged : (m : _) → m ≡ row.making → m ≡ Judging (writing_filter x) = λ m e. e ∙ start.judges in
+    let held = holds start.holds in
+    let nowhere : stops_nowhere x (points taken) ≡ true = sound_nowhere x taken sound in
+    let only : only_of w ≡ only_of v = ap (λ (y : Writing). y.only) same in
+    record {
+      value = sym (ap (λ r. value_of r row las taken) start.does ∙ ap (λ m. made m taken) start.judges ∙ flow-goes-on x taken sound);
+      sound = ap (λ r. fault_of r row las taken) start.does ∙ ap (λ m. stop m taken) start.judges ∙ sound;
+      wrote = ap Some (written-count w bytes (points taken) held (ap (λ y. stops_nowhere y (points taken)) same ∙ nowhere)
+          ∙ ap (λ o. up_to_limit (length (chosen o (points taken)))) only ∙ ap (λ ps. up_to_limit (length ps)) (start.chooses (points taken)))
+          ∙ ap (λ r. option_map (λ (name : List ℕ). up_to_limit (length (filter (row.writes) (points taken)))) (target_of r)) (sym start.does);
+      held = λ y is. record { is = is; holds = held; nowhere = (let z : writes_of w ≡ y = cc in ap (λ u. stops_nowhere u (points taken)) (sym z ∙ same) ∙ nowhere) };
+    }
+
+-- ---- readers
+
+no-point : (o : Option PointFault) → option_map stage.Point o ≡ None → o ≡ None
+no-point None e = refl
+no-point (Some f) e = absurd cc
+
+the-point : (o : Option PointFault) (f : PointFault) → option_map stage.Point o ≡ Some (stage.Point f) → o ≡ Some f
+the-point None f e = absurd cc
+the-point (Some g) f e = let same : g ≡ f = cc in ap Some same
+
+-- a leaf writes nothing
+leaf-writes : {S K : Type 0} (w : StageWork S K) → is_leaf w ≡ true → (writing_of w ≡ None) × (written_by w ≡ None)
+leaf-writes (Reader r) e = (refl, refl)
+leaf-writes (Filter f) e = absurd (true≢false (sym e))
+leaf-writes (Collector c) e = absurd (true≢false (sym e))
+leaf-writes (Views h) e = (refl, refl)
+leaf-writes (Writer w) e = absurd (true≢false (sym e))
+
+pub leaf-writing : {S K : Type 0} (v w : StageWork S K) → is_leaf v ≡ true → is_leaf w ≡ true → writing_of w ≡ writing_of v
+leaf-writing v w a b = (leaf-writes w b).0 ∙ sym ((leaf-writes v a).0)
+
+module _ {S K : Type 0} (sources : S → Option (List ℕ)) (sinks : K → Option (List ℕ)) (role : Role) (row : Row) (las : Las) (taken : Flow Point) where
+  leaf-given : (v w : StageWork S K) (given : Flow Point) → IsFor sinks role row v → HasFile sources las v → is_leaf v ≡ true → is_leaf w ≡ true
+      → (tells_of sources v ≡ true → told_of sources v ≡ flow_marks given) → (tells_of sources v ≡ true → told_fault_of sources v ≡ None) → IsGiven sinks role row las taken w given
+  leaf-given (Reader r) w given start file a b gives sound =
+      let t = file r refl in
+      let f = reader_starts {K = K} sources r t.file start.start t.told in
+      let writes = leaf-writes w b in
+      record {
+        value = sym (flow_of-flow_marks given) ∙ ap flow_of (sym (gives f.tells) ∙ f.told) ∙ flow_of-flow_marks (las_flow (las_with r.header t.file)) ∙ ap las_flow (sym t.holds)
+            ∙ ap (λ r. value_of r row las taken) (sym start.does);
+        sound = ap (λ r. fault_of r row las taken) start.does ∙ ap las_fault t.holds ∙ no-point (las_fault (las_with r.header t.file)) (sym f.fault ∙ sound f.tells);
+        wrote = writes.1 ∙ ap (λ r. option_map (λ (name : List ℕ). up_to_limit (length (filter (row.writes) (points taken)))) (target_of r)) (sym start.does);
+        held = λ x is. absurd (let none = sym (writes.0) ∙ is in cc);
+      }
+  leaf-given (Filter f) w given start file a b gives sound = absurd (true≢false (sym a))
+  leaf-given (Collector c) w given start file a b gives sound = absurd (true≢false (sym a))
+  leaf-given (Views h) w given start file a b gives sound = absurd start
+  leaf-given (Writer x) w given start file a b gives sound = absurd (true≢false (sym a))
+
+  leaf-ungiven : (v : StageWork S K) (s : Stop) → IsFor sinks role row v → HasFile sources las v → is_leaf v ≡ true → (tells_of sources v ≡ true → IsUngiven (told_fault_of sources v) s) → IsUngivenBy role row las taken s
+  leaf-ungiven (Reader r) (Fault f) start file a ungiven =
+      let t = file r refl in
+      let told = reader_starts {K = K} sources r t.file start.start t.told in
+      ap (λ r. fault_of r row las taken) start.does ∙ ap las_fault t.holds ∙ the-point (las_fault (las_with r.header t.file)) f (sym told.fault ∙ ungiven told.tells)
+  leaf-ungiven v (Failed o) start file a ungiven = tt
+  leaf-ungiven v Memory start file a ungiven = tt
+  leaf-ungiven (Filter g) (Fault f) start file a ungiven = absurd (true≢false (sym a))
+  leaf-ungiven (Collector c) (Fault f) start file a ungiven = absurd (true≢false (sym a))
+  leaf-ungiven (Views h) (Fault f) start file a ungiven = absurd start
+  leaf-ungiven (Writer x) (Fault f) start file a ungiven = absurd (true≢false (sym a))
+
+-- so it is with what it gave, and where it stopped
+module _ {S K : Type 0} (sources : S → Option (List ℕ)) (sinks : K → Option (List ℕ)) (taken : Flow Point) where
+  pub leaf-gave : (v w : StageWork S K) (r : Result (Flow Point) Stop) → is_leaf v ≡ true → is_leaf w ≡ true → IfOk r (λ views. tells_of sources v ≡ true → told_of sources v ≡ flow_marks views)
+      → OnOk r (tells_of sources v ≡ true → told_fault_of sources v ≡ None)
+      → IfOk r (λ given. (role : Role) (row : Row) (las : Las) → IsFor sinks role row v → HasFile sources las v → IsGiven sinks role row las taken w given)
+  leaf-gave v w (Ok given) a b gives sound = λ role row las start file. leaf-given sources sinks role row las taken v w given start file a b gives sound
+  leaf-gave v w (Err s) a b gives sound = tt
+
+  pub leaf-stopped : (v : StageWork S K) (r : Result (Flow Point) Stop) → is_leaf v ≡ true → IfErr r (λ s. tells_of sources v ≡ true → IsUngiven (told_fault_of sources v) s)
+      → IfErr r (λ s. (role : Role) (row : Row) (las : Las) → IsFor sinks role row v → HasFile sources las v → IsUngivenBy role row las taken s)
+  leaf-stopped v (Ok given) a ungiven = tt
+  leaf-stopped v (Err s) a ungiven = λ role row las start file. leaf-ungiven sources sinks role row las taken v s start file a ungiven

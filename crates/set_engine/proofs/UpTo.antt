@@ -1,0 +1,210 @@
+-- The stages of a tree that were evaluated so far.
+use Rattle.std.proofs.Common.{◌≡◌, ℕ, zero, suc, ◌+◌, ◌<◌, ◌≤◌, Bool, true, false, ◌||◌, List, [], ◌∷◌, ◌++◌, length, map, take, Option, Some, None, refl, ap, sym, subst, ◌∙◌, arith, add-one, inl, inr, All, filter, length-append}
+use Rattle.std.specs.Prelude.{◌==◌, option_map, slice_get, slice_index_or}
+use Rattle.std.proofs.lemmas.Bool.Decides.{eqb_tells}
+use Rattle.std.proofs.lemmas.List.FromFn.{length-map-range_with_len}
+use Rattle.std.proofs.lemmas.Option.{get_or_from_slice_get, slice_get_within}
+use Rattle.answer_model.specs.Values.{Opened, IsDown, stage_at, role_at, row_at, stage_value, stage_input, stage_fault, count_at, counts_of, least_fault, value_of}
+use Rattle.answer_model.proofs.Least.{least-at, least-nowhere}
+use Rattle.answer_model.proofs.Values.{has-own, has-later, map-same, tree-down, value-input}
+use Rattle.cloud_points.specs.Flows.{Flow, empty_flow, join_all, points}
+use Rattle.cloud_points.specs.Queue.{up_to_limit}
+use Rattle.cloud_points.specs.declared.faults.PointFault.{PointFault}
+use Rattle.cloud_points.specs.declared.point.Point.{Point}
+use Rattle.pipeline_json.specs.Lists.{has, times}
+use Rattle.pipeline_json.specs.Stages.{taken}
+use Rattle.pipeline_json.specs.Trees.{IsTree}
+use Rattle.pipeline_json.proofs.Taken.{times-append, present}
+use Rattle.run_report.specs.declared.report.StageCount.{StageCount}
+use Rattle.stage_kinds.specs.Stages.{HoldsAll, writing_of, written_by}
+use Rattle.stage_kinds.specs.declared.file_form.Writing.{Writing}
+use Rattle.stage_kinds.specs.declared.stage_work.StageWork.{StageWork}
+use Rattle.stage_options.specs.Roles.{target_of}
+use Rattle.stage_options.specs.Shapes.{shapes}
+use Rattle.stage_options.specs.declared.stage.StageSpec.{StageSpec}
+use Rattle.set_engine.specs.Evaluated.{AreEvaluated}
+use Rattle.set_engine.specs.Given.{IsGiven, count_for, fault_of}
+use Rattle.set_engine.specs.Taking.{value_in}
+use Rattle.set_engine.proofs.Joined.{none-has}
+use Rattle.set_engine.proofs.Lists.{some-at, in-front, at-last, same-lists, range-at}
+
+-- ---- what stages take
+
+-- the stages that the first so many take
+abbrev pub taken_by : List StageSpec → ℕ → List ℕ
+taken_by stages i = taken (shapes (take i stages))
+
+pub length-shapes : (stages : List StageSpec) → length (shapes stages) ≡ length stages
+length-shapes [] = refl
+length-shapes (s ∷ stages) = let r = length-shapes stages in omega (arith, r)
+
+-- where stage i stands, the places that it takes, those taken before, and those taken behind it are all that are taken
+taken-split : (stages : List StageSpec) (i j : ℕ) → i < length stages → (rest : ℕ) × (times j (taken (shapes stages)) ≡ times j (taken_by stages i) + times j ((stage_at stages i).ins) + rest)
+taken-split [] i j lt = absurd (omega (arith, lt))
+taken-split (s ∷ stages) zero j lt = (times j (taken (shapes stages)), let a = times-append j s.ins (taken (shapes stages)) in omega (arith, a))
+taken-split (s ∷ stages) (suc i) j lt =
+    let later = taken-split stages i j (omega (arith, lt)) in
+    let a = times-append j s.ins (taken (shapes stages)) in
+    let b = times-append j s.ins (taken (shapes (take i stages))) in
+    let e = later.1 in
+    (later.0, omega (arith, a, b, e))
+
+pub taken-more : (stages : List StageSpec) (i j : ℕ) → i < length stages → times j (taken_by stages (i + 1)) ≡ times j (taken_by stages i) + times j ((stage_at stages i).ins)
+taken-more stages i j lt = rw add-one (go stages i lt)
+  where
+    go : (stages : List StageSpec) (i : ℕ) → i < length stages → times j (taken (shapes (take (suc i) stages))) ≡ times j (taken (shapes (take i stages))) + times j ((stage_at stages i).ins)
+    go [] i lt = absurd (omega (arith, lt))
+    go (s ∷ stages) zero lt = let a = times-append j s.ins [] in omega (arith, a)
+    go (s ∷ stages) (suc i) lt =
+        let a = times-append j s.ins (taken (shapes (take (suc i) stages))) in
+        let b = times-append j s.ins (taken (shapes (take i stages))) in
+        let e = go stages i (omega (arith, lt)) in
+        omega (arith, a, b, e)
+
+length-more : {A : Type 0} (xs : List A) (y : A) → length (xs ++ y ∷ []) ≡ length xs + 1
+length-more xs y = length-append xs (y ∷ [])
+
+absent : (j : ℕ) (xs : List ℕ) → has xs j ≡ false → times j xs ≡ 0
+absent j [] e = refl
+absent j (x ∷ xs) e = go (x == j) refl (absent j xs) e
+  where
+    go : (b : Bool) → (x == j) ≡ b → (has xs j ≡ false → times j xs ≡ 0) → b || has xs j ≡ false → times j (x ∷ xs) ≡ 0
+    go true is later e = absurd cc
+    go false is later e = rw is (let r = later e in omega (arith, r))
+
+has-at : (xs : List ℕ) (k d : ℕ) → k < length xs → has xs (slice_index_or xs k d) ≡ true
+has-at [] k d lt = absurd (omega (arith, lt))
+has-at (x ∷ xs) zero d lt = has-own x xs
+has-at (x ∷ xs) (suc k) d lt = has-later x (slice_index_or xs k d) xs (has-at xs k d (omega (arith, lt)))
+
+-- ---- in a tree
+
+module _ (stages : List StageSpec) (tree : IsTree (shapes stages)) where
+  down : IsDown stages
+  down = tree-down stages tree
+
+  -- a stage takes earlier ones
+  pub inside : (i n : ℕ) → n ≡ i → All (λ j. j < n) ((stage_at stages i).ins)
+  inside i n e = λ k d lt. (let l = down i (slice_index_or ((stage_at stages i).ins) k d) (has-at ((stage_at stages i).ins) k d lt) in omega (arith, l, e))
+
+  total : (i j : ℕ) → i < length stages → has ((stage_at stages i).ins) j ≡ true → times j (taken_by stages i) + times j ((stage_at stages i).ins) ≤ 1
+  total i j lt h =
+      let split = taken-split stages i j lt in
+      let e = split.1 in
+      let l = down i j h in
+      let n = length-shapes stages in
+      let once = tree.once j (omega (arith, l, lt, n)) in
+      omega (arith, e, once)
+
+  -- each of them once
+  pub once : (i : ℕ) → i < length stages → (j : ℕ) → times j ((stage_at stages i).ins) ≤ 1
+  once i lt j = go (has ((stage_at stages i).ins) j) refl
+    where
+      go : (b : Bool) → has ((stage_at stages i).ins) j ≡ b → times j ((stage_at stages i).ins) ≤ 1
+      go true h = let t = total i j lt h in omega (arith, t)
+      go false h = let t = absent j ((stage_at stages i).ins) h in omega (arith, t)
+
+  -- and none that was taken before
+  untaken : (i j : ℕ) → i < length stages → has ((stage_at stages i).ins) j ≡ true → times j (taken_by stages i) ≡ 0
+  untaken i j lt h = let t = total i j lt h in let p = present j ((stage_at stages i).ins) h in omega (arith, t, p)
+
+-- ---- what was evaluated
+
+module _ {S K : Type 0} (bytes : K → Option (List ℕ)) (stages : List StageSpec) where
+  -- none of the first so many stages has a fault, they gave on so much, their values stand at their places where no stage took them,
+  -- and the writers among them hold what they take
+  pub record AreUpTo (opened : Opened) (count : ℕ) (values : List (Flow Point)) (counts : List StageCount) (works : List (StageWork S K)) : Type 0 where
+    pub sound : (j : ℕ) → j < count → stage_fault stages opened j ≡ None
+    pub counted : (j : ℕ) → j < count → slice_get counts j ≡ Some (count_at stages opened j)
+    pub values_are : (j : ℕ) (v : Flow Point) → slice_get values j ≡ Some v → times j (taken_by stages count) ≡ 0 → v ≡ stage_value stages opened j
+    pub held : (j : ℕ) → j < count → (w : StageWork S K) → slice_get works j ≡ Some w → (x : Writing) → writing_of w ≡ Some x → HoldsAll bytes x (points (stage_input stages opened j)) w
+
+  module _ (tree : IsTree (shapes stages)) where
+    module _ (opened : Opened) (i : ℕ) (lt : i < length stages) (values : List (Flow Point)) (counts : List StageCount) (works : List (StageWork S K)) (so_far : AreUpTo opened i values counts works)
+        (size : length values ≡ i) where
+      -- what the stage takes
+      pub input-is : join_all (map (value_in values) ((stage_at stages i).ins)) ≡ stage_input stages opened i
+      input-is = ap join_all (map-same (value_in values) (stage_value stages opened) ((stage_at stages i).ins) (λ j h.
+          let at = some-at values j (let l = down stages tree i j h in omega (arith, l, size)) in
+          get_or_from_slice_get values j at.0 empty_flow at.1 ∙ so_far.values_are j at.0 at.1 (untaken stages tree i j lt h)))
+
+      module _ (s : StageSpec) (is : slice_get stages i ≡ Some s) (taken_now : Flow Point) (input : taken_now ≡ join_all (map (value_in values) ((stage_at stages i).ins)))
+          (v w : StageWork S K) (given : Flow Point) (gave : IsGiven bytes (role_at stages i) (row_at stages opened i) (opened i).las taken_now w given) where
+        taken-is : taken_now ≡ stage_input stages opened i
+        taken-is = input ∙ input-is
+
+        value-is : given ≡ stage_value stages opened i
+        value-is = gave.value ∙ ap (λ f. value_of (role_at stages i) (row_at stages opened i) (opened i).las f) taken-is ∙ sym (value-input stages opened (down stages tree) i)
+
+        sound-is : stage_fault stages opened i ≡ None
+        sound-is = ap (λ f. fault_of (role_at stages i) (row_at stages opened i) (opened i).las f) (sym taken-is) ∙ gave.sound
+
+        stage-is : stage_at stages i ≡ s
+        stage-is = get_or_from_slice_get stages i s _ is
+
+        count-is : count_for i s given (written_by w) ≡ count_at stages opened i
+        count-is =
+            ap (λ (t : StageSpec). count_for i t given (written_by w)) (sym stage-is) ∙ ap (λ f. count_for i (stage_at stages i) f (written_by w)) value-is
+            ∙ ap (λ o. count_for i (stage_at stages i) (stage_value stages opened i) o) gave.wrote
+            ∙ ap (λ f. count_for i (stage_at stages i) (stage_value stages opened i) (option_map (λ (name : List ℕ). up_to_limit (length (filter ((row_at stages opened i).writes) (points f)))) (target_of (role_at stages i)))) taken-is
+
+        -- with one more, where the values that the stage took are gone
+        pub one-more : (rest values_then : List (Flow Point)) (counts_then : List StageCount) (works_then : List (StageWork S K)) → length rest ≡ i
+            → ((j : ℕ) → has ((stage_at stages i).ins) j ≡ false → slice_get rest j ≡ slice_get values j) → values_then ≡ rest ++ given ∷ []
+            → length counts ≡ i → counts_then ≡ counts ++ count_for i s given (written_by w) ∷ []
+            → slice_get works_then i ≡ Some w → ((j : ℕ) → j < i → slice_get works_then j ≡ slice_get works j) → AreUpTo opened (i + 1) values_then counts_then works_then
+        one-more rest values_then counts_then works_then left others more few counted here same = record {
+          sound = λ j l. elim (eqb_tells j i) [
+            | inl p ↦ ap (stage_fault stages opened) p.1 ∙ sound-is
+            | inr p ↦ (let ne = p.1 in so_far.sound j (omega (arith, l, ne)))
+          ];
+          counted = λ j l. ap (λ cs. slice_get cs j) counted ∙ elim (eqb_tells j i) as (λ _. slice_get (counts ++ count_for i s given (written_by w) ∷ []) j ≡ Some (count_at stages opened j)) [
+            | inl p ↦ at-last counts (count_for i s given (written_by w)) j (few ∙ sym p.1) ∙ ap Some count-is ∙ ap (λ k. Some (count_at stages opened k)) (sym p.1)
+            | inr p ↦ (let ne = p.1 in in-front counts (count_for i s given (written_by w) ∷ []) j (omega (arith, l, ne, few)) ∙ so_far.counted j (omega (arith, l, ne)))
+          ];
+          values_are = λ j x e none.
+              let there : slice_get (rest ++ given ∷ []) j ≡ Some x = ap (λ vs. slice_get vs j) (sym more) ∙ e in
+              let split = taken-more stages i j lt in
+              elim (eqb_tells j i) as (λ _. x ≡ stage_value stages opened j) [
+                | inl p ↦ (let q : Some given ≡ Some x = sym (at-last rest given j (left ∙ sym p.1)) ∙ there in let r : given ≡ x = cc in sym r ∙ value-is ∙ ap (stage_value stages opened) (sym p.1))
+                | inr p ↦ (let ne = p.1 in let l : j < i = omega (arith, ne, slice_get_within (rest ++ given ∷ []) j x there, length-more rest given, left) in
+                    let away = none-has j ((stage_at stages i).ins) (omega (arith, split, none)) in
+                    so_far.values_are j x (sym (others j away) ∙ sym (in-front rest (given ∷ []) j (omega (arith, l, left))) ∙ there) (omega (arith, split, none)))
+              ];
+          held = λ j l z e x is. elim (eqb_tells j i) as (λ _. HoldsAll bytes x (points (stage_input stages opened j)) z) [
+            | inl p ↦ (let q : Some w ≡ Some z = sym here ∙ ap (λ k. slice_get works_then k) (sym p.1) ∙ e in let r : w ≡ z = cc in
+                subst (λ k. HoldsAll bytes x (points (stage_input stages opened k)) z) (sym p.1) (subst (λ f. HoldsAll bytes x (points f) z) taken-is
+                (subst (HoldsAll bytes x (points taken_now)) r (gave.held x (ap writing_of r ∙ is)))))
+            | inr p ↦ (let ne = p.1 in let l : j < i = omega (arith, l, ne) in so_far.held j l z (sym (same j l) ∙ e) x is)
+          ];
+        }
+
+    -- nothing was evaluated yet
+    pub none-yet : (opened : Opened) (works : List (StageWork S K)) → AreUpTo opened 0 [] [] works
+    none-yet opened works = record {
+      sound = λ j l. absurd (omega (arith, l));
+      counted = λ j l. absurd (omega (arith, l));
+      values_are = λ j v e none. absurd cc;
+      held = λ j l w e x is. absurd (omega (arith, l));
+    }
+
+    -- all were
+    pub all-done : (opened : Opened) (n : ℕ) (values : List (Flow Point)) (counts : List StageCount) (works : List (StageWork S K)) → n ≡ length stages → length counts ≡ n → length works ≡ length stages
+        → AreUpTo opened n values counts works → AreEvaluated bytes stages opened works counts
+    all-done opened n values counts works all few size up = record {
+      sound = least-nowhere (stage_fault stages opened) (length stages) (λ j l. up.sound j (omega (arith, l, all)));
+      counted = same-lists counts (counts_of stages opened) (few ∙ all ∙ sym (length-map-range_with_len (count_at stages opened) 0 (length stages))) (λ j l.
+          up.counted j (omega (arith, l, few)) ∙ ap (λ k. Some (count_at stages opened k)) (zero-first j) ∙ sym (range-at (count_at stages opened) 0 (length stages) j (omega (arith, l, few, all))));
+      held = λ j w e x is. up.held j (let a = slice_get_within works j w e in omega (arith, a, size, all)) w e x is;
+    }
+      where
+        zero-first : (n : ℕ) → n ≡ 0 + n
+        zero-first n = omega arith
+
+    -- the first that has a fault is the least one
+    pub first-fault : (opened : Opened) (i : ℕ) (values : List (Flow Point)) (counts : List StageCount) (works : List (StageWork S K)) (taken_now : Flow Point) (f : PointFault) → i < length stages → length values ≡ i
+        → AreUpTo opened i values counts works → taken_now ≡ join_all (map (value_in values) ((stage_at stages i).ins))
+        → fault_of (role_at stages i) (row_at stages opened i) (opened i).las taken_now ≡ Some f → least_fault stages opened ≡ Some (i, f)
+    first-fault opened i values counts works taken_now f lt size up input found =
+        least-at (stage_fault stages opened) (length stages) i f lt
+        (ap (λ t. fault_of (role_at stages i) (row_at stages opened i) (opened i).las t) (sym (input ∙ input-is opened i lt values counts works up size)) ∙ found) up.sound

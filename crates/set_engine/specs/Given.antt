@@ -1,0 +1,50 @@
+-- What a stage gave on, and what its work is then.
+use Rattle.std.specs.Prelude.{◌≡◌, ℕ, ◌≤◌, cond, List, filter, length, Option, Some, None, option_map}
+use Rattle.answer_model.specs.Rows.{Row, fault_on}
+use Rattle.answer_model.specs.Values.{value_of}
+use Rattle.cloud_points.specs.Flows.{Flow, points}
+use Rattle.cloud_points.specs.Queue.{up_to_limit}
+use Rattle.cloud_points.specs.declared.point.Point.{Point}
+use Rattle.cloud_points.specs.declared.faults.PointFault.{PointFault}
+use Rattle.las_reader.specs.Files.{Las}
+use Rattle.las_reader.specs.Flows.{las_fault}
+use Rattle.run_report.specs.declared.report.StageCount.{StageCount}
+use Rattle.stage_kinds.specs.Held.{op_of}
+use Rattle.stage_kinds.specs.Stages.{HoldsAll, writing_of, written_by}
+use Rattle.stage_kinds.specs.declared.file_form.Writing.{Writing}
+use Rattle.stage_kinds.specs.declared.stage_work.StageWork.{StageWork}
+use Rattle.stage_options.specs.Roles.{Role, is_reading, target_of}
+use Rattle.stage_options.specs.declared.stage.StageSpec.{StageSpec}
+use Rattle.set_engine.specs.Stops.{IsStopAt}
+use Rattle.set_engine.specs.declared.stop.Stop.{Stop}
+
+-- the fault of a stage on the flow that it takes: of a reader that of its file
+abbrev pub fault_of : Role → Row → Las → Flow Point → Option PointFault
+fault_of role row las flow = cond (is_reading role) (las_fault las) (fault_on row flow)
+
+-- it gave its value, has no fault, and holds what it writes of the points that it took
+pub record IsGiven {S K : Type 0} (bytes : K → Option (List ℕ)) (role : Role) (row : Row) (las : Las) (taken : Flow Point) (w : StageWork S K) (given : Flow Point) : Type 0 where
+  pub value : given ≡ value_of role row las taken
+  pub sound : fault_of role row las taken ≡ None
+  pub wrote : written_by w ≡ option_map (λ (name : List ℕ). up_to_limit (length (filter (row.writes) (points taken)))) (target_of role)
+  pub held : (x : Writing) → writing_of w ≡ Some x → HoldsAll bytes x (points taken) w
+
+-- it stopped for its fault, or where memory is wanting or its device failed
+abbrev pub IsUngivenBy : Role → Row → Las → Flow Point → Stop → Type 0
+IsUngivenBy role row las taken stop = IsStopAt (fault_of role row las taken) stop
+
+-- the same work later: over its device, whose count of faults didn't fall, and with the same to write
+pub record IsAfter {S K : Type 0} (faults : StageWork S K → ℕ) (old new : StageWork S K) : Type 0 where
+  pub op : op_of new ≡ op_of old
+  pub later : faults old ≤ faults new
+  pub writing : writing_of new ≡ writing_of old
+
+-- how much a stage gave on
+abbrev pub count_for : ℕ → StageSpec → Flow Point → Option ℕ → StageCount
+count_for i s given wrote = record {
+  stage = i;
+  kind = s.kind;
+  views = up_to_limit (length given.views);
+  points = up_to_limit (length (points given));
+  wrote = wrote;
+}

@@ -1,0 +1,5 @@
+pub mod Stops
+pub mod Taking
+pub mod Fits
+pub mod Given
+pub mod Evaluated

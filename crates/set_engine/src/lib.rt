@@ -1,0 +1,12 @@
+//! The stages of a tree, evaluated one after the other on whole views: by plain loops, without chunks, queues or turns.
+#![tactic(auto)]
+
+mod evaluating;
+mod filters;
+mod inputs;
+mod leaves;
+mod stages;
+mod stop;
+mod writers;
+
+pub use evaluating::evaluate_stages;

@@ -1,0 +1,59 @@
+//! Why a stage isn't evaluated to its end.
+
+ghost use Rattle.std.specs.Prelude.{◌≡◌, IfErr, None, OnOk};
+ghost use Rattle.set_engine.specs.Stops.{IsStopFor};
+
+use cloud_points::{PointFault, StageFault};
+use file_devices::Op;
+use run_report::{Fault, Place, Refusal};
+use std::alloc::AllocError;
+
+/// Why a stage isn't evaluated to its end.
+#[derive(Clone, Copy, Debug, PartialEq, Eq)]
+pub(crate) enum Stop {
+    /// A point has this fault.
+    Fault(PointFault),
+
+    /// Its device failed in this.
+    Failed(Op),
+
+    /// There was no memory.
+    Memory,
+}
+
+impl From<AllocError> for Stop {
+    ghost use Rattle.set_engine.specs.declared.stop.Stop.TheVariants.{Memory};
+
+    ghost from_gives = { λ e stop. stop ≡ Memory };
+
+    fn from(_e: AllocError) -> Stop {
+        Stop::Memory
+    }
+}
+
+/// A stage with a fault isn't evaluated to its end.
+pub(crate) fn unless_fault(fault: Option<StageFault>) -> Result<(), Stop>
+    ensures ok { OnOk result (fault ≡ None) }
+    ensures err { IfErr result (IsStopFor fault) }
+{
+    match fault {
+        None => Ok(()),
+        Some(StageFault::Point(fault)) => Err(Stop::Fault(fault)),
+        Some(StageFault::Device(op)) => Err(Stop::Failed(op)),
+    }
+}
+
+impl Stop {
+    ghost use Rattle.set_engine.specs.Stops.{refusal_at};
+
+    /// The refusal of a run whose stage with this number isn't evaluated to its end.
+    pub(crate) fn at(self, number: u32) -> Refusal
+        ensures { result ≡ refusal_at number self }
+    {
+        match self {
+            Stop::Fault(fault) => Refusal::Data(number, Fault::Point(fault)),
+            Stop::Failed(op) => Refusal::Device(Place::Stage(number), op),
+            Stop::Memory => Refusal::Memory,
+        }
+    }
+}
