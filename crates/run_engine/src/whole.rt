@@ -18,7 +18,7 @@ use stage_options::StageSpec;
 use std::alloc::Global;
 
 /// Evaluates the stages of a tree one after the other, each on all points that it takes. It answers what each stage gave on, or the
-/// first stage whose device failed or that has a fault.
+/// first stage whose device failed, or else the fault of the first stage that has one.
 pub(crate) fn whole_works<S: Source, K: FileSink>(
     alloc: Global,
     works: Vec<StageWork<S, K>>,

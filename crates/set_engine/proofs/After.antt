@@ -1,29 +1,23 @@
 -- Works later, and why stages weren't evaluated.
-use Rattle.std.proofs.Common.{◌≡◌, ℕ, zero, suc, ◌<◌, List, [], ◌∷◌, ◌++◌, length, map, take, Option, Some, refl, ap, sym, subst, ◌∙◌, arith, inl, inr, length-set}
+use Rattle.std.proofs.Common.{◌≡◌, ℕ, zero, suc, ◌<◌, List, [], ◌∷◌, ◌++◌, length, take, Option, Some, None, refl, ap, sym, subst, ◌∙◌, arith, inl, inr, ◌⊎◌, length-set}
 use Rattle.std.specs.Prelude.{slice_get}
 use Rattle.std.proofs.Math.ListN.{set}
 use Rattle.std.proofs.lemmas.Bool.Decides.{eqb_tells}
 use Rattle.std.proofs.lemmas.Option.{slice_get_within}
-use Rattle.answer_model.specs.Values.{LasFile, Opened, role_at, row_at, stage_at}
-use Rattle.cloud_points.specs.Flows.{Flow, join_all}
-use Rattle.cloud_points.specs.declared.point.Point.{Point}
+use Rattle.answer_model.specs.Values.{LasFile, Opened}
+use Rattle.cloud_points.specs.declared.faults.PointFault.{PointFault}
 use Rattle.file_devices.specs.Counts.{Rose}
 use Rattle.file_devices.specs.declared.devices.Source as source
-use Rattle.pipeline_json.specs.Trees.{IsTree}
-use Rattle.run_report.specs.declared.report.StageCount.{StageCount}
 use Rattle.stage_kinds.specs.Held.{op_of}
 use Rattle.stage_kinds.specs.declared.stage_work.StageWork.{StageWork}
-use Rattle.stage_options.specs.Shapes.{shapes}
 use Rattle.stage_options.specs.declared.stage.StageSpec.{StageSpec}
 use Rattle.set_engine.specs.Evaluated.{AreAfter, AreTold, IsUnevaluated}
 use Rattle.set_engine.specs.Fits.{HasFile}
-use Rattle.set_engine.specs.Given.{IsAfter, IsUngivenBy}
+use Rattle.set_engine.specs.Given.{IsAfter, first_at}
 use Rattle.set_engine.specs.Stops.{HasFailed, refusal_at}
-use Rattle.set_engine.specs.Taking.{value_in}
 use Rattle.set_engine.specs.declared.stop.Stop.{Stop}
-use Rattle.set_engine.specs.declared.stop.Stop.TheVariants.{Fault, Failed, Memory}
+use Rattle.set_engine.specs.declared.stop.Stop.TheVariants.{Failed, Memory}
 use Rattle.set_engine.proofs.Joined.{stays-elsewhere}
-use Rattle.set_engine.proofs.UpTo.{AreUpTo, first-fault}
 
 pub put-there : {A : Type 0} (xs : List A) (i : ℕ) (x : A) → i < length xs → slice_get (set xs i x) i ≡ Some x
 put-there [] i x lt = absurd (omega (arith, lt))
@@ -67,19 +61,27 @@ pub las-told : {S K : Type 0} (s : source.Ghosts S) (works : List (StageWork S K
 las-told s works opened i v told at = λ r is. (let t = told i v r at is in record { file = t.file; told = t.told; holds = ap (λ (x : LasFile). x.las) t.holds })
 
 -- a stage that stopped
-module _ {S K : Type 0} (s : source.Ghosts S) (bytes : K → Option (List ℕ)) (faults : StageWork S K → ℕ) (stages : List StageSpec) (tree : IsTree (shapes stages)) (old now : List (StageWork S K)) (i : ℕ) (v w : StageWork S K)
-    (lt : i < length stages) (was : slice_get old i ≡ Some v) (at : slice_get now i ≡ Some v) (values : List (Flow Point)) (size : length values ≡ i) (counts : List StageCount)
-    (up : (opened : Opened) → AreTold s old opened → AreUpTo bytes stages opened i values counts now) (taken_now : Flow Point) (input : taken_now ≡ join_all (map (value_in values) ((stage_at stages i).ins))) where
-  pub stopped-at : (stop : Stop) → HasFailed (op_of v) (Rose (faults v) (faults w)) stop
-      → ((opened : Opened) → AreTold s old opened → IsUngivenBy (role_at stages i) (row_at stages opened i) (opened i).las taken_now stop)
-      → IsUnevaluated s faults stages old (set now i w) (refusal_at i stop)
-  stopped-at (Fault f) failed ungiven = λ opened told. first-fault bytes stages tree opened i values counts now taken_now f lt size (up opened told) input (ungiven opened told)
-  stopped-at (Failed o) failed ungiven = record {
-    before = v;
-    after = w;
-    was = was;
-    is = put-there now i w (slice_get_within now i v at);
-    does = failed.0;
-    rose = failed.1;
-  }
-  stopped-at Memory failed ungiven = tt
+pub stopped-at : {S K : Type 0} (s : source.Ghosts S) (faults : StageWork S K → ℕ) (stages : List StageSpec) (old now : List (StageWork S K)) (i : ℕ) (v w : StageWork S K) → slice_get old i ≡ Some v → slice_get now i ≡ Some v
+    → (stop : Stop) → HasFailed (op_of v) (Rose (faults v) (faults w)) stop → IsUnevaluated s faults stages old (set now i w) (refusal_at i stop)
+stopped-at s faults stages old now i v w was at (Failed o) failed = record {
+  before = v;
+  after = w;
+  was = was;
+  is = put-there now i w (slice_get_within now i v at);
+  does = failed.0;
+  rose = failed.1;
+}
+stopped-at s faults stages old now i v w was at Memory failed = tt
+
+-- ---- the first fault
+
+pub none-yet-found : (o : Option (ℕ × PointFault)) (i : ℕ) (f : Option PointFault) → first_at o i f ≡ None → (o ≡ None) × (f ≡ None)
+none-yet-found (Some x) i f e = absurd cc
+none-yet-found None i None e = (refl, refl)
+none-yet-found None i (Some f) e = absurd cc
+
+-- it was found before, or is that of this stage
+pub found-by : (o : Option (ℕ × PointFault)) (i : ℕ) (f : Option PointFault) (x : ℕ × PointFault) → first_at o i f ≡ Some x → (o ≡ Some x) ⊎ ((o ≡ None) × (f ≡ Some (x.1)) × (x.0 ≡ i))
+found-by (Some y) i f x e = inl e
+found-by None i None x e = absurd cc
+found-by None i (Some f) x e = let same : (i, f) ≡ x = cc in inr (refl, ap (λ (y : ℕ × PointFault). Some (y.1)) same, ap (λ (y : ℕ × PointFault). y.0) (sym same))

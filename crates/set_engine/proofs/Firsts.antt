@@ -11,14 +11,13 @@ use Rattle.stage_kinds.specs.declared.file_form.Writing.{Writing}
 use Rattle.stage_kinds.specs.declared.writer_stage.TakeErr.{TakeErr}
 use Rattle.stage_kinds.specs.declared.writer_stage.TakeErr.TheVariants.{Refused}
 use Rattle.stage_kinds.specs.Takes.{IsUntaken}
-use Rattle.cloud_points.specs.declared.faults.PointFault.{PointFault}
 use Rattle.stage_meanings.specs.Filtering.{filtered_stop}
 use Rattle.stage_meanings.specs.Filters.{first_from, found, point_fault}
 use Rattle.stage_meanings.specs.declared.reason.Reason.{Reason}
 use Rattle.whole_filters.specs.Held.{view_at}
 use Rattle.set_engine.specs.Stops.{IsStopAt, IsStopBehind}
-use Rattle.set_engine.specs.declared.stop.Stop.{Stop}
-use Rattle.set_engine.specs.declared.stop.Stop.TheVariants.{Fault, Failed, Memory}
+use Rattle.set_engine.specs.declared.writers.WriteErr.{WriteErr}
+use Rattle.set_engine.specs.declared.writers.WriteErr.TheVariants as write
 
 module _ {P R : Type 0} (why : P → Option R) where
   none_behind : (n : ℕ) (ps : List P) (p : P) → first_from why n ps ≡ None → why p ≡ None → first_from why n (ps ++ p ∷ []) ≡ None
@@ -50,29 +49,27 @@ module _ {P R : Type 0} (why : P → Option R) where
   here ps i d r lt e is = let same : 0 + i ≡ i = omega arith in here_from 0 ps i d r lt e is ∙ ap (λ k. Some (k, r)) same
 
 -- a writer that doesn't take a point of a view stops there
-pub refused_here : (x y : Writing) (ps : List Point) (i before number : ℕ) (d : Point) (e : TakeErr) (r : Reason) (f : PointFault) → i < length ps → number ≡ up_to_limit (before + i) → y ≡ x
-    → first_from (why_not x) 0 (take i ps) ≡ None → IsUntaken (why_not y (get_or ps i d)) e → e ≡ Refused r → f ≡ point_fault number r → IsStopBehind before (first_from (why_not x) 0 ps) (Fault f)
-refused_here x y ps i before number d e r f lt count same none why is fault =
+pub refused_here : (x y : Writing) (ps : List Point) (i before number : ℕ) (d : Point) (e : TakeErr) (r : Reason) → i < length ps → number ≡ up_to_limit (before + i) → y ≡ x
+    → first_from (why_not x) 0 (take i ps) ≡ None → IsUntaken (why_not y (get_or ps i d)) e → e ≡ Refused r → IsStopBehind before (first_from (why_not x) 0 ps) (write.Refused number r)
+refused_here x y ps i before number d e r lt count same none why is =
     let there : why_not x (get_or ps i d) ≡ Some r = subst (λ z. why_not z (get_or ps i d) ≡ Some r) same (subst (IsUntaken (why_not y (get_or ps i d))) is why) in
-    (i, r, here (why_not x) ps i d r lt none there, fault ∙ ap (λ n. point_fault n r) count)
+    (i, here (why_not x) ps i d r lt none there, count)
 
 -- one that takes the next point, too, stops at none of those so far
 pub taken_more : (x y : Writing) (ps : List Point) (i : ℕ) (d : Point) → i < length ps → y ≡ x → first_from (why_not x) 0 (take i ps) ≡ None → why_not y (get_or ps i d) ≡ None → first_from (why_not x) 0 (take (i + 1) ps) ≡ None
 taken_more x y ps i d lt same none is = none_more (why_not x) ps i d lt none (subst (λ z. why_not z (get_or ps i d) ≡ None) same is)
 
 -- a writer that stops in a view stops there on all of them
-pub stop_in : (x : Writing) (flow : Flow Point) (v number : ℕ) (view : List Point) (stop : Stop) → v ≤ length flow.views → view ≡ view_at flow v
+pub stop_in : (x : Writing) (flow : Flow Point) (v number : ℕ) (view : List Point) (e : WriteErr) → v ≤ length flow.views → view ≡ view_at flow v
     → number ≡ up_to_limit (length (all_of (take v flow.views))) → first_from (why_not x) 0 (all_of (take v flow.views)) ≡ None
-    → IsStopBehind number (first_from (why_not x) 0 view) stop → IsStopAt (filtered_stop (writing_filter x) flow) stop
-stop_in x flow v number view (Fault f) le is count before behind =
+    → IsStopBehind number (first_from (why_not x) 0 view) e → IsStopAt (filtered_stop (writing_filter x) flow) e
+stop_in x flow v number view (write.Refused m r) le is count before behind =
     let k = behind.0 in
-    let r = behind.1 in
     let n = length (all_of (take v flow.views)) in
-    let there = stop_in_view (why_not x) flow v before k r le (ap (first_from (why_not x) 0) (sym is) ∙ behind.2) in
-    let same : up_to_limit (number + k) ≡ up_to_limit (n + k) = omega (arith, count) in
-    ap (option_map (λ s. point_fault (up_to_limit s.0) s.1)) there ∙ ap (λ m. Some (point_fault m r)) (sym same) ∙ ap Some (sym behind.3)
-stop_in x flow v number view (Failed o) le is count before behind = tt
-stop_in x flow v number view Memory le is count before behind = tt
+    let there = stop_in_view (why_not x) flow v before k r le (ap (first_from (why_not x) 0) (sym is) ∙ behind.1) in
+    let same : m ≡ up_to_limit (n + k) = (let a = behind.2 in omega (arith, a, count)) in
+    ap (option_map (λ s. point_fault (up_to_limit s.0) s.1)) there ∙ ap (λ m. Some (point_fault m r)) (sym same)
+stop_in x flow v number view write.Failed le is count before behind = tt
 
 -- one that stops in none has no fault
 pub sound_all : (x : Writing) (flow : Flow Point) (v : ℕ) (view : List Point) → length flow.views ≤ v → view ≡ view_at flow v

@@ -1,6 +1,6 @@
 -- What a stage gives on.
-use Rattle.std.proofs.Common.{◌≡◌, ℕ, ◌+◌, Bool, true, false, List, [], ◌∷◌, ◌++◌, map, length, filter, Option, Some, None, Result, Ok, Err, refl, ap, sym, ◌∙◌, true≢false, append_assoc}
-use Rattle.std.specs.Prelude.{option_map, IfErr, IfOk, OnOk, if◌then◌else◌}
+use Rattle.std.proofs.Common.{◌≡◌, ℕ, ◌+◌, Bool, true, false, List, [], ◌∷◌, ◌++◌, map, length, filter, Option, Some, None, Result, Ok, Err, refl, ap, sym, subst, ◌∙◌, true≢false, append_assoc}
+use Rattle.std.specs.Prelude.{option_map, IfOk, if◌then◌else◌}
 use Rattle.std.specs.List.{cons_option}
 use Rattle.answer_model.specs.Rows.{Row, Judging, made, stop}
 use Rattle.answer_model.specs.Values.{value_of}
@@ -11,7 +11,6 @@ use Rattle.cloud_points.specs.declared.faults.PointFault.{PointFault}
 use Rattle.cloud_points.specs.declared.faults.StageFault.TheVariants as stage
 use Rattle.cloud_points.specs.declared.point.Point.{Point}
 use Rattle.cloud_points.proofs.FlowLaws.{flow_of-flow_marks}
-use Rattle.file_devices.specs.declared.devices.Op.{Op}
 use Rattle.las_reader.specs.Files.{Las, las_with}
 use Rattle.las_reader.specs.Flows.{las_flow, las_fault}
 use Rattle.stage_kinds.specs.Reads.{tells_of, told_of, told_fault_of}
@@ -31,17 +30,9 @@ use Rattle.stage_meanings.specs.declared.reason.Reason.{Reason}
 use Rattle.stage_kinds.specs.Files.{unwritten}
 use Rattle.stage_options.specs.Roles.{Role, target_of}
 use Rattle.set_engine.specs.Fits.{IsFor, IsWriting, HasFile}
-use Rattle.set_engine.specs.Given.{IsGiven, IsUngivenBy, fault_of}
-use Rattle.set_engine.specs.Stops.{HasFailed, IsUngiven}
+use Rattle.set_engine.specs.Given.{IsGiven, IsGivenBy, fault_of}
+use Rattle.set_engine.specs.declared.given.Given.{Given}
 use Rattle.set_engine.specs.declared.stop.Stop.{Stop}
-use Rattle.set_engine.specs.declared.stop.Stop.TheVariants.{Fault, Failed, Memory}
-
--- who has no device doesn't stop for one
-pub no-device : {A : Type 0} (op : Option Op) (rose : Type 0) (r : Result A Stop) → IfErr r (HasFailed None ⊥) → IfErr r (HasFailed op rose)
-no-device op rose (Ok a) h = h
-no-device op rose (Err (Failed o)) h = absurd h.1
-no-device op rose (Err (Fault f)) h = tt
-no-device op rose (Err Memory) h = tt
 
 -- ---- writers
 
@@ -115,22 +106,33 @@ writer-given bytes role row las taken v w start same sound holds =
     let only : only_of w ≡ only_of v = ap (λ (y : Writing). y.only) same in
     record {
       value = sym (ap (λ r. value_of r row las taken) start.does ∙ ap (λ m. made m taken) start.judges ∙ flow-goes-on x taken sound);
-      sound = ap (λ r. fault_of r row las taken) start.does ∙ ap (λ m. stop m taken) start.judges ∙ sound;
       wrote = ap Some (written-count w bytes (points taken) held (ap (λ y. stops_nowhere y (points taken)) same ∙ nowhere)
           ∙ ap (λ o. up_to_limit (length (chosen o (points taken)))) only ∙ ap (λ ps. up_to_limit (length ps)) (start.chooses (points taken)))
           ∙ ap (λ r. option_map (λ (name : List ℕ). up_to_limit (length (filter (row.writes) (points taken)))) (target_of r)) (sym start.does);
       held = λ y is. record { is = is; holds = held; nowhere = (let z : writes_of w ≡ y = cc in ap (λ u. stops_nowhere u (points taken)) (sym z ∙ same) ∙ nowhere) };
     }
 
+-- so it is with what it gave, and where it stopped
+pub writer-gave : {S K : Type 0} (sources : S → Option (List ℕ)) (sinks : K → Option (List ℕ)) (taken : Flow Point) (work : StageWork S K) (v w : WriterStage K) (r : Result Given Stop) → work ≡ Writer v → writes_of w ≡ writes_of v
+    → IfOk r (λ given. given.fault ≡ filtered_stop (writing_filter (writes_of v)) taken) → IfOk r (λ given. given.fault ≡ None → given.views ≡ taken)
+    → IfOk r (λ given. given.fault ≡ None → holds_chosen sinks v [] ≡ true → holds_chosen sinks w (points taken) ≡ true)
+    → IfOk r (λ given. (role : Role) (row : Row) (las : Las) → IsFor sinks role row work → HasFile sources las work → IsGivenBy {S = S} sinks role row las taken (Writer w) given)
+writer-gave sources sinks taken work v w (Ok given) is same fault all holds = λ role row las start file. (
+    let start : IsWriting sinks role row v = subst (IsFor sinks role row) is start in
+    let faults : fault_of role row las taken ≡ filtered_stop (writing_filter (writes_of v)) taken = ap (λ r. fault_of r row las taken) start.does ∙ ap (λ m. stop m taken) start.judges in
+    record {
+      fault = fault ∙ sym faults;
+      sound = λ none. subst (IsGiven sinks role row las taken (Writer w)) (sym (all none)) (writer-given sinks role row las taken v w start same (sym fault ∙ none) (holds none));
+    })
+writer-gave sources sinks taken work v w (Err s) is same fault all holds = tt
+
 -- ---- readers
 
-no-point : (o : Option PointFault) → option_map stage.Point o ≡ None → o ≡ None
-no-point None e = refl
-no-point (Some f) e = absurd cc
-
-the-point : (o : Option PointFault) (f : PointFault) → option_map stage.Point o ≡ Some (stage.Point f) → o ≡ Some f
-the-point None f e = absurd cc
-the-point (Some g) f e = let same : g ≡ f = cc in ap Some same
+same-point : (o p : Option PointFault) → option_map stage.Point o ≡ option_map stage.Point p → o ≡ p
+same-point None None e = refl
+same-point None (Some g) e = absurd cc
+same-point (Some f) None e = absurd cc
+same-point (Some f) (Some g) e = let same : f ≡ g = cc in ap Some same
 
 -- a leaf writes nothing
 leaf-writes : {S K : Type 0} (w : StageWork S K) → is_leaf w ≡ true → (writing_of w ≡ None) × (written_by w ≡ None)
@@ -144,45 +146,31 @@ pub leaf-writing : {S K : Type 0} (v w : StageWork S K) → is_leaf v ≡ true �
 leaf-writing v w a b = (leaf-writes w b).0 ∙ sym ((leaf-writes v a).0)
 
 module _ {S K : Type 0} (sources : S → Option (List ℕ)) (sinks : K → Option (List ℕ)) (role : Role) (row : Row) (las : Las) (taken : Flow Point) where
-  leaf-given : (v w : StageWork S K) (given : Flow Point) → IsFor sinks role row v → HasFile sources las v → is_leaf v ≡ true → is_leaf w ≡ true
-      → (tells_of sources v ≡ true → told_of sources v ≡ flow_marks given) → (tells_of sources v ≡ true → told_fault_of sources v ≡ None) → IsGiven sinks role row las taken w given
-  leaf-given (Reader r) w given start file a b gives sound =
+  leaf-given : (v w : StageWork S K) (given : Given) → IsFor sinks role row v → HasFile sources las v → is_leaf v ≡ true → is_leaf w ≡ true
+      → (tells_of sources v ≡ true → told_of sources v ≡ flow_marks given.views) → (tells_of sources v ≡ true → told_fault_of sources v ≡ option_map stage.Point given.fault) → IsGivenBy sinks role row las taken w given
+  leaf-given (Reader r) w given start file a b gives says =
       let t = file r refl in
       let f = reader_starts {K = K} sources r t.file start.start t.told in
       let writes = leaf-writes w b in
+      let faults : fault_of role row las taken ≡ las_fault (las_with r.header t.file) = ap (λ r. fault_of r row las taken) start.does ∙ ap las_fault t.holds in
       record {
-        value = sym (flow_of-flow_marks given) ∙ ap flow_of (sym (gives f.tells) ∙ f.told) ∙ flow_of-flow_marks (las_flow (las_with r.header t.file)) ∙ ap las_flow (sym t.holds)
-            ∙ ap (λ r. value_of r row las taken) (sym start.does);
-        sound = ap (λ r. fault_of r row las taken) start.does ∙ ap las_fault t.holds ∙ no-point (las_fault (las_with r.header t.file)) (sym f.fault ∙ sound f.tells);
-        wrote = writes.1 ∙ ap (λ r. option_map (λ (name : List ℕ). up_to_limit (length (filter (row.writes) (points taken)))) (target_of r)) (sym start.does);
-        held = λ x is. absurd (let none = sym (writes.0) ∙ is in cc);
+        fault = same-point given.fault (las_fault (las_with r.header t.file)) (sym (says f.tells) ∙ f.fault) ∙ sym faults;
+        sound = λ none. record {
+          value = sym (flow_of-flow_marks given.views) ∙ ap flow_of (sym (gives f.tells) ∙ f.told) ∙ flow_of-flow_marks (las_flow (las_with r.header t.file)) ∙ ap las_flow (sym t.holds)
+              ∙ ap (λ r. value_of r row las taken) (sym start.does);
+          wrote = writes.1 ∙ ap (λ r. option_map (λ (name : List ℕ). up_to_limit (length (filter (row.writes) (points taken)))) (target_of r)) (sym start.does);
+          held = λ x is. absurd (let none = sym (writes.0) ∙ is in cc);
+        };
       }
-  leaf-given (Filter f) w given start file a b gives sound = absurd (true≢false (sym a))
-  leaf-given (Collector c) w given start file a b gives sound = absurd (true≢false (sym a))
-  leaf-given (Views h) w given start file a b gives sound = absurd start
-  leaf-given (Writer x) w given start file a b gives sound = absurd (true≢false (sym a))
+  leaf-given (Filter f) w given start file a b gives says = absurd (true≢false (sym a))
+  leaf-given (Collector c) w given start file a b gives says = absurd (true≢false (sym a))
+  leaf-given (Views h) w given start file a b gives says = absurd start
+  leaf-given (Writer x) w given start file a b gives says = absurd (true≢false (sym a))
 
-  leaf-ungiven : (v : StageWork S K) (s : Stop) → IsFor sinks role row v → HasFile sources las v → is_leaf v ≡ true → (tells_of sources v ≡ true → IsUngiven (told_fault_of sources v) s) → IsUngivenBy role row las taken s
-  leaf-ungiven (Reader r) (Fault f) start file a ungiven =
-      let t = file r refl in
-      let told = reader_starts {K = K} sources r t.file start.start t.told in
-      ap (λ r. fault_of r row las taken) start.does ∙ ap las_fault t.holds ∙ the-point (las_fault (las_with r.header t.file)) f (sym told.fault ∙ ungiven told.tells)
-  leaf-ungiven v (Failed o) start file a ungiven = tt
-  leaf-ungiven v Memory start file a ungiven = tt
-  leaf-ungiven (Filter g) (Fault f) start file a ungiven = absurd (true≢false (sym a))
-  leaf-ungiven (Collector c) (Fault f) start file a ungiven = absurd (true≢false (sym a))
-  leaf-ungiven (Views h) (Fault f) start file a ungiven = absurd start
-  leaf-ungiven (Writer x) (Fault f) start file a ungiven = absurd (true≢false (sym a))
-
--- so it is with what it gave, and where it stopped
-module _ {S K : Type 0} (sources : S → Option (List ℕ)) (sinks : K → Option (List ℕ)) (taken : Flow Point) where
-  pub leaf-gave : (v w : StageWork S K) (r : Result (Flow Point) Stop) → is_leaf v ≡ true → is_leaf w ≡ true → IfOk r (λ views. tells_of sources v ≡ true → told_of sources v ≡ flow_marks views)
-      → OnOk r (tells_of sources v ≡ true → told_fault_of sources v ≡ None)
-      → IfOk r (λ given. (role : Role) (row : Row) (las : Las) → IsFor sinks role row v → HasFile sources las v → IsGiven sinks role row las taken w given)
-  leaf-gave v w (Ok given) a b gives sound = λ role row las start file. leaf-given sources sinks role row las taken v w given start file a b gives sound
-  leaf-gave v w (Err s) a b gives sound = tt
-
-  pub leaf-stopped : (v : StageWork S K) (r : Result (Flow Point) Stop) → is_leaf v ≡ true → IfErr r (λ s. tells_of sources v ≡ true → IsUngiven (told_fault_of sources v) s)
-      → IfErr r (λ s. (role : Role) (row : Row) (las : Las) → IsFor sinks role row v → HasFile sources las v → IsUngivenBy role row las taken s)
-  leaf-stopped v (Ok given) a ungiven = tt
-  leaf-stopped v (Err s) a ungiven = λ role row las start file. leaf-ungiven sources sinks role row las taken v s start file a ungiven
+-- so it is with what it gave
+pub leaf-gave : {S K : Type 0} (sources : S → Option (List ℕ)) (sinks : K → Option (List ℕ)) (taken : Flow Point) (v w : StageWork S K) (r : Result Given Stop) → is_leaf v ≡ true → is_leaf w ≡ true
+    → IfOk r (λ given. tells_of sources v ≡ true → told_of sources v ≡ flow_marks given.views)
+    → IfOk r (λ given. tells_of sources v ≡ true → told_fault_of sources v ≡ option_map stage.Point given.fault)
+    → IfOk r (λ given. (role : Role) (row : Row) (las : Las) → IsFor sinks role row v → HasFile sources las v → IsGivenBy sinks role row las taken w given)
+leaf-gave sources sinks taken v w (Ok given) a b gives says = λ role row las start file. leaf-given sources sinks role row las taken v w given start file a b gives says
+leaf-gave sources sinks taken v w (Err s) a b gives says = tt

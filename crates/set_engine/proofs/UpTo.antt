@@ -129,7 +129,8 @@ module _ {S K : Type 0} (bytes : K → Option (List ℕ)) (stages : List StageSp
           get_or_from_slice_get values j at.0 empty_flow at.1 ∙ so_far.values_are j at.0 at.1 (untaken stages tree i j lt h)))
 
       module _ (s : StageSpec) (is : slice_get stages i ≡ Some s) (taken_now : Flow Point) (input : taken_now ≡ join_all (map (value_in values) ((stage_at stages i).ins)))
-          (v w : StageWork S K) (given : Flow Point) (gave : IsGiven bytes (role_at stages i) (row_at stages opened i) (opened i).las taken_now w given) where
+          (v w : StageWork S K) (given : Flow Point) (gave : IsGiven bytes (role_at stages i) (row_at stages opened i) (opened i).las taken_now w given)
+          (none : fault_of (role_at stages i) (row_at stages opened i) (opened i).las taken_now ≡ None) where
         taken-is : taken_now ≡ stage_input stages opened i
         taken-is = input ∙ input-is
 
@@ -137,7 +138,7 @@ module _ {S K : Type 0} (bytes : K → Option (List ℕ)) (stages : List StageSp
         value-is = gave.value ∙ ap (λ f. value_of (role_at stages i) (row_at stages opened i) (opened i).las f) taken-is ∙ sym (value-input stages opened (down stages tree) i)
 
         sound-is : stage_fault stages opened i ≡ None
-        sound-is = ap (λ f. fault_of (role_at stages i) (row_at stages opened i) (opened i).las f) (sym taken-is) ∙ gave.sound
+        sound-is = ap (λ f. fault_of (role_at stages i) (row_at stages opened i) (opened i).las f) (sym taken-is) ∙ none
 
         stage-is : stage_at stages i ≡ s
         stage-is = get_or_from_slice_get stages i s _ is
@@ -162,14 +163,14 @@ module _ {S K : Type 0} (bytes : K → Option (List ℕ)) (stages : List StageSp
             | inl p ↦ at-last counts (count_for i s given (written_by w)) j (few ∙ sym p.1) ∙ ap Some count-is ∙ ap (λ k. Some (count_at stages opened k)) (sym p.1)
             | inr p ↦ (let ne = p.1 in in-front counts (count_for i s given (written_by w) ∷ []) j (omega (arith, l, ne, few)) ∙ so_far.counted j (omega (arith, l, ne)))
           ];
-          values_are = λ j x e none.
+          values_are = λ j x e untook.
               let there : slice_get (rest ++ given ∷ []) j ≡ Some x = ap (λ vs. slice_get vs j) (sym more) ∙ e in
               let split = taken-more stages i j lt in
               elim (eqb_tells j i) as (λ _. x ≡ stage_value stages opened j) [
                 | inl p ↦ (let q : Some given ≡ Some x = sym (at-last rest given j (left ∙ sym p.1)) ∙ there in let r : given ≡ x = cc in sym r ∙ value-is ∙ ap (stage_value stages opened) (sym p.1))
                 | inr p ↦ (let ne = p.1 in let l : j < i = omega (arith, ne, slice_get_within (rest ++ given ∷ []) j x there, length-more rest given, left) in
-                    let away = none-has j ((stage_at stages i).ins) (omega (arith, split, none)) in
-                    so_far.values_are j x (sym (others j away) ∙ sym (in-front rest (given ∷ []) j (omega (arith, l, left))) ∙ there) (omega (arith, split, none)))
+                    let away = none-has j ((stage_at stages i).ins) (omega (arith, split, untook)) in
+                    so_far.values_are j x (sym (others j away) ∙ sym (in-front rest (given ∷ []) j (omega (arith, l, left))) ∙ there) (omega (arith, split, untook)))
               ];
           held = λ j l z e x is. elim (eqb_tells j i) as (λ _. HoldsAll bytes x (points (stage_input stages opened j)) z) [
             | inl p ↦ (let q : Some w ≡ Some z = sym here ∙ ap (λ k. slice_get works_then k) (sym p.1) ∙ e in let r : w ≡ z = cc in

@@ -15,23 +15,22 @@ use Rattle.stage_kinds.specs.declared.file_form.Writing.{Writing}
 use Rattle.stage_kinds.specs.declared.stage_work.StageWork.{StageWork}
 use Rattle.stage_options.specs.Roles.{Role, is_reading, target_of}
 use Rattle.stage_options.specs.declared.stage.StageSpec.{StageSpec}
-use Rattle.set_engine.specs.Stops.{IsStopAt}
-use Rattle.set_engine.specs.declared.stop.Stop.{Stop}
+use Rattle.set_engine.specs.declared.given.Given.{Given}
 
 -- the fault of a stage on the flow that it takes: of a reader that of its file
 abbrev pub fault_of : Role → Row → Las → Flow Point → Option PointFault
 fault_of role row las flow = cond (is_reading role) (las_fault las) (fault_on row flow)
 
--- it gave its value, has no fault, and holds what it writes of the points that it took
+-- it gave its value, and holds what it writes of the points that it took
 pub record IsGiven {S K : Type 0} (bytes : K → Option (List ℕ)) (role : Role) (row : Row) (las : Las) (taken : Flow Point) (w : StageWork S K) (given : Flow Point) : Type 0 where
   pub value : given ≡ value_of role row las taken
-  pub sound : fault_of role row las taken ≡ None
   pub wrote : written_by w ≡ option_map (λ (name : List ℕ). up_to_limit (length (filter (row.writes) (points taken)))) (target_of role)
   pub held : (x : Writing) → writing_of w ≡ Some x → HoldsAll bytes x (points taken) w
 
--- it stopped for its fault, or where memory is wanting or its device failed
-abbrev pub IsUngivenBy : Role → Row → Las → Flow Point → Stop → Type 0
-IsUngivenBy role row las taken stop = IsStopAt (fault_of role row las taken) stop
+-- it says its fault, and without one it gave its value
+pub record IsGivenBy {S K : Type 0} (bytes : K → Option (List ℕ)) (role : Role) (row : Row) (las : Las) (taken : Flow Point) (w : StageWork S K) (given : Given) : Type 0 where
+  pub fault : given.fault ≡ fault_of role row las taken
+  pub sound : given.fault ≡ None → IsGiven bytes role row las taken w given.views
 
 -- the same work later: over its device, whose count of faults didn't fall, and with the same to write
 pub record IsAfter {S K : Type 0} (faults : StageWork S K → ℕ) (old new : StageWork S K) : Type 0 where
@@ -48,3 +47,9 @@ count_for i s given wrote = record {
   points = up_to_limit (length (points given));
   wrote = wrote;
 }
+
+-- the first fault of a stage, where none was found before
+abbrev pub first_at : Option (ℕ × PointFault) → ℕ → Option PointFault → Option (ℕ × PointFault)
+first_at (Some found) i fault = Some found
+first_at None i (Some fault) = Some (i, fault)
+first_at None i None = None

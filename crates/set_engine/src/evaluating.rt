@@ -6,12 +6,14 @@ ghost use Rattle.pipeline_json.specs.Trees.{IsTree};
 ghost use Rattle.set_engine.specs.Evaluated.{AreFor, AreAfter, AreTold, AreEvaluated, IsUnevaluated};
 ghost use Rattle.stage_kinds.specs.Held.{faults_of};
 ghost use Rattle.stage_options.specs.Shapes.{shapes};
-ghost use Rattle.set_engine.specs.Given.{count_for};
+ghost use Rattle.set_engine.specs.Given.{count_for, first_at};
 
+use crate::given::Given;
 use crate::inputs::take_joined;
 use crate::stages::stage_views;
+use cloud_points::PointFault;
 use file_devices::{FileSink, Source};
-use run_report::{Refusal, Report, StageCount};
+use run_report::{Fault, Refusal, Report, StageCount};
 use stage_kinds::StageWork;
 use stage_options::StageSpec;
 use std::alloc::Global;
@@ -34,11 +36,25 @@ fn stage_count(number: u32, stage: &StageSpec, given: &Views, wrote: Option<u64>
     }
 }
 
+/// The first fault of a stage, where none was found before.
+fn first_at(
+    found: Option<(u32, PointFault)>,
+    number: u32,
+    fault: Option<PointFault>,
+) -> Option<(u32, PointFault)>
+    ensures { result ≡ first_at found number fault }
+{
+    match found {
+        Some(first) => Some(first),
+        None => Some((number, fault?)),
+    }
+}
+
 /// Evaluates the stages of a tree in their order, each once, on all points that it takes, and answers what each gave on. The works
 /// of readers and writers had no point yet; behind it the writers hold the points that they take.
 ///
-/// It stops at the first stage of which a point has a fault, or whose device fails: no later stage is evaluated. `Memory` comes
-/// only where there was none.
+/// A stage of which a point has a fault gives what stands before that point, and later stages are evaluated, too: where all are, the
+/// first such fault is answered. It stops at the first stage whose device fails. `Memory` comes only where there was none.
 pub fn evaluate_stages<S: Source, K: FileSink>(
     alloc: Global,
     works: &mut [StageWork<S, K>],
@@ -55,18 +71,23 @@ pub fn evaluate_stages<S: Source, K: FileSink>(
         return Err(Refusal::Memory);
     };
     let mut report = Report::new();
+    let mut found = None;
     for i in 0..stages.len() {
         let inputs = stages[i].ins.as_slice();
         let Ok(taken) = take_joined(alloc, values.as_mut_slice(), inputs) else {
             return Err(Refusal::Memory);
         };
         match stage_views(alloc, &mut works[i], taken) {
-            Ok(given) => {
-                report.push(stage_count(i as u32, &stages[i], &given, works[i].written()));
-                values.push_reserved(given);
+            Ok(Given { views, fault }) => {
+                report.push(stage_count(i as u32, &stages[i], &views, works[i].written()));
+                values.push_reserved(views);
+                found = first_at(found, i as u32, fault);
             }
             Err(stop) => return Err(stop.at(i as u32)),
         }
     }
-    Ok(report)
+    match found {
+        None => Ok(report),
+        Some((number, fault)) => Err(Refusal::Data(number, Fault::Point(fault))),
+    }
 }

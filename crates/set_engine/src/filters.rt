@@ -1,16 +1,15 @@
 //! Filters on whole views.
 
-ghost use Rattle.std.specs.Prelude.{◌≡◌, None, IfErr, IfOk, OnOk};
-ghost use Rattle.set_engine.specs.Stops.{HasFailed, IsStopAt};
+ghost use Rattle.std.specs.Prelude.{◌≡◌, IfOk};
 ghost use Rattle.set_filters.specs.Kinds as plain_kinds;
 ghost use Rattle.stage_meanings.specs.Filtering.{filtered, filtered_stop};
 ghost use Rattle.stream_filters.specs.Kinds.{filtering_of};
 
-use crate::stop::Stop;
+use crate::given::Given;
 use expr_eval::Bound;
 use set_filters::{Filtered, filter_views};
 use stage_options::BoundFilter;
-use std::alloc::Global;
+use std::alloc::{AllocError, Global};
 use stream_filters::{Condition, Crop, Decimation, Filter, Head};
 use whole_filters::Views;
 
@@ -73,17 +72,12 @@ fn parts_of(filter: Filter) -> Plain
     }
 }
 
-/// What a filter makes of whole views. It stops at the first point that can't be judged.
-pub(crate) fn filter_all(alloc: Global, filter: Filter, views: Views) -> Result<Views, Stop>
-    ensures ok { IfOk result (λ given. given ≡ filtered (filtering_of filter) views) }
-    ensures sound { OnOk result (filtered_stop (filtering_of filter) views ≡ None) }
-    ensures err { IfErr result (IsStopAt (filtered_stop (filtering_of filter) views)) }
-    ensures no_device { IfErr result (HasFailed None ⊥) }
+/// What a filter makes of whole views, up to the first point that can't be judged.
+pub(crate) fn filter_all(alloc: Global, filter: Filter, views: Views) -> Result<Given, AllocError>
+    ensures value { IfOk result (λ given. given.views ≡ filtered (filtering_of filter) views) }
+    ensures fault { IfOk result (λ given. given.fault ≡ filtered_stop (filtering_of filter) views) }
 {
     let Plain { filter, only } = parts_of(filter);
     let Filtered { views, fault } = filter_views(alloc, &filter, &only, views)?;
-    match fault {
-        Some(fault) => Err(Stop::Fault(fault)),
-        None => Ok(views),
-    }
+    Ok(Given { views, fault })
 }

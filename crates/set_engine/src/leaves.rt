@@ -1,22 +1,35 @@
 //! What a leaf gives.
 
-ghost use Rattle.std.specs.Prelude.{◌≡◌, ◌≤◌, true, None, Some, IfErr, IfOk, OnOk};
+ghost use Rattle.std.specs.Prelude.{◌≡◌, ◌≤◌, true, option_map, IfErr, IfOk};
 ghost use Rattle.cloud_points.specs.Marks.{flow_marks};
+ghost use Rattle.cloud_points.specs.declared.faults.StageFault.TheVariants as stage;
 ghost use Rattle.file_devices.specs.Counts.{Rose};
 ghost use Rattle.file_devices.specs.declared.devices.Op.{Op};
-ghost use Rattle.set_engine.specs.Stops.{HasFailed, IsUngiven};
+ghost use Rattle.set_engine.specs.Stops.{HasFailed, IsStopFor};
 
-use crate::stop::{Stop, unless_fault};
-use cloud_points::{MOST_POINTS, Make, Spread, Work};
+use crate::given::Given;
+use crate::stop::Stop;
+use cloud_points::{MOST_POINTS, Make, PointFault, Spread, StageFault, Work};
 use std::alloc::Global;
 use whole_filters::Views;
 
-/// All that a leaf gives, as whole views. It stops where the leaf's end has a fault.
-pub(crate) fn leaf_views<W: Work>(alloc: Global, leaf: &mut W) -> Result<Views, Stop>
+/// The fault of a point; that of a device stops the stage.
+fn point_fault(fault: Option<StageFault>) -> Result<Option<PointFault>, Stop>
+    ensures ok { IfOk result (λ found. fault ≡ option_map stage.Point found) }
+    ensures err { IfErr result (IsStopFor fault) }
+{
+    match fault {
+        None => Ok(None),
+        Some(StageFault::Point(fault)) => Ok(Some(fault)),
+        Some(StageFault::Device(op)) => Err(Stop::Failed(op)),
+    }
+}
+
+/// All that a leaf gives, as whole views, and the fault at its end.
+pub(crate) fn leaf_views<W: Work>(alloc: Global, leaf: &mut W) -> Result<Given, Stop>
     requires { W.leaf leaf.old ≡ true }
-    ensures ok { IfOk result (λ views. W.tells leaf.old ≡ true → W.told leaf.old ≡ flow_marks views) }
-    ensures sound { OnOk result (W.tells leaf.old ≡ true → W.told_fault leaf.old ≡ None) }
-    ensures err { IfErr result (λ stop. W.tells leaf.old ≡ true → IsUngiven (W.told_fault leaf.old) stop) }
+    ensures ok { IfOk result (λ given. W.tells leaf.old ≡ true → W.told leaf.old ≡ flow_marks given.views) }
+    ensures fault { IfOk result (λ given. W.tells leaf.old ≡ true → W.told_fault leaf.old ≡ option_map stage.Point given.fault) }
     ensures failed { IfErr result (HasFailed (W.op leaf.old) (Rose (W.faults leaf.old) (W.faults leaf.new))) }
     ensures leaf { W.leaf leaf.new ≡ true }
     ensures op { W.op leaf.new ≡ W.op leaf.old }
@@ -31,11 +44,11 @@ pub(crate) fn leaf_views<W: Work>(alloc: Global, leaf: &mut W) -> Result<Views, 
             Make::Points => views.push_all(points.as_slice())?,
             Make::EndView => views.end_view()?,
             Make::End(cut, fault) => {
-                unless_fault(fault)?;
+                let fault = point_fault(fault)?;
                 if cut {
                     views.set_cut();
                 }
-                return Ok(views);
+                return Ok(Given { views, fault });
             }
         }
     }

@@ -3,6 +3,7 @@
 
 mod evaluating;
 mod filters;
+mod given;
 mod inputs;
 mod leaves;
 mod stages;

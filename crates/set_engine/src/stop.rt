@@ -1,19 +1,14 @@
 //! Why a stage isn't evaluated to its end.
 
-ghost use Rattle.std.specs.Prelude.{◌≡◌, IfErr, None, OnOk};
-ghost use Rattle.set_engine.specs.Stops.{IsStopFor};
+ghost use Rattle.std.specs.Prelude.{◌≡◌};
 
-use cloud_points::{PointFault, StageFault};
 use file_devices::Op;
-use run_report::{Fault, Place, Refusal};
+use run_report::{Place, Refusal};
 use std::alloc::AllocError;
 
 /// Why a stage isn't evaluated to its end.
 #[derive(Clone, Copy, Debug, PartialEq, Eq)]
 pub(crate) enum Stop {
-    /// A point has this fault.
-    Fault(PointFault),
-
     /// Its device failed in this.
     Failed(Op),
 
@@ -31,18 +26,6 @@ impl From<AllocError> for Stop {
     }
 }
 
-/// A stage with a fault isn't evaluated to its end.
-pub(crate) fn unless_fault(fault: Option<StageFault>) -> Result<(), Stop>
-    ensures ok { OnOk result (fault ≡ None) }
-    ensures err { IfErr result (IsStopFor fault) }
-{
-    match fault {
-        None => Ok(()),
-        Some(StageFault::Point(fault)) => Err(Stop::Fault(fault)),
-        Some(StageFault::Device(op)) => Err(Stop::Failed(op)),
-    }
-}
-
 impl Stop {
     ghost use Rattle.set_engine.specs.Stops.{refusal_at};
 
@@ -51,7 +34,6 @@ impl Stop {
         ensures { result ≡ refusal_at number self }
     {
         match self {
-            Stop::Fault(fault) => Refusal::Data(number, Fault::Point(fault)),
             Stop::Failed(op) => Refusal::Device(Place::Stage(number), op),
             Stop::Memory => Refusal::Memory,
         }

@@ -1,22 +1,35 @@
 //! Writers on whole views.
 
 ghost use Rattle.std.specs.Prelude.{◌≡◌, ◌≤◌, ◌+◌, ◌++◌, List, [], length, true, None, Some, IfErr, IfOk, OnOk};
-ghost use Rattle.cloud_points.specs.Flows.{points};
+ghost use Rattle.cloud_points.specs.Flows.{points, upto};
 ghost use Rattle.cloud_points.specs.Queue.{up_to_limit};
 ghost use Rattle.cloud_points.specs.declared.point.Point as point_type;
 ghost use Rattle.file_devices.specs.Counts.{Rose};
-ghost use Rattle.file_devices.specs.declared.devices.Op.{Op};
 ghost use Rattle.set_engine.specs.Stops.{HasFailed, IsStopAt, IsStopBehind};
+ghost use Rattle.file_devices.specs.declared.devices.Op.{Op};
 ghost use Rattle.stage_kinds.specs.Files.{sink_of};
 ghost use Rattle.stage_kinds.specs.Stages.{holds_chosen, why_not, writes_of, writing_filter};
 ghost use Rattle.stage_meanings.specs.Filtering.{filtered_stop};
 ghost use Rattle.stage_meanings.specs.Filters.{first_from};
 
+use crate::given::Given;
 use crate::stop::Stop;
 use cloud_points::Point;
 use file_devices::{FileSink, Op};
 use stage_kinds::{TakeErr, WriterStage};
+use stage_meanings::Reason;
+use std::alloc::{AllocError, Global};
 use whole_filters::Views;
+
+/// Why a writer doesn't take all points.
+#[derive(Clone, Copy, Debug, PartialEq, Eq)]
+enum WriteErr {
+    /// It doesn't take the point with this number, counted from 0.
+    Refused(u64, Reason),
+
+    /// Its sink failed.
+    Failed,
+}
 
 /// Has a writer take the points of a view, behind so many others. It answers how many stand before the next one; the numbers stand
 /// at the greatest u64. It stops at the first point that the writer doesn't take.
@@ -24,34 +37,34 @@ fn write_view<K: FileSink>(
     writer: &mut WriterStage<K>,
     view: &[Point],
     before: u64,
-) -> Result<u64, Stop>
+) -> Result<u64, WriteErr>
     ensures ok { IfOk result (λ next. next ≡ up_to_limit (before + length view.now)) }
     ensures sound { OnOk result (first_from (why_not (writes_of writer.old)) 0 view.now ≡ None) }
     ensures err { IfErr result (IsStopBehind before (first_from (why_not (writes_of writer.old)) 0 view.now)) }
     ensures form { writes_of writer.new ≡ writes_of writer.old }
     ensures holds { OnOk result ((earlier : List point_type.Point)
         → holds_chosen K.bytes writer.old earlier ≡ true → holds_chosen K.bytes writer.new (earlier ++ view.now) ≡ true) }
-    ensures failed { IfErr result (HasFailed (Some Op.Write) (Rose (K.faults (sink_of writer.old.file)) (K.faults (sink_of writer.new.file)))) }
+    ensures failed { IfErr result (λ e. e ≡ WriteErr.Failed → Rose (K.faults (sink_of writer.old.file)) (K.faults (sink_of writer.new.file))) }
     ensures later { K.faults (sink_of writer.old.file) ≤ K.faults (sink_of writer.new.file) }
 {
     let mut number = before;
     for p in view {
         match writer.take(p) {
             Ok(()) => number = number.saturating_add(1),
-            Err(TakeErr::Refused(reason)) => return Err(Stop::Fault(reason.at(number))),
-            Err(TakeErr::Failed) => return Err(Stop::Failed(Op::Write)),
+            Err(TakeErr::Refused(reason)) => return Err(WriteErr::Refused(number, reason)),
+            Err(TakeErr::Failed) => return Err(WriteErr::Failed),
         }
     }
     Ok(number)
 }
 
 /// Has a writer take all points of whole views. It stops at the first one that the writer doesn't take.
-pub(crate) fn write_all<K: FileSink>(writer: &mut WriterStage<K>, views: &Views) -> Result<(), Stop>
+fn write_all<K: FileSink>(writer: &mut WriterStage<K>, views: &Views) -> Result<(), WriteErr>
     ensures sound { OnOk result (filtered_stop (writing_filter (writes_of writer.old)) views.now ≡ None) }
     ensures err { IfErr result (IsStopAt (filtered_stop (writing_filter (writes_of writer.old)) views.now)) }
     ensures form { writes_of writer.new ≡ writes_of writer.old }
     ensures holds { OnOk result (holds_chosen K.bytes writer.old [] ≡ true → holds_chosen K.bytes writer.new (points views.now) ≡ true) }
-    ensures failed { IfErr result (HasFailed (Some Op.Write) (Rose (K.faults (sink_of writer.old.file)) (K.faults (sink_of writer.new.file)))) }
+    ensures failed { IfErr result (λ e. e ≡ WriteErr.Failed → Rose (K.faults (sink_of writer.old.file)) (K.faults (sink_of writer.new.file))) }
     ensures later { K.faults (sink_of writer.old.file) ≤ K.faults (sink_of writer.new.file) }
 {
     let mut number = 0;
@@ -60,4 +73,57 @@ pub(crate) fn write_all<K: FileSink>(writer: &mut WriterStage<K>, views: &Views)
     }
     write_view(writer, views.view(views.views()), number)?;
     Ok(())
+}
+
+/// What stands before the point with this number, cut off there.
+fn before_point(alloc: Global, views: &Views, number: u64) -> Result<Views, AllocError>
+    ensures { IfOk result (λ given. given ≡ upto views.now number) }
+{
+    let mut given = Views::none(alloc);
+    let mut left = number;
+    for v in 0..views.views() {
+        let view = views.view(v);
+        let count = view.len() as u64;
+        if left < count {
+            given.push_all(&view[..left as usize])?;
+            given.set_cut();
+            return Ok(given);
+        }
+        given.push_all(view)?;
+        given.end_view()?;
+        left -= count;
+    }
+    let view = views.view(views.views());
+    let count = left.min(view.len() as u64);
+    given.push_all(&view[..count as usize])?;
+    given.set_cut();
+    Ok(given)
+}
+
+/// Has a writer take all points of whole views, up to the first one that it doesn't take. It gives those points on.
+pub(crate) fn written_views<K: FileSink>(
+    alloc: Global,
+    writer: &mut WriterStage<K>,
+    views: Views,
+) -> Result<Given, Stop>
+    ensures fault { IfOk result (λ given. given.fault ≡ filtered_stop (writing_filter (writes_of writer.old)) views) }
+    ensures all { IfOk result (λ given. given.fault ≡ None → given.views ≡ views) }
+    ensures form { writes_of writer.new ≡ writes_of writer.old }
+    ensures holds { IfOk result (λ given. given.fault ≡ None
+        → holds_chosen K.bytes writer.old [] ≡ true → holds_chosen K.bytes writer.new (points views) ≡ true) }
+    ensures failed { IfErr result (HasFailed (Some Op.Write) (Rose (K.faults (sink_of writer.old.file)) (K.faults (sink_of writer.new.file)))) }
+    ensures later { K.faults (sink_of writer.old.file) ≤ K.faults (sink_of writer.new.file) }
+{
+    match write_all(writer, &views) {
+        Ok(()) => {
+            let fault = None;
+            Ok(Given { views, fault })
+        }
+        Err(WriteErr::Refused(number, reason)) => {
+            let fault = Some(reason.at(number));
+            let views = before_point(alloc, &views, number)?;
+            Ok(Given { views, fault })
+        }
+        Err(WriteErr::Failed) => Err(Stop::Failed(Op::Write)),
+    }
 }

@@ -9,8 +9,8 @@ returns-in-Err-Refused-clause-err g c =
     let i = c.loop-p.p-index in
     let now = c.loop-p.invariant in
     let lt : i < length c.args.view.now = omega arith in
-    refused_here (writes_of c.args.writer.now) (writes_of c.loop-p.writer) c.args.view.now i c.args.before c.loop-p.number _ c.in-Err-Refused.field-0 c.in-Err-Refused.reason c.at.result
-    lt now.number now.form now.none c.in-Err-Refused.ensures.err c.in-Err-Refused.field-0-is (rw c.in-Err-Refused.field-0-is at c.at.ensures)
+    rw c.in-Err-Refused.field-0-is (refused_here (writes_of c.args.writer.now) (writes_of c.loop-p.writer) c.args.view.now i c.args.before c.loop-p.number _ c.in-Err-Refused.field-0 c.in-Err-Refused.reason
+    lt now.number now.form now.none c.in-Err-Refused.ensures.err c.in-Err-Refused.field-0-is)
 
 pub loop-p-preserved : goal.loop-p-preserved
 loop-p-preserved g c =
