@@ -37,11 +37,10 @@ pub(crate) fn stage_views<S: Source, K: FileSink>(
     match work {
         StageWork::Reader(_) | StageWork::Views(_) => leaf_views(alloc, work),
         StageWork::Filter(filter) => Ok(filter_all(alloc, replace(filter, Filter::Merge), taken)?),
-        StageWork::Collector(collector) => {
-            let views = gather(alloc, taken, collector.gathering())?;
-            let fault = None;
-            Ok(Given { views, fault })
-        }
+        StageWork::Collector(collector) => Ok(Given {
+            views: gather(alloc, taken, collector.gathering())?,
+            fault: None,
+        }),
         StageWork::Writer(writer) => written_views(alloc, writer, taken),
     }
 }

@@ -115,15 +115,11 @@ pub(crate) fn written_views<K: FileSink>(
     ensures later { K.faults (sink_of writer.old.file) ≤ K.faults (sink_of writer.new.file) }
 {
     match write_all(writer, &views) {
-        Ok(()) => {
-            let fault = None;
-            Ok(Given { views, fault })
-        }
-        Err(WriteErr::Refused(number, reason)) => {
-            let fault = Some(reason.at(number));
-            let views = before_point(alloc, &views, number)?;
-            Ok(Given { views, fault })
-        }
+        Ok(()) => Ok(Given { views, fault: None }),
+        Err(WriteErr::Refused(number, reason)) => Ok(Given {
+            views: before_point(alloc, &views, number)?,
+            fault: Some(reason.at(number)),
+        }),
         Err(WriteErr::Failed) => Err(Stop::Failed(Op::Write)),
     }
 }
