@@ -1,5 +1,5 @@
 -- The last fields of a header, from the start of the waveform packets to the counts by return, read from its bytes.
-use Rattle.std.proofs.Common.{◌≡◌, ℕ, List, ◌++◌, drop, refl, ap, sym, ◌∙◌, append_assoc, w32, w64}
+use Rattle.std.proofs.Common.{◌≡◌, ℕ, List, [], ◌++◌, drop, replicate, refl, ap, sym, ◌∙◌, append_assoc, w32, w64}
 use Rattle.std.specs.Int.{to_le_bytes}
 use Rattle.std.specs.List.{flat_map}
 use Rattle.las_header.specs.declared.block.Header.{Header}
@@ -23,6 +23,27 @@ pieces : (h : Header) (rest : List ℕ) → count_part h ++ rest ≡ to_le_bytes
     ++ (to_le_bytes w64 h.count ++ (flat_map (to_le_bytes w64) h.returns ++ rest))))
 unfolding count_part
 pieces h rest = flat (to_le_bytes w64 h.waveform) (to_le_bytes w64 h.evlrs_at) (to_le_bytes w32 h.evlrs) (to_le_bytes w64 h.count) (flat_map (to_le_bytes w64) h.returns) rest
+
+-- the part from the start of the first EVLR on
+late_part : Header → List ℕ
+late_part h = to_le_bytes w64 h.evlrs_at ++ (to_le_bytes w32 h.evlrs ++ (to_le_bytes w64 h.count ++ (flat_map (to_le_bytes w64) h.returns ++ [])))
+
+-- it is so many zero bytes where these fields are 0
+late_zero : (h : Header) → h.evlrs_at ≡ 0 → h.evlrs ≡ 0 → h.count ≡ 0 → h.returns ≡ replicate 15 0 → late_part h ≡ replicate 140 0
+unfolding late_part
+late_zero h evlrs_at evlrs count returns = λ i. to_le_bytes w64 (evlrs_at i) ++ (to_le_bytes w32 (evlrs i) ++ (to_le_bytes w64 (count i) ++ (flat_map (to_le_bytes w64) (returns i) ++ [])))
+
+late_behind : (h : Header) (bytes : List ℕ) → drop 227 bytes ≡ count_part h ++ [] → drop 227 bytes ≡ to_le_bytes w64 h.waveform ++ late_part h
+unfolding late_part
+late_behind h bytes is = is ∙ pieces h []
+
+-- what stands behind a block that ends with the bounds, and behind one that ends with the start of the waveform packets
+pub behind_bounds : (h : Header) (bytes : List ℕ) → drop 227 bytes ≡ count_part h ++ [] → h.waveform ≡ 0 → h.evlrs_at ≡ 0 → h.evlrs ≡ 0 → h.count ≡ 0 → h.returns ≡ replicate 15 0 → drop 227 bytes ≡ replicate 148 0
+behind_bounds h bytes is waveform evlrs_at evlrs count returns = late_behind h bytes is ∙ (λ i. to_le_bytes w64 (waveform i) ++ late_zero h evlrs_at evlrs count returns i)
+
+pub behind_waveform : (h : Header) (bytes : List ℕ) → drop 227 bytes ≡ count_part h ++ [] → h.evlrs_at ≡ 0 → h.evlrs ≡ 0 → h.count ≡ 0 → h.returns ≡ replicate 15 0 → drop 235 bytes ≡ replicate 140 0
+behind_waveform h bytes is evlrs_at evlrs count returns =
+    behind 227 8 bytes (to_le_bytes w64 h.waveform) (late_part h) (late_behind h bytes is) refl ∙ late_zero h evlrs_at evlrs count returns
 
 pub count_fields : (h : Header) (bytes rest : List ℕ) → HasCountSizes h → drop 227 bytes ≡ count_part h ++ rest → CountFields h bytes
 count_fields h bytes rest sizes is =

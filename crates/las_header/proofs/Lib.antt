@@ -5,6 +5,9 @@ pub mod ShortWords
 pub mod Words
 pub mod GridPart
 pub mod CountPart
+pub mod Padded
 pub mod Standing
 pub mod ReadBack
+pub mod ReadBlock
+pub mod Fronts
 pub mod ScaleLaw

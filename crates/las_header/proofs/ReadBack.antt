@@ -1,13 +1,16 @@
 -- Bytes that stand for a header without a fault are read as it.
-use Rattle.std.proofs.Common.{◌≡◌, ℕ, ◌<◌, ◌==◌, ◌&&◌, ◌||◌, true, nat_lt, nat_le, List, take, codes, Some, Ok, ap, ◌∙◌, arith}
+use Rattle.std.proofs.Common.{◌≡◌, ℕ, ◌<◌, ◌==◌, ◌&&◌, true, nat_lt, nat_le, List, length, take, codes, Some, Ok, sym, ap, ◌∙◌, arith}
+use Rattle.std.proofs.Math.Seq.{take-length}
 use Rattle.std.specs.Str.{bytes_eq}
 use Rattle.std.proofs.lemmas.Bool.{le-leb}
 use Rattle.las_header.specs.declared.block.Header.{Header}
 use Rattle.las_header.specs.declared.form.Format.{Format}
-use Rattle.las_header.specs.declared.faults.HeaderFault.TheVariants.{NotLas, VersionNotRead, HeaderSize, Compressed, RecordTooShort, PointsInHeader}
+use Rattle.las_header.specs.declared.faults.HeaderFault.TheVariants.{NotLas, VersionNotRead, HeaderSize, Compressed, FormatNotRead, RecordTooShort, PointsInHeader}
 use Rattle.byte_numbers.specs.Bytes.{number_at}
 use Rattle.las_header.specs.Formats.{format_of, format_size}
-use Rattle.las_header.specs.Headers.{block_size, has_signature, has_version, has_block, holds_fields, has_points_behind, format_known, record_format, format_in, header_with, header_of}
+use Rattle.las_header.specs.Headers.{minor_of, has_signature, has_version, has_block, block_of, holds_fields, has_points_behind, format_known, record_format, header_with, header_in, header_of}
+use Rattle.las_header.specs.Versions.{block_size, is_version, takes_format}
+use Rattle.las_header.proofs.Standing.{block_is_long}
 use Rattle.las_header.specs.Standing.{Stands, HasNoFault}
 use Rattle.las_header.specs.Steps.{◌>>=◌, wants}
 
@@ -39,25 +42,31 @@ record_again : (h : Header) (bytes : List ℕ) → Stands bytes h → Deciding h
 unfolding record_format
 record_again h bytes s d n =
     let low : nat_lt (number_at 104 1 bytes) 128 ≡ true = le-leb _ 128 (plain (number_at 104 1 bytes) h.format s.format) in
+    let takes : takes_format (minor_of bytes) h.format ≡ true = ap (λ m. takes_format m h.format) d.minor ∙ n.format in
     let long : holds_fields h.format bytes ≡ true = ap (nat_le (format_size h.format)) d.record_length ∙ le-leb (format_size h.format) h.record_length n.long in
     let behind : has_points_behind bytes ≡ true = (λ i. nat_le (d.header_size i) (d.points_at i)) ∙ le-leb h.header_size h.points_at n.behind in
-    (λ i. wants (low i) Compressed >>= (λ _. format_known (s.format i) >>= (λ format. wants (holds_fields format bytes) RecordTooShort >>= (λ _. wants (has_points_behind bytes) PointsInHeader >>= (λ _. Ok format)))))
-    ∙ (λ i. wants (long i) RecordTooShort >>= (λ _. wants (behind i) PointsInHeader >>= (λ _. Ok h.format)))
+    (λ i. wants (low i) Compressed >>= (λ _. format_known (s.format i) >>= (λ format. wants (takes_format (minor_of bytes) format) FormatNotRead >>= (λ _. wants (holds_fields format bytes) RecordTooShort >>= (λ _. wants (has_points_behind bytes) PointsInHeader >>= (λ _. Ok format))))))
+    ∙ (λ i. wants (takes i) FormatNotRead >>= (λ _. wants (long i) RecordTooShort >>= (λ _. wants (behind i) PointsInHeader >>= (λ _. Ok h.format))))
 
-format_again : (h : Header) (bytes : List ℕ) → Stands bytes h → Deciding h bytes → HasNoFault h → format_in bytes ≡ Ok h.format
-unfolding format_in
-format_again h bytes s d n =
-    let signature : has_signature bytes ≡ true = ap (λ l. bytes_eq l (codes "LASF")) (d.signature ∙ n.signature) in
-    let major = d.major ∙ n.major in
-    let minor = d.minor ∙ n.minor in
-    let version : has_version bytes ≡ true = λ i. nat_lt (s.size i) 26 || ((major i == 1) && (minor i == 4)) in
-    let block : has_block bytes ≡ true = (λ i. nat_le block_size (s.size i) && nat_le block_size (d.header_size i)) ∙ le-leb block_size h.header_size n.block in
-    let format = record_again h bytes s d n in
-    λ i. wants (signature i) NotLas >>= (λ _. wants (version i) VersionNotRead >>= (λ _. wants (block i) HeaderSize >>= (λ _. format i)))
+block_again : (h : Header) (bytes : List ℕ) → Stands bytes h → Deciding h bytes → HasNoFault h → block_of bytes ≡ Ok bytes
+unfolding block_of
+block_again h bytes s d n =
+    let signature : has_signature bytes ≡ true = ap (λ l. bytes_eq (codes "LASF") l) (d.signature ∙ n.signature) in
+    let size : block_size (minor_of bytes) ≡ length bytes = ap block_size d.minor ∙ sym s.size in
+    let whole : take (block_size (minor_of bytes)) bytes ≡ bytes = ap (λ k. take k bytes) size ∙ take-length bytes in
+    let long : nat_le 26 (length bytes) ≡ true = le-leb 26 (length bytes) (let b = block_is_long h.minor n.version in omega (arith, b, s.size)) in
+    let version : has_version bytes ≡ true = (λ i. ((d.major ∙ n.major) i == 1) && is_version (d.minor i)) ∙ n.version in
+    let all : nat_le (block_size (minor_of bytes)) (length bytes) ≡ true = le-leb (block_size (minor_of bytes)) (length bytes) (omega (arith, size)) in
+    let given : nat_le (block_size (minor_of bytes)) (number_at 94 2 bytes) ≡ true = (λ i. nat_le (block_size (d.minor i)) (d.header_size i)) ∙ le-leb (block_size h.minor) h.header_size n.block in
+    let block : has_block bytes ≡ true = λ i. all i && given i in
+    (λ i. wants (signature i) NotLas >>= (λ _. wants (long i) HeaderSize >>= (λ _. wants (version i) VersionNotRead >>= (λ _. wants (block i) HeaderSize >>= (λ _. Ok (take (block_size (minor_of bytes)) bytes))))))
+    ∙ ap (λ b. Ok b) whole
 
 pub is_read_back : (h : Header) (bytes : List ℕ) → Stands bytes h → HasNoFault h → header_of bytes ≡ Ok h
-unfolding header_of
+unfolding header_in
 is_read_back h bytes s n =
-    let format = format_again h bytes s (deciding h bytes s.fields) n in
-    (λ i. format i >>= (λ f. s.scale i >>= (λ scale. s.offset i >>= (λ offset. Ok (header_with f scale offset bytes)))))
+    let d = deciding h bytes s.fields in
+    let format = record_again h bytes s d n in
+    ap (λ r. r >>= header_in) (block_again h bytes s d n)
+    ∙ (λ i. format i >>= (λ f. s.scale i >>= (λ scale. s.offset i >>= (λ offset. Ok (header_with f scale offset bytes)))))
     ∙ ap (λ x. Ok x) s.fields

@@ -1,5 +1,5 @@
 -- The header that the first bytes of a file stand for (LAS 1.4 R15, "Public Header Block").
-use Rattle.std.specs.Prelude.{ℕ, ℤ, Bool, ◌&&◌, ◌||◌, ◌==◌, nat_lt, nat_le, List, [], ◌∷◌, take, length, codes, Option, Some, None, Result, Ok, Err}
+use Rattle.std.specs.Prelude.{ℕ, ℤ, Bool, ◌&&◌, ◌==◌, nat_lt, nat_le, List, [], ◌∷◌, take, length, codes, Option, Some, None, Result, Ok, Err}
 use Rattle.std.specs.Str.{bytes_eq}
 use Rattle.decimal_coords.specs.declared.grid.Scale.{Scale}
 use Rattle.ieee_words.specs.declared.decimals.Dec.{Dec}
@@ -17,22 +17,32 @@ use Rattle.byte_numbers.specs.Bytes.{number_at, numbers_at, piece}
 use Rattle.las_header.specs.Formats.{format_of, format_size}
 use Rattle.las_header.specs.ScaleWords.{scale_read}
 use Rattle.las_header.specs.Steps.{◌>>=◌, wants}
-
--- the bytes of the block
-abbrev pub block_size : ℕ
-block_size = 375
+use Rattle.las_header.specs.Versions.{is_version, block_size, takes_format}
 
 -- the file signature
 abbrev pub has_signature : List ℕ → Bool
-has_signature bytes = bytes_eq (take 4 bytes) (codes "LASF")
+has_signature bytes = bytes_eq (codes "LASF") (take 4 bytes)
 
--- a file that has a version has version 1.4
+abbrev pub minor_of : List ℕ → ℕ
+minor_of bytes = number_at 25 1 bytes
+
 abbrev pub has_version : List ℕ → Bool
-has_version bytes = nat_lt (length bytes) 26 || ((number_at 24 1 bytes == 1) && (number_at 25 1 bytes == 4))
+has_version bytes = (number_at 24 1 bytes == 1) && is_version (minor_of bytes)
 
--- the block is there, and its size is given as no less
+-- the block of its version is there, and its size is given as no less
 abbrev pub has_block : List ℕ → Bool
-has_block bytes = nat_le block_size (length bytes) && nat_le block_size (number_at 94 2 bytes)
+has_block bytes = nat_le (block_size (minor_of bytes)) (length bytes) && nat_le (block_size (minor_of bytes)) (number_at 94 2 bytes)
+
+-- the header block in front of a file, or the first fault of what stands before its format; the version ends at byte 26
+unfoldable pub block_of : List ℕ → Result (List ℕ) HeaderFault
+block_of bytes = do
+  _ ← wants (has_signature bytes) NotLas
+  _ ← wants (nat_le 26 (length bytes)) HeaderSize
+  _ ← wants (has_version bytes) VersionNotRead
+  _ ← wants (has_block bytes) HeaderSize
+  Ok (take (block_size (minor_of bytes)) bytes)
+
+-- ---- what a block says; a field that ends behind it is 0, as `number_at` has it
 
 abbrev pub format_known : Option Format → Result Format HeaderFault
 format_known (Some format) = Ok format
@@ -48,20 +58,13 @@ has_points_behind bytes = nat_le (number_at 94 2 bytes) (number_at 96 4 bytes)
 
 -- the format of the records, or the first fault of what the block says of them
 unfoldable pub record_format : List ℕ → Result Format HeaderFault
-record_format bytes = do
-  _ ← wants (nat_lt (number_at 104 1 bytes) 128) Compressed
-  format ← format_known (format_of (number_at 104 1 bytes))
-  _ ← wants (holds_fields format bytes) RecordTooShort
-  _ ← wants (has_points_behind bytes) PointsInHeader
+record_format block = do
+  _ ← wants (nat_lt (number_at 104 1 block) 128) Compressed
+  format ← format_known (format_of (number_at 104 1 block))
+  _ ← wants (takes_format (minor_of block) format) FormatNotRead
+  _ ← wants (holds_fields format block) RecordTooShort
+  _ ← wants (has_points_behind block) PointsInHeader
   Ok format
-
--- the format of the records, or the first fault before the numbers of the grid
-unfoldable pub format_in : List ℕ → Result Format HeaderFault
-format_in bytes = do
-  _ ← wants (has_signature bytes) NotLas
-  _ ← wants (has_version bytes) VersionNotRead
-  _ ← wants (has_block bytes) HeaderSize
-  record_format bytes
 
 -- the scale of an axis
 abbrev pub scale_on : Axis → Result Scale ScaleFault → Result Scale HeaderFault
@@ -118,10 +121,14 @@ header_with format scale offset bytes = record {
   returns = numbers_at 255 15 8 bytes;
 }
 
--- the header, or the first fault
-unfoldable pub header_of : List ℕ → Result Header HeaderFault
-header_of bytes = do
-  format ← format_in bytes
-  scale ← scales_of bytes
-  offset ← offsets_of bytes
-  Ok (header_with format scale offset bytes)
+-- the header that a block stands for, or its first fault
+unfoldable pub header_in : List ℕ → Result Header HeaderFault
+header_in block = do
+  format ← record_format block
+  scale ← scales_of block
+  offset ← offsets_of block
+  Ok (header_with format scale offset block)
+
+-- the header of a file, or its first fault
+abbrev pub header_of : List ℕ → Result Header HeaderFault
+header_of bytes = block_of bytes >>= header_in

@@ -1,12 +1,13 @@
 pub mod Formats
+pub mod Versions
 pub mod ScaleWords
 pub mod Steps
 pub mod Headers
 pub mod Offsets
-pub mod Sound
 pub mod Counts
 pub mod Written
 pub mod Sizes
 pub mod WordOffsets
 pub mod Standing
+pub mod Sound
 pub mod ScaleLaw

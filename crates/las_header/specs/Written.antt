@@ -1,11 +1,12 @@
 -- The bytes of a header, its fields in order (LAS 1.4 R15, "Public Header Block").
-use Rattle.std.specs.Prelude.{ℕ, ℤ, List, [], ◌∷◌, ◌++◌}
+use Rattle.std.specs.Prelude.{ℕ, ℤ, List, [], ◌∷◌, ◌++◌, take}
 use Rattle.std.specs.List.{flat_map}
 use Rattle.std.specs.Int.{w16, w32, w64, to_le_bytes}
 use Rattle.decimal_coords.specs.declared.grid.Scale.{Scale}
 use Rattle.ieee_words.specs.NearWord.{near_word}
 use Rattle.las_header.specs.declared.block.Header.{Header}
 use Rattle.las_header.specs.Formats.{format_number}
+use Rattle.las_header.specs.Versions.{block_size}
 
 -- the word nearest to a number of nanounits
 abbrev pub nano_bytes : ℤ → List ℕ
@@ -34,5 +35,10 @@ unfoldable pub count_part : Header → List ℕ
 count_part h = to_le_bytes w64 h.waveform ++ to_le_bytes w64 h.evlrs_at ++ to_le_bytes w32 h.evlrs ++ to_le_bytes w64 h.count
     ++ flat_map (to_le_bytes w64) h.returns
 
-abbrev pub header_bytes : Header → List ℕ
-header_bytes h = file_part h ++ record_part h ++ grid_part h ++ count_part h
+-- all fields of LAS 1.4, one after another
+abbrev pub header_fields : Header → List ℕ
+header_fields h = file_part h ++ record_part h ++ grid_part h ++ count_part h
+
+-- the header block: those fields that end within the block of its version
+abbrev pub header_block : Header → List ℕ
+header_block h = take (block_size h.minor) (header_fields h)

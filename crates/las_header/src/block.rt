@@ -6,10 +6,8 @@ ghost use Rattle.las_header.specs.Counts.{points_in};
 use crate::Format;
 use decimal_coords::Scale;
 
-/// The bytes of the public header block of LAS 1.4.
-pub const BLOCK_SIZE: usize = 375;
-
-/// The public header block, one field for each of its fields and in their order.
+/// The public header block, one field for each of its fields and in their order. A field that ends behind the block of its version
+/// is 0.
 #[derive(Clone, Copy, Debug, PartialEq, Eq)]
 pub struct Header {
     /// File Signature, `LASF`.

@@ -17,17 +17,17 @@ pub enum HeaderFault {
     /// The file doesn't begin with the signature `LASF`.
     #[error("the file doesn't begin with LASF")]
     NotLas,
-    /// The file has a version, and it isn't 1.4.
-    #[error("the version isn't 1.4")]
+    /// The file has a version, and it isn't 1.2, 1.3 or 1.4.
+    #[error("the version isn't 1.2, 1.3 or 1.4")]
     VersionNotRead,
-    /// The file ends within the 375 bytes of the block, or the block's size is given as less.
-    #[error("the header block has fewer than 375 bytes")]
+    /// The file ends within the block of its version, which has 227, 235 or 375 bytes, or the block's size is given as less.
+    #[error("the header block has fewer bytes than that of its version")]
     HeaderSize,
     /// The format byte is 128 or more.
     #[error("the points are compressed")]
     Compressed,
-    /// The format byte isn't 0, 1, 2, 3, 6, 7 or 8.
-    #[error("the point format isn't 0, 1, 2, 3, 6, 7 or 8")]
+    /// The format byte isn't 0, 1, 2 or 3, nor, in LAS 1.4, 6, 7 or 8.
+    #[error("the point format isn't 0 to 3, nor 6 to 8 of LAS 1.4")]
     FormatNotRead,
     /// A record has fewer bytes than the fields of its format.
     #[error("the point records are shorter than their format")]

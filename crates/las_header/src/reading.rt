@@ -1,42 +1,51 @@
 //! Reads the header.
 
-ghost use Rattle.std.specs.Prelude.{◌≡◌, ◌+◌, ◌≤◌, length, Some, IfOk, OnOk};
+ghost use Rattle.std.specs.Prelude.{◌≡◌, ◌+◌, ◌-◌, ◌≤◌, ◌++◌, true, length, take, replicate, Some, IfOk, IfErr, OnOk};
 ghost use Rattle.ieee_words.specs.DecimalOfWord.{decimal_of_word};
 ghost use Rattle.byte_numbers.specs.Bytes.{number_at, numbers_at};
-ghost use Rattle.las_header.specs.Headers.{block_size, has_signature, has_version, has_block, holds_fields, has_points_behind, record_format, format_in, scale_on, scales_of, offset_on, offsets_of, header_with, header_of};
+ghost use Rattle.las_header.specs.Headers.{minor_of, has_signature, has_version, has_block, block_of, holds_fields, has_points_behind, record_format, scale_on, scales_of, offset_on, offsets_of, header_with, header_of};
 ghost use Rattle.las_header.specs.Formats.{format_of, format_size};
 ghost use Rattle.las_header.specs.Offsets.{IsOffset};
 ghost use Rattle.las_header.specs.ScaleWords.{scale_read};
-ghost use Rattle.las_header.specs.Sound.{IsSound};
+ghost use Rattle.las_header.specs.Sound.{HasItsBlock, IsSound};
 ghost use Rattle.las_header.specs.Standing.{Stands};
+ghost use Rattle.las_header.specs.Versions.{block_size, is_version, takes_format};
 ghost use Rattle.std.specs.List.{All};
 
-use crate::{Axis, BLOCK_SIZE, Format, Header, HeaderFault, ScaleFault, scale_of_word};
+use crate::{
+    Axis, Format, Header, HeaderFault, LONGEST_BLOCK, ScaleFault, block_size, is_version,
+    scale_of_word, takes_format,
+};
 use byte_numbers::{piece_at, u8_at, u16_at, u32_at, u64_at};
 use decimal_coords::Scale;
 use ieee_words::decimal;
 
 fn has_version(bytes: &[u8]) -> bool
-    ensures { result ≡ has_version bytes.now }
+    requires { 26 ≤ length bytes.now }
+    ensures value { result ≡ has_version bytes.now }
+    ensures known { result ≡ true → 227 ≤ block_size (minor_of bytes.now) }
 {
-    bytes.len() < 26 || (u8_at(bytes, 24) == 1 && u8_at(bytes, 25) == 4)
+    u8_at(bytes, 24) == 1 && is_version(u8_at(bytes, 25))
 }
 
 fn has_block(bytes: &[u8]) -> bool
+    requires long { 26 ≤ length bytes.now }
+    requires known { 227 ≤ block_size (minor_of bytes.now) }
     ensures { result ≡ has_block bytes.now }
 {
-    bytes.len() >= BLOCK_SIZE && u16_at(bytes, 94) as usize >= BLOCK_SIZE
+    let size = block_size(u8_at(bytes, 25));
+    bytes.len() >= size && u16_at(bytes, 94) as usize >= size
 }
 
 fn holds_fields(bytes: &[u8], format: Format) -> bool
-    requires { block_size ≤ length bytes.now }
+    requires { LONGEST_BLOCK ≤ length bytes.now }
     ensures { result ≡ holds_fields format bytes.now }
 {
     u16_at(bytes, 105) >= format.size()
 }
 
 fn has_points_behind(bytes: &[u8]) -> bool
-    requires { block_size ≤ length bytes.now }
+    requires { LONGEST_BLOCK ≤ length bytes.now }
     ensures { result ≡ has_points_behind bytes.now }
 {
     u32_at(bytes, 96) >= u16_at(bytes, 94) as u32
@@ -44,9 +53,10 @@ fn has_points_behind(bytes: &[u8]) -> bool
 
 #[tactic(auto, unfolding(crate::specs::Headers::record_format))]
 fn record_format(bytes: &[u8]) -> Result<Format, HeaderFault>
-    requires { block_size ≤ length bytes.now }
+    requires { LONGEST_BLOCK ≤ length bytes.now }
     ensures value { result ≡ record_format bytes.now }
     ensures known { IfOk result (λ format. format_of (number_at 104 1 bytes.now) ≡ Some format) }
+    ensures takes { IfOk result (λ format. takes_format (minor_of bytes.now) format ≡ true) }
     ensures long { IfOk result (λ format. format_size format ≤ number_at 105 2 bytes.now) }
     ensures behind { OnOk result (number_at 94 2 bytes.now ≤ number_at 96 4 bytes.now) }
 {
@@ -57,6 +67,9 @@ fn record_format(bytes: &[u8]) -> Result<Format, HeaderFault>
     let Some(format) = Format::of_number(number) else {
         return Err(HeaderFault::FormatNotRead);
     };
+    if !takes_format(u8_at(bytes, 25), format) {
+        return Err(HeaderFault::FormatNotRead);
+    }
     if !holds_fields(bytes, format) {
         return Err(HeaderFault::RecordTooShort);
     }
@@ -66,17 +79,32 @@ fn record_format(bytes: &[u8]) -> Result<Format, HeaderFault>
     Ok(format)
 }
 
-#[tactic(auto, unfolding(crate::specs::Headers::format_in))]
-fn format_in(bytes: &[u8]) -> Result<Format, HeaderFault>
-    ensures value { result ≡ format_in bytes.now }
-    ensures block { OnOk result (block_size ≤ length bytes.now) }
-    ensures size { OnOk result (block_size ≤ number_at 94 2 bytes.now) }
-    ensures known { IfOk result (λ format. format_of (number_at 104 1 bytes.now) ≡ Some format) }
-    ensures long { IfOk result (λ format. format_size format ≤ number_at 105 2 bytes.now) }
-    ensures behind { OnOk result (number_at 94 2 bytes.now ≤ number_at 96 4 bytes.now) }
+/// A block, filled with zero bytes to the size of the longest.
+fn padded(front: &[u8]) -> [u8; LONGEST_BLOCK]
+    requires { length front.now ≤ LONGEST_BLOCK }
+    ensures { result ≡ front.now ++ replicate (LONGEST_BLOCK - length front.now) 0 }
+{
+    let mut block = [0; LONGEST_BLOCK];
+    block[..front.len()].copy_from_slice(front);
+    block
+}
+
+/// The header block in front of a file, filled with zero bytes to the size of the longest.
+#[tactic(auto, unfolding(crate::specs::Headers::block_of))]
+fn block_of(bytes: &[u8]) -> Result<[u8; LONGEST_BLOCK], HeaderFault>
+    ensures ok { OnOk result (block_of bytes.now ≡ Ok (take (block_size (minor_of bytes.now)) bytes.now)) }
+    ensures filled { IfOk result (λ block. block ≡ take (block_size (minor_of bytes.now)) bytes.now
+        ++ replicate (LONGEST_BLOCK - block_size (minor_of bytes.now)) 0) }
+    ensures version { OnOk result (is_version (minor_of bytes.now) ≡ true) }
+    ensures there { OnOk result (block_size (minor_of bytes.now) ≤ length bytes.now) }
+    ensures size { OnOk result (block_size (minor_of bytes.now) ≤ number_at 94 2 bytes.now) }
+    ensures err { IfErr result (λ e. block_of bytes.now ≡ Err e) }
 {
     if !bytes.starts_with(b"LASF") {
         return Err(HeaderFault::NotLas);
+    }
+    if bytes.len() < 26 {
+        return Err(HeaderFault::HeaderSize);
     }
     if !has_version(bytes) {
         return Err(HeaderFault::VersionNotRead);
@@ -84,7 +112,8 @@ fn format_in(bytes: &[u8]) -> Result<Format, HeaderFault>
     if !has_block(bytes) {
         return Err(HeaderFault::HeaderSize);
     }
-    record_format(bytes)
+    let size = block_size(u8_at(bytes, 25));
+    Ok(padded(&bytes[..size]))
 }
 
 fn scale_at(bytes: &[u8], at: usize, axis: Axis) -> Result<Scale, HeaderFault>
@@ -111,7 +140,7 @@ fn offset_at(bytes: &[u8], at: usize, axis: Axis) -> Result<i64, HeaderFault>
 
 #[tactic(auto, unfolding(crate::specs::Headers::scales_of))]
 fn scales(bytes: &[u8]) -> Result<[Scale; 3], HeaderFault>
-    requires { block_size ≤ length bytes.now }
+    requires { LONGEST_BLOCK ≤ length bytes.now }
     ensures { result ≡ scales_of bytes.now }
 {
     let x = scale_at(bytes, 131, Axis::X)?;
@@ -122,7 +151,7 @@ fn scales(bytes: &[u8]) -> Result<[Scale; 3], HeaderFault>
 
 #[tactic(auto, unfolding(crate::specs::Headers::offsets_of))]
 fn offsets(bytes: &[u8]) -> Result<[i64; 3], HeaderFault>
-    requires { block_size ≤ length bytes.now }
+    requires { LONGEST_BLOCK ≤ length bytes.now }
     ensures value { result ≡ offsets_of bytes.now }
     ensures sizes { IfOk result (All IsOffset) }
 {
@@ -133,7 +162,7 @@ fn offsets(bytes: &[u8]) -> Result<[i64; 3], HeaderFault>
 }
 
 fn legacy_returns(bytes: &[u8]) -> [u32; 5]
-    requires { block_size ≤ length bytes.now }
+    requires { LONGEST_BLOCK ≤ length bytes.now }
     ensures { result ≡ numbers_at 111 5 4 bytes.now }
 {
     [
@@ -146,7 +175,7 @@ fn legacy_returns(bytes: &[u8]) -> [u32; 5]
 }
 
 fn bounds(bytes: &[u8]) -> [u64; 6]
-    requires { block_size ≤ length bytes.now }
+    requires { LONGEST_BLOCK ≤ length bytes.now }
     ensures { result ≡ numbers_at 179 6 8 bytes.now }
 {
     [
@@ -160,7 +189,7 @@ fn bounds(bytes: &[u8]) -> [u64; 6]
 }
 
 fn returns(bytes: &[u8]) -> [u64; 15]
-    requires { block_size ≤ length bytes.now }
+    requires { LONGEST_BLOCK ≤ length bytes.now }
     ensures { result ≡ numbers_at 255 15 8 bytes.now }
 {
     [
@@ -184,7 +213,7 @@ fn returns(bytes: &[u8]) -> [u64; 15]
 
 #[tactic(auto, unfolding(crate::specs::Headers::header_with))]
 fn header_with(format: Format, scale: [Scale; 3], offset: [i64; 3], bytes: &[u8]) -> Header
-    requires { block_size ≤ length bytes.now }
+    requires { LONGEST_BLOCK ≤ length bytes.now }
     ensures value { result ≡ header_with format scale offset bytes.now }
     ensures size { result.header_size ≡ number_at 94 2 bytes.now }
     ensures points_at { result.points_at ≡ number_at 96 4 bytes.now }
@@ -222,18 +251,21 @@ fn header_with(format: Format, scale: [Scale; 3], offset: [i64; 3], bytes: &[u8]
     }
 }
 
-/// The header that the first 375 bytes of a file stand for, or its first fault. `bytes` are these 375 bytes, or all
-/// of a shorter file. The header's size is at least 375 bytes, its points begin behind it, their records have the bytes
-/// of their format's fields, and its offsets have a size below 10^18 nanounits. `Stands` says that the bytes, where they
-/// are no more than these 375, stand for the header field by field.
-#[tactic(auto, unfolding(crate::specs::Headers::header_of))]
+/// The header that a file stands for, by its header block, or its first fault. `bytes` are the block of its version, or all of a
+/// shorter file; what stands behind the block isn't looked at.
+///
+/// The version is 1.2, 1.3 or 1.4, the header's size is at least that of its block, the points begin behind it, the format is one of
+/// its version, their records have the bytes of the format's fields, offsets have a size below 10^18 nanounits, and a field that ends
+/// behind the block is 0. `Stands` says that the block stands for the header field by field.
 pub fn read_header(bytes: &[u8]) -> Result<Header, HeaderFault>
     ensures value { result ≡ header_of bytes.now }
     ensures sound { IfOk result IsSound }
-    ensures stands { IfOk result (λ header. length bytes.now ≤ block_size → Stands bytes.now header) }
+    ensures block { IfOk result HasItsBlock }
+    ensures stands { IfOk result (λ header. Stands (take (block_size header.minor) bytes.now) header) }
 {
-    let format = format_in(bytes)?;
-    let scale = scales(bytes)?;
-    let offset = offsets(bytes)?;
-    Ok(header_with(format, scale, offset, bytes))
+    let block = block_of(bytes)?;
+    let format = record_format(&block)?;
+    let scale = scales(&block)?;
+    let offset = offsets(&block)?;
+    Ok(header_with(format, scale, offset, &block))
 }

@@ -1,15 +1,16 @@
 //! Writes the header.
 
-ghost use Rattle.std.specs.Prelude.{◌≡◌, ◌+◌, ◌*◌, ◌≤◌, ◌++◌, length, Ok};
+ghost use Rattle.std.specs.Prelude.{◌≡◌, ◌+◌, ◌*◌, ◌≤◌, ◌++◌, length, drop, Ok};
 ghost use Rattle.std.specs.List.{All, flat_map};
 ghost use Rattle.arrayvec.specs.ArrayVec.{array_vec_len};
 ghost use Rattle.las_header.specs.Headers.{header_of};
 ghost use Rattle.las_header.specs.Sizes.{HasFileSizes, HasRecordSizes, HasGridSizes, HasCountSizes};
-ghost use Rattle.las_header.specs.Standing.{Stands, HasNoFault};
+ghost use Rattle.las_header.specs.Standing.{FitsBlock, HasNoFault, Stands};
 ghost use Rattle.las_header.specs.WordOffsets.{IsWordOffset};
-ghost use Rattle.las_header.specs.Written.{nano_bytes, scale_bytes, file_part, record_part, grid_part, count_part, header_bytes};
+ghost use Rattle.las_header.specs.Written.{nano_bytes, scale_bytes, file_part, record_part, grid_part, count_part, header_block};
+ghost use Rattle.las_header.specs.Versions.{block_size};
 
-use crate::{BLOCK_SIZE, Header};
+use crate::{Header, LONGEST_BLOCK, block_size};
 use arrayvec::ArrayVec;
 use byte_numbers::{put, put_u32s, put_u64s};
 use decimal_coords::Scale;
@@ -101,20 +102,27 @@ fn count_part(h: &Header) -> ArrayVec<u8, 148>
     part
 }
 
-/// Writes the 375 bytes of a header: each field at its place, the numbers with their lowest byte first, the scales
-/// and offsets as the binary64 words nearest to them.
+/// Writes the header block of a header's version into the first bytes, and answers how many they are: each field at its place, the
+/// numbers with their lowest byte first, the scales and offsets as the binary64 words nearest to them. What stands behind the block
+/// stays as it is.
 ///
-/// Where each offset is below 10^9 units in size and a decimal of at most 15 digits and 9 places, the bytes stand for
-/// the header, and where it has no fault either `read_header` gives it back.
-pub fn write_header(h: &Header, out: &mut [u8; BLOCK_SIZE])
-    ensures bytes { out.new ≡ header_bytes h.now }
-    ensures stands { All IsWordOffset h.now.offset → Stands out.new h.now }
-    ensures read_back { All IsWordOffset h.now.offset → HasNoFault h.now → header_of out.new ≡ Ok h.now }
+/// Where the version is 1.2, 1.3 or 1.4, a field that ends behind the block is 0, and each offset is below 10^9 units in size and a
+/// decimal of at most 15 digits and 9 places, the bytes stand for the header, and where it has no fault either `read_header` gives it
+/// back.
+pub fn write_header(h: &Header, out: &mut [u8; LONGEST_BLOCK]) -> usize
+    ensures size { result ≡ block_size h.now.minor }
+    ensures bytes { out.new ≡ header_block h.now ++ drop (block_size h.now.minor) out.old }
+    ensures long { length (header_block h.now) ≡ block_size h.now.minor }
+    ensures stands { FitsBlock h.now → All IsWordOffset h.now.offset → Stands (header_block h.now) h.now }
+    ensures read_back { FitsBlock h.now → All IsWordOffset h.now.offset → HasNoFault h.now
+        → header_of (header_block h.now) ≡ Ok h.now }
 {
-    let mut block = ArrayVec::<u8, BLOCK_SIZE>::new();
-    put(&mut block, &file_part(h));
-    put(&mut block, &record_part(h));
-    put(&mut block, &grid_part(h));
-    put(&mut block, &count_part(h));
-    out.copy_from_slice(&block);
+    let mut fields = ArrayVec::<u8, LONGEST_BLOCK>::new();
+    put(&mut fields, &file_part(h));
+    put(&mut fields, &record_part(h));
+    put(&mut fields, &grid_part(h));
+    put(&mut fields, &count_part(h));
+    let size = block_size(h.minor);
+    out[..size].copy_from_slice(&fields[..size]);
+    size
 }

@@ -1,8 +1,8 @@
 -- What stands around the points of a LAS file.
-use Rattle.std.specs.Prelude.{ℕ, List, take, Result, Ok, Err}
+use Rattle.std.specs.Prelude.{ℕ, List, Result, Ok, Err}
 use Rattle.las_header.specs.declared.block.Header.{Header}
 use Rattle.las_header.specs.declared.faults.HeaderFault.{HeaderFault}
-use Rattle.las_header.specs.Headers.{block_size, header_of}
+use Rattle.las_header.specs.Headers.{header_of}
 use Rattle.las_header.specs.Steps.{◌>>=◌}
 use Rattle.las_vlr.specs.declared.entry.Vlr.{Vlr}
 use Rattle.las_vlr.specs.declared.entry.VlrFault.{VlrFault}
@@ -23,7 +23,7 @@ list_or (Ok vlrs) = Ok vlrs
 list_or (Err f) = Err (In_list f)
 
 abbrev pub header_in : List ℕ → Result Header LasFault
-header_in file = header_or (header_of (take block_size file))
+header_in file = header_or (header_of file)
 
 abbrev pub vlrs_in : Header → List ℕ → Result (List Vlr) LasFault
 vlrs_in header file = list_or (vlrs_of header.header_size header.points_at header.vlrs file)

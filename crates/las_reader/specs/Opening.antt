@@ -13,6 +13,11 @@ IsOpening expected (Vlr f) = expected ≡ Err (In_list f)
 IsOpening expected ReadFailed = ⊤
 IsOpening expected Memory = ⊤
 
+-- it is for the header
+abbrev pub IsOfHeader : OpenErr → Type 0
+IsOfHeader (Header f) = ⊤
+IsOfHeader e = ⊥
+
 -- the refusal for a list that isn't read
 abbrev pub opening_of : VlrErr → OpenErr
 opening_of (list.Fault f) = Vlr f

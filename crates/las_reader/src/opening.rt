@@ -1,15 +1,16 @@
 //! What is read before the points.
 
-ghost use Rattle.std.specs.Prelude.{◌≡◌, ◌≢◌, ◌≤◌, ℕ, List, max, Some, Ok, IfOk, IfErr};
-ghost use Rattle.file_devices.specs.Counts.{Rose};
-ghost use Rattle.las_header.specs.Headers.{block_size};
+ghost use Rattle.std.specs.Prelude.{◌≡◌, ◌≢◌, ◌≤◌, ℕ, List, max, take, Some, Ok, IfOk, IfErr};
+ghost use Rattle.file_devices.specs.Counts.{HasCause, Rose};
+ghost use Rattle.las_header.specs.Headers.{minor_of};
 ghost use Rattle.las_header.specs.Sound.{IsSound};
+ghost use Rattle.las_header.specs.Versions.{block_size};
 ghost use Rattle.las_reader.specs.Frames.{header_in, frame_of};
 ghost use Rattle.las_reader.specs.Lists.{HasLists};
-ghost use Rattle.las_reader.specs.Opening.{IsOpening, opening_of};
+ghost use Rattle.las_reader.specs.Opening.{IsOfHeader, IsOpening, opening_of};
 
-use file_devices::{Source, fill};
-use las_header::{BLOCK_SIZE, Header, HeaderFault, read_header};
+use file_devices::{Failed, Source, fill};
+use las_header::{Header, HeaderFault, LONGEST_BLOCK, block_size, read_header};
 use las_vlr::{VlrErr, VlrFault, VlrList, read_evlrs, read_vlrs};
 use std::alloc::Global;
 
@@ -48,6 +49,30 @@ pub(crate) struct Frame {
     pub(crate) evlrs: VlrList,
 }
 
+/// Where the version ends in the header block.
+const VERSION_END: usize = 26;
+
+/// Puts the header block in front of a file into the front of `block`, and answers how many bytes there are of it. Only those up to the
+/// version are asked for first, and then those that its block has.
+fn fill_block<S: Source>(source: &mut S, block: &mut [u8; LONGEST_BLOCK]) -> Result<usize, Failed>
+    ensures within { IfOk result (λ n. n ≤ LONGEST_BLOCK) }
+    ensures front { IfOk result (λ n. (file : List ℕ) → S.bytes source.old ≡ Some file
+        → take n block.new ≡ take (block_size (minor_of file)) file) }
+    ensures reached { S.reached source.new ≤ max (S.reached source.old) (block_size (minor_of block.new)) }
+    ensures no_further { (file : List ℕ) → S.bytes source.old ≡ Some file
+        → S.reached source.new ≤ max (S.reached source.old) (block_size (minor_of file)) }
+    ensures same { S.bytes source.new ≡ S.bytes source.old }
+    ensures cause { HasCause (S.faults source.old) (S.faults source.new) result }
+{
+    let seen = fill(source, 0, &mut block[..VERSION_END])?;
+    if seen < VERSION_END {
+        return Ok(seen);
+    }
+    let size = block_size(block[25]);
+    let more = fill(source, VERSION_END as u64, &mut block[VERSION_END..size])?;
+    Ok(VERSION_END + more)
+}
+
 /// Reads the header block of a file.
 fn read_block<S: Source>(source: &mut S) -> Result<Header, OpenErr>
     ensures ok { IfOk result (λ header. (file : List ℕ) → S.bytes source.old ≡ Some file → header_in file ≡ Ok header) }
@@ -56,11 +81,13 @@ fn read_block<S: Source>(source: &mut S) -> Result<Header, OpenErr>
     ensures failed { IfErr result (λ e. e ≡ OpenErr.ReadFailed → Rose (S.faults source.old) (S.faults source.new)) }
     ensures not_memory { IfErr result (λ e. e ≢ OpenErr.Memory) }
     ensures later { S.faults source.old ≤ S.faults source.new }
-    ensures reached { S.reached source.new ≤ max (S.reached source.old) block_size }
+    ensures reached { IfOk result (λ header. S.reached source.new ≤ max (S.reached source.old) header.header_size) }
+    ensures no_further { (file : List ℕ) → S.bytes source.old ≡ Some file
+        → S.reached source.new ≤ max (S.reached source.old) (block_size (minor_of file)) }
     ensures bytes { S.bytes source.new ≡ S.bytes source.old }
 {
-    let mut block = [0u8; BLOCK_SIZE];
-    let Ok(held) = fill(source, 0, &mut block) else {
+    let mut block = [0u8; LONGEST_BLOCK];
+    let Ok(held) = fill_block(source, &mut block) else {
         return Err(OpenErr::ReadFailed);
     };
     match read_header(&block[..held]) {
@@ -78,6 +105,8 @@ pub(crate) fn read_frame<S: Source>(alloc: Global, source: &mut S) -> Result<Fra
     ensures failed { IfErr result (λ e. e ≡ OpenErr.ReadFailed → Rose (S.faults source.old) (S.faults source.new)) }
     ensures later { S.faults source.old ≤ S.faults source.new }
     ensures in_front { IfOk result (λ frame. frame.header.evlrs ≡ 0 → S.reached source.new ≤ max (S.reached source.old) frame.header.points_at) }
+    ensures no_further { IfErr result (λ e. IsOfHeader e → (file : List ℕ) → S.bytes source.old ≡ Some file
+        → S.reached source.new ≤ max (S.reached source.old) (block_size (minor_of file))) }
     ensures bytes { S.bytes source.new ≡ S.bytes source.old }
 {
     let header = read_block(source)?;

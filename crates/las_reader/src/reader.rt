@@ -2,11 +2,13 @@
 
 ghost use Rattle.std.specs.Prelude.{◌≡◌, ◌^◌, ◌<◌, ◌≤◌, ℕ, List, [], length, max, Some, Ok, IfOk, IfErr, vec_len};
 ghost use Rattle.las_header.specs.Counts.{points_in};
+ghost use Rattle.las_header.specs.Headers.{minor_of};
 ghost use Rattle.las_header.specs.Sound.{IsSound};
+ghost use Rattle.las_header.specs.Versions.{block_size};
 ghost use Rattle.las_reader.specs.Frames.{frame_of};
 ghost use Rattle.las_reader.specs.Files.{las_with};
 ghost use Rattle.las_reader.specs.Lists.{HasLists};
-ghost use Rattle.las_reader.specs.Opening.{IsOpening, IsOpened};
+ghost use Rattle.las_reader.specs.Opening.{IsOfHeader, IsOpening, IsOpened};
 ghost use Rattle.las_reader.specs.Reading.{IsStep, Moves, step_of, read_failed, asked_to};
 ghost use Rattle.file_devices.specs.Counts.{Rose};
 ghost use Rattle.las_vlr.specs.Limits.{AreHeldVlrs, AreHeldEvlrs};
@@ -49,8 +51,8 @@ pub struct LasReader<S> {
 }
 
 impl<S: Source> LasReader<S> {
-    /// Opens a LAS file: reads its header block, its VLRs and its EVLRs. Where it has no EVLRs, no byte of the points is
-    /// asked for.
+    /// Opens a LAS file: reads its header block, its VLRs and its EVLRs. Of the header it asks for no byte behind the block of
+    /// the file's version, and where there are no EVLRs for none of the points.
     ///
     /// Whatever the source tells, both lists are within their limits and as long as the header counts: at most 4,096 records,
     /// payloads of at most 16,777,216 bytes together, and of a VLR at most 65,535 bytes.
@@ -63,6 +65,8 @@ impl<S: Source> LasReader<S> {
         ensures lists { IfOk result (λ r. HasLists r.header r.vlrs r.evlrs) }
         ensures source { IfOk result (λ r. IsOpened (S.bytes source) (S.bytes r.source) (S.faults source) (S.faults r.source)) }
         ensures in_front { IfOk result (λ r. r.header.evlrs ≡ 0 → S.reached r.source ≤ max (S.reached source) r.header.points_at) }
+        ensures no_further { IfErr result (λ e. IsOfHeader e.1 → (file : List ℕ) → S.bytes source ≡ Some file
+            → S.reached e.0 ≤ max (S.reached source) (block_size (minor_of file))) }
         ensures err { IfErr result (λ e. (file : List ℕ) → S.bytes source ≡ Some file → IsOpening (frame_of file) e.1) }
         ensures failed { IfErr result (λ e. e.1 ≡ OpenErr.ReadFailed → Rose (S.faults source) (S.faults e.0)) }
         ensures returned { IfErr result (λ e. IsOpened (S.bytes source) (S.bytes e.0) (S.faults source) (S.faults e.0)) }

@@ -56,6 +56,12 @@ fn a_header_of_two_points_is_read(rt: HostRuntime) -> Result<(), Fail> {
         (header.count, header.legacy_count, header.points()),
         (2, 7, 2)
     );
+    set(&mut bytes, 25, &[2]);
+    assert_eq!(rt;
+        read_header(&bytes).map(|header| (header.count, header.points())),
+        Ok((0, 7))
+    );
+    set(&mut bytes, 25, &[4]);
     set(&mut bytes, 247, &[0]);
     assert_eq!(rt; read_header(&bytes).map(|header| header.points()), Ok(7));
     Ok(())
@@ -171,7 +177,17 @@ fn a_written_header_is_read_again(rt: HostRuntime) -> Result<(), Fail> {
     };
     assert_eq!(rt; header.offset, [-500_000_062_500_000, 0, 0]);
     let mut out = [0xFF; 375];
-    write_header(&header, &mut out);
+    assert_eq!(rt; write_header(&header, &mut out), 375);
     assert_eq!(rt; out, bytes);
+    for (minor, size) in [(2, 227), (3, 235)] {
+        set(&mut bytes, 25, &[minor]);
+        let Ok(header) = read_header(&bytes) else {
+            return Err(Fail::from("no header"));
+        };
+        let mut out = [0xFF; 375];
+        assert_eq!(rt; write_header(&header, &mut out), size);
+        assert_eq!(rt; out.get(..size), bytes.get(..size));
+        assert_eq!(rt; (out.get(size), out[374]), (Some(&0xFF), 0xFF));
+    }
     Ok(())
 }

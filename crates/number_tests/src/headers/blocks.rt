@@ -163,7 +163,7 @@ pub(super) const BLOCKS: [(Option<HeaderFault>, &[Edits]); 17] = [
     (
         Some(VersionNotRead),
         &[
-            &[(MINOR, 3)],
+            &[(MINOR, 1)],
             &[(MAJOR, 2), (MINOR, 3), (HEADER_SIZE, 227)],
             &[(MINOR, 5), (FORMAT, 8), (LENGTH, 38)],
             &[(MAJOR, 2), (FORMAT, 8), (LENGTH, 19), (Z_SCALE, ONE_512TH)],
@@ -220,6 +220,8 @@ pub(super) const BLOCKS: [(Option<HeaderFault>, &[Edits]); 17] = [
         Some(FormatNotRead),
         &[
             &[(FORMAT, 5), (LENGTH, 34)],
+            &[(MINOR, 2), (FORMAT, 6), (LENGTH, 30)],
+            &[(MINOR, 3), (FORMAT, 8), (LENGTH, 19)],
             &[(FORMAT, 4), (LENGTH, 38)],
             &[(FORMAT, 9), (LENGTH, 34), (Z_OFFSET, MINUS_BILLION)],
             &[
@@ -400,16 +402,24 @@ pub(super) const BLOCKS: [(Option<HeaderFault>, &[Edits]); 17] = [
 ];
 
 /// Blocks of which so many bytes are there, and their first faults.
-pub(super) const FRONTS: [(usize, Edits, HeaderFault); 10] = [
+pub(super) const FRONTS: [(usize, Edits, HeaderFault); 14] = [
     (3, &[], NotLas),
     (4, &[(SIGNATURE, 0x4653_414D)], NotLas),
     (26, &[(MAJOR, 0)], VersionNotRead),
     (26, &[(MINOR, 0)], VersionNotRead),
     (
         374,
-        &[(MINOR, 2), (HEADER_SIZE, 227), (FORMAT, 127)],
+        &[(MINOR, 1), (HEADER_SIZE, 227), (FORMAT, 127)],
         VersionNotRead,
     ),
+    (
+        374,
+        &[(MINOR, 2), (HEADER_SIZE, 227), (FORMAT, 127)],
+        FormatNotRead,
+    ),
+    (226, &[(MINOR, 2), (HEADER_SIZE, 227)], HeaderSize),
+    (227, &[(MINOR, 2), (HEADER_SIZE, 226)], HeaderSize),
+    (234, &[(MINOR, 3), (HEADER_SIZE, 235)], HeaderSize),
     (4, &[], HeaderSize),
     (25, &[], HeaderSize),
     (25, &[(MAJOR, 2)], HeaderSize),
