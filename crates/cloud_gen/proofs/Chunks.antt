@@ -13,7 +13,7 @@ use Rattle.forward_rules.specs.declared.form.LasForm.{LasForm}
 use Rattle.las_writer.specs.Holding.{holds_las, IsRefused}
 use Rattle.las_writer.specs.Records.{refusal}
 use Rattle.las_writer.specs.declared.faults.ChunkErr.TheVariants as chunk
-use Rattle.las_writer.specs.declared.records.Refused.{Refused}
+use Rattle.las_writer.specs.declared.records.RefusedPoint.{RefusedPoint}
 use Rattle.las_writer.specs.declared.totals.Totals.{Totals}
 use Rattle.cloud_gen.specs.Generated.{generated}
 use Rattle.cloud_gen.specs.GeneratedFile.{generated_points, generated_options, generated_form, generated_file}
@@ -22,9 +22,9 @@ use Rattle.cloud_gen.proofs.Recorded.{none_refused, no_points, more_points}
 module _ (form : LasForm) (first end : ℕ) (points : List Point) (same : form ≡ generated_form)
     (are : points ≡ map (generated 1) (range_with_len first (end - first))) (ordered : first ≤ end) where
   -- it isn't refused
-  pub never_refused : (r : Refused) → end ≤ 10000000 → IsRefused form points (chunk.Refused r) → ⊥
-  never_refused r few is =
-      let none : refusal form points ≡ None = ap (λ (f : LasForm). refusal f points) same ∙ ap (refusal generated_form) are ∙ none_refused first (end - first) (omega (arith, ordered, few)) in
+  pub never_refused : (k : ℕ) (r : RefusedPoint) → end ≤ 10000000 → IsRefused form k points (chunk.Refused r) → ⊥
+  never_refused k r few is =
+      let none : refusal form k points ≡ None = ap (λ (f : LasForm). refusal f k points) same ∙ ap (refusal generated_form k) are ∙ none_refused k first (end - first) (omega (arith, ordered, few)) in
       cc
 
   -- and the sink holds the points up to its end
@@ -39,16 +39,16 @@ module _ (form : LasForm) (first end : ℕ) (points : List Point) (same : form �
 pub none_held : (told : Option (List ℕ)) (t : Totals) → holds_las told generated_form t [] ≡ true → holds_las told generated_form t (generated_points 0) ≡ true
 none_held told t h = subst (λ (l : List Point). holds_las told generated_form t l ≡ true) (sym no_points) h
 
-all_recorded : (count : ℕ) → count ≤ 10000000 → refusal generated_form (generated_points count) ≡ None
+all_recorded : (count : ℕ) → count ≤ 10000000 → refusal generated_form 0 (generated_points count) ≡ None
 unfolding generated_points
-all_recorded count few = none_refused 0 count (omega (arith, few))
+all_recorded count few = none_refused 0 0 count (omega (arith, few))
 
 -- a writer that holds the points ends with their file
 pub finished_file : (before after : Option (List ℕ)) (form : LasForm) (t : Totals) (count : ℕ) → form ≡ generated_form → count ≤ 10000000
-    → ((points : List Point) → holds_las before form t points ≡ true → refusal form points ≡ None → IsAsTold after (Some (las_output form points)))
+    → ((points : List Point) → holds_las before form t points ≡ true → refusal form 0 points ≡ None → IsAsTold after (Some (las_output form points)))
     → holds_las before generated_form t (generated_points count) ≡ true → IsAsTold after (Some (generated_file count))
 finished_file before after form t count same few ends h =
-    let here = subst (λ (f : LasForm). (points : List Point) → holds_las before f t points ≡ true → refusal f points ≡ None → IsAsTold after (Some (las_output f points))) same ends in
+    let here = subst (λ (f : LasForm). (points : List Point) → holds_las before f t points ≡ true → refusal f 0 points ≡ None → IsAsTold after (Some (las_output f points))) same ends in
     here (generated_points count) h (all_recorded count few)
 
 abbrev IsGiven : Option ℤ → Type 0
@@ -60,6 +60,7 @@ three_small a b c ha hb hc = All-cons IsGiven (Some a) (Some b ∷ Some c ∷ []
 good_options : AreGoodOptions generated_options
 good_options = record {
   version = refl;
+  format = refl;
   offsets = three_small (pos 500_000_000_000_000) (pos 4_800_000_000_000_000) (pos 0) (lit< tt) (lit< tt) (lit< tt);
   system = tt;
   software = tt;

@@ -1,5 +1,5 @@
 -- Each generated point has a record in the file.
-use Rattle.std.proofs.Common.{◌≡◌, ℕ, zero, suc, ◌+◌, ◌-◌, ◌*◌, ◌/◌, ◌%◌, ◌^◌, ◌<◌, ◌≤◌, ℤ, pos, ◌-ℤ◌, ◌*ℤ◌, ◌+ℤ◌, true, List, [], ◌∷◌, ◌++◌, map, Option, None, Result, Ok, Err, if◌then◌else◌, refl, ap, sym, ◌∙◌, arith, add-zero, zero-add}
+use Rattle.std.proofs.Common.{◌≡◌, ℕ, zero, suc, ◌+◌, ◌-◌, ◌*◌, ◌/◌, ◌%◌, ◌^◌, ◌<◌, ◌≤◌, ℤ, pos, ◌-ℤ◌, ◌*ℤ◌, ◌+ℤ◌, Bool, true, false, List, [], ◌∷◌, ◌++◌, map, Option, None, Result, Ok, Err, if◌then◌else◌, refl, ap, sym, ◌∙◌, arith, add-zero, zero-add}
 use Rattle.std.specs.Prelude.{is_ok, ⊤}
 use Rattle.std.specs.Int.{Width, w8, w32, to_le_bytes, cast_unsigned}
 use Rattle.std.specs.List.{range_with_len}
@@ -23,7 +23,8 @@ use Rattle.point_formats.specs.Formats.{BitField, Item, items, old_returns, old_
 use Rattle.point_formats.proofs.Appending.{joined}
 use Rattle.point_formats.proofs.Counting.{raw_returns, steps_return}
 use Rattle.point_formats.proofs.Holding.{in_range}
-use Rattle.las_writer.specs.Records.{grid_for, written, refused_or, refusal_from, refusal}
+use Rattle.las_writer.specs.declared.faults.RecordFault.{RecordFault}
+use Rattle.las_writer.specs.Records.{fits, grid_for, written, unplaced, refused_or, refusal_from, refusal}
 use Rattle.cloud_gen.specs.Generated.{mixed, hundredths, degrees, class_at, point_of, generated}
 use Rattle.cloud_gen.specs.GeneratedFile.{generated_points, generated_form}
 
@@ -166,19 +167,25 @@ is_recorded series i small = has_record (grid_for generated_form) (generated ser
 
 -- ---- points behind one another
 
-not_refused : (n : ℕ) (w : Bytes) (later : Option (ℕ × EncodeFault)) → is_ok w ≡ true → later ≡ None → refused_or n w later ≡ None
-not_refused n (Ok bytes) later h e = e
-not_refused n (Err f) later h e = absurd cc
+-- a file of 1.4 counts all
+all_fit : (k : ℕ) → fits generated_form k ≡ true
+unfolding form_of
+all_fit k = refl
 
-none_from : (n first count : ℕ) → first + count ≤ 10000000 → refusal_from generated_form n (map (generated 1) (range_with_len first count)) ≡ None
-none_from n first zero h = refl
-none_from n first (suc count) h =
-    not_refused n (written generated_form (generated 1 first)) (refusal_from generated_form (n + 1) (map (generated 1) (range_with_len (first + 1) count)))
-    (is_recorded 1 first (omega arith)) (none_from (n + 1) (first + 1) count (omega arith))
+not_refused : (n : ℕ) (fit : Bool) (w : Bytes) (later : Option (ℕ × RecordFault)) → fit ≡ true → is_ok w ≡ true → later ≡ None → refused_or n (unplaced fit w) later ≡ None
+not_refused n true (Ok bytes) later f h e = e
+not_refused n true (Err x) later f h e = absurd cc
+not_refused n false w later f h e = absurd cc
+
+none_from : (k n first count : ℕ) → first + count ≤ 10000000 → refusal_from generated_form k n (map (generated 1) (range_with_len first count)) ≡ None
+none_from k n first zero h = refl
+none_from k n first (suc count) h =
+    not_refused n (fits generated_form (k + n)) (written generated_form (generated 1 first)) (refusal_from generated_form k (n + 1) (map (generated 1) (range_with_len (first + 1) count)))
+    (all_fit (k + n)) (is_recorded 1 first (omega arith)) (none_from k (n + 1) (first + 1) count (omega arith))
 
 -- no generated points are refused
-pub none_refused : (first count : ℕ) → first + count ≤ 10000000 → refusal generated_form (map (generated 1) (range_with_len first count)) ≡ None
-none_refused first count h = none_from 0 first count h
+pub none_refused : (k first count : ℕ) → first + count ≤ 10000000 → refusal generated_form k (map (generated 1) (range_with_len first count)) ≡ None
+none_refused k first count h = none_from k 0 first count h
 
 ranges_join : (a m n : ℕ) → range_with_len a m ++ range_with_len (a + m) n ≡ range_with_len a (m + n)
 ranges_join a zero n = rw (add-zero, zero-add) refl

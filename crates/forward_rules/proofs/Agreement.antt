@@ -13,7 +13,7 @@ use Rattle.forward_rules.specs.declared.options.LasOpts.{LasOpts}
 use Rattle.forward_rules.specs.Asked.{asked}
 use Rattle.las_vlr.specs.Same.{same_list}
 use Rattle.forward_rules.specs.Lists.{without_extra_bytes}
-use Rattle.forward_rules.specs.Values.{filled, default_values, scale_on, offset_on, same_format, same_scale}
+use Rattle.forward_rules.specs.Values.{filled, default_values, format_in, scale_on, offset_on, same_format, same_scale}
 use Rattle.forward_rules.specs.Forwarded.{ReadFile, decided, flag_on, given_on, given_or, same_lists, form_of}
 use Rattle.forward_rules.specs.States.{agreeing, all_have, scale_goes, offset_goes, goes_over, forwarding_of, given_of, picked, picked_form, kept, started, agreed}
 
@@ -157,7 +157,7 @@ evlrs_first false b first = refl
 pub form_is : (opts : LasOpts) (reads : List ReadFile) → (let f = forwarding_of opts reads in picked_form f.given f.goes f.first (without_extra_bytes (kept f.goes.lists f.vlrs)) (kept f.goes.lists f.evlrs)) ≡ form_of opts reads
 unfolding forwarding_of goes_over picked_form form_of
 form_is opts [] = let a = asked opts.forward in let d = default_values in λ i. record {
-  format = picked_none same_format opts.format a.format d.format i;
+  format = format_in (given_or opts.minor 4) (picked_none same_format opts.format a.format d.format i);
   minor = given_or opts.minor 4;
   scale = scale a 0 i ∷ scale a 1 i ∷ scale a 2 i ∷ [];
   offset = offset a 0 i ∷ offset a 1 i ∷ offset a 2 i ∷ [];
@@ -178,7 +178,7 @@ form_is opts [] = let a = asked opts.forward in let d = default_values in λ i. 
     offset : (a : Fields) (axis : ℕ) → picked (given_on opts.offset axis) (flag_on a.offset axis) (offset_on default_values.offset axis) (offset_on default_values.offset axis) ≡ decided int_eq (given_on opts.offset axis) (flag_on a.offset axis) [] (offset_on default_values.offset axis)
     offset a axis = picked_none int_eq (given_on opts.offset axis) (flag_on a.offset axis) (offset_on default_values.offset axis)
 form_is opts (r ∷ rest) = let a = asked opts.forward in let d = default_values in λ i. record {
-  format = picked_first same_format (λ x. x.values.format) opts.format a.format r rest d.format i;
+  format = format_in (given_or opts.minor 4) (picked_first same_format (λ x. x.values.format) opts.format a.format r rest d.format i);
   minor = given_or opts.minor 4;
   scale = scale a 0 i ∷ scale a 1 i ∷ scale a 2 i ∷ [];
   offset = offset a 0 i ∷ offset a 1 i ∷ offset a 2 i ∷ [];

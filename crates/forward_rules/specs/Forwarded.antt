@@ -12,7 +12,7 @@ use Rattle.forward_rules.specs.declared.values.HeaderValues.{HeaderValues}
 use Rattle.forward_rules.specs.Asked.{asked}
 use Rattle.las_vlr.specs.Same.{same_list}
 use Rattle.forward_rules.specs.Lists.{without_extra_bytes}
-use Rattle.forward_rules.specs.Values.{filled, default_values, values_of, scale_on, offset_on, same_format, same_scale}
+use Rattle.forward_rules.specs.Values.{filled, default_values, format_in, values_of, scale_on, offset_on, same_format, same_scale}
 
 -- a file that is read: the values of its header, and its two lists
 pub record ReadFile : Type 0 where
@@ -56,7 +56,7 @@ given_or None default = default
 -- what a writer with these options writes around the points of these files
 unfoldable pub form_of : LasOpts → List ReadFile → LasForm
 form_of opts reads = record {
-  format = decided same_format opts.format (asked opts.forward).format (map (λ r. r.values.format) reads) default_values.format;
+  format = format_in (given_or opts.minor 4) (decided same_format opts.format (asked opts.forward).format (map (λ r. r.values.format) reads) default_values.format);
   minor = given_or opts.minor 4;
   scale = decided_scale opts reads 0 ∷ decided_scale opts reads 1 ∷ decided_scale opts reads 2 ∷ [];
   offset = decided_offset opts reads 0 ∷ decided_offset opts reads 1 ∷ decided_offset opts reads 2 ∷ [];

@@ -14,7 +14,7 @@ use Rattle.forward_rules.specs.declared.form.LasForm.{LasForm}
 use Rattle.forward_rules.specs.Forwarded.{ReadFile, flag_on, given_on, given_or, same_lists}
 use Rattle.decimal_coords.specs.declared.grid.Scale.{Scale}
 use Rattle.las_vlr.specs.Same.{same_list}
-use Rattle.forward_rules.specs.Values.{filled, default_values, scale_on, offset_on, same_format, same_scale}
+use Rattle.forward_rules.specs.Values.{filled, default_values, format_in, scale_on, offset_on, same_format, same_scale}
 
 abbrev pub given_of : LasOpts → GivenValues
 given_of opts = record {
@@ -126,7 +126,7 @@ picked_offsets given goes first = picked_offset given goes first 0 ∷ picked_of
 -- the form that is decided by what is kept, with these lists
 unfoldable pub picked_form : GivenValues → Fields → HeaderValues → List Vlr → List Vlr → LasForm
 picked_form given goes first vlrs evlrs = record {
-  format = picked given.format goes.format first.format default_values.format;
+  format = format_in (given_or given.minor 4) (picked given.format goes.format first.format default_values.format);
   minor = given_or given.minor 4;
   scale = picked_scales given goes first;
   offset = picked_offsets given goes first;

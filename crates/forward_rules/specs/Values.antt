@@ -1,5 +1,5 @@
 -- The values of a header that may go over into a written file.
-use Rattle.std.specs.Prelude.{ℕ, ℤ, pos, ◌==◌, Bool, List, [], ◌∷◌, ◌++◌, take, replicate, get_or, codes}
+use Rattle.std.specs.Prelude.{ℕ, ℤ, pos, ◌==◌, Bool, if◌then◌else◌, List, [], ◌∷◌, ◌++◌, take, replicate, get_or, codes}
 use Rattle.std.specs.Ordering.{int_eq}
 use Rattle.std.specs.Int.Signed.{le_z_yes}
 use Rattle.decimal_coords.specs.declared.grid.Scale.{Scale}
@@ -7,6 +7,7 @@ use Rattle.las_header.specs.declared.block.Header.{Header}
 use Rattle.las_header.specs.declared.form.Format.{Format}
 use Rattle.las_header.specs.declared.form.Format.TheVariants.{F3}
 use Rattle.las_header.specs.Formats.{format_number}
+use Rattle.las_header.specs.Versions.{takes_format}
 use Rattle.forward_rules.specs.declared.values.HeaderValues.{HeaderValues}
 
 -- a text of at most 32 bytes, filled with zero bytes
@@ -56,3 +57,7 @@ same_format a b = format_number a == format_number b
 
 abbrev pub same_scale : Scale → Scale → Bool
 same_scale a b = int_eq a.nano b.nano
+
+-- a format that files of the version don't have doesn't go over
+abbrev pub format_in : ℕ → Format → Format
+format_in minor format = if takes_format minor format then format else default_values.format

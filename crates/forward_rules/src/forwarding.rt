@@ -4,7 +4,7 @@ ghost use Rattle.std.specs.Prelude.{◌≡◌, ◌<◌, ◌&&◌, ◌++◌, ◌�
 ghost use Rattle.std.specs.Int.{w64};
 ghost use Rattle.forward_rules.specs.declared.options.LasOpts.{LasOpts};
 ghost use Rattle.forward_rules.specs.Forwarded.{ReadFile, read_file, form_of, flag_on, given_on};
-ghost use Rattle.forward_rules.specs.Values.{scale_on, offset_on, default_values};
+ghost use Rattle.forward_rules.specs.Values.{default_values, format_in, scale_on, offset_on};
 ghost use Rattle.forward_rules.specs.States.{agreeing, agreeing_scale, agreeing_offset, forwarding_of, picked, picked_scales, picked_offsets, picked_form, kept, started, agreed};
 
 use crate::fields::Fields;
@@ -13,7 +13,7 @@ use crate::lists::without_extra_bytes;
 use crate::values::{HeaderValues, offset_on, same_format, same_scale, scale_on};
 use crate::{LasForm, LasOpts};
 use decimal_coords::Scale;
-use las_header::Header;
+use las_header::{Format, Header, takes_format};
 use las_vlr::VlrList;
 use std::alloc::{AllocError, Global};
 
@@ -141,6 +141,17 @@ fn picked_offsets(given: &GivenValues, goes: &Fields, first: &HeaderValues) -> [
     ]
 }
 
+/// The format, if files of the version have it, and else the default.
+fn format_in(minor: u8, format: Format) -> Format
+    ensures { result ≡ format_in minor format }
+{
+    if takes_format(minor, format) {
+        format
+    } else {
+        HeaderValues::default().format
+    }
+}
+
 /// The form with these lists.
 #[tactic(auto, unfolding(crate::specs::States::picked_form))]
 fn picked_form(
@@ -153,9 +164,11 @@ fn picked_form(
     ensures { result ≡ picked_form given.now goes.now first.now vlrs evlrs }
 {
     let default = HeaderValues::default();
+    let minor = given.minor.unwrap_or(MINOR);
+    let format = picked(given.format, goes.format, first.format, default.format);
     LasForm {
-        format: picked(given.format, goes.format, first.format, default.format),
-        minor: given.minor.unwrap_or(MINOR),
+        format: format_in(minor, format),
+        minor,
         scale: picked_scales(given, goes, first),
         offset: picked_offsets(given, goes, first),
         source_id: picked(
@@ -234,8 +247,8 @@ impl Forwarding {
     }
 
     /// What a writer with these options writes around the points of these files: each value is the one that is given, or
-    /// else the one that all files have, where it is asked for, or else the default. Both lists go over together, without
-    /// the records that describe extra bytes.
+    /// else the one that all files have, where it is asked for, or else the default. The version doesn't go over, nor does a
+    /// format that its files don't have. Both lists go over together, without the records that describe extra bytes.
     pub fn form(self) -> LasForm
         ensures { (opts : LasOpts) (reads : List ReadFile) → self ≡ forwarding_of opts reads
             → result ≡ form_of opts reads }

@@ -11,13 +11,13 @@ use Rattle.las_writer.specs.Records.{grid_for, point_record, refusal}
 use Rattle.las_writer.specs.LasOutput.{IsForm, las_output}
 use Rattle.las_writer.specs.Sizes.{HasFieldSizes}
 
--- the fields have their sizes, a writer takes the form, its words give the offsets back, every point has a record, and the
+-- the fields have their sizes, a writer takes the form, its words give the offsets back, every point has a place in the file, and the
 -- file has fewer than 2 ^ 64 bytes
 pub record IsWritten (form : LasForm) (points : List Point) : Type 0 where
   pub fields : HasFieldSizes form
   pub taken : IsForm form
   pub offsets : All IsWordOffset form.offset
-  pub held : refusal form points ≡ None
+  pub held : refusal form 0 points ≡ None
   pub small : length (las_output form points) < 2 ^ 64
 
 -- the point of the record of a point

@@ -14,12 +14,14 @@ use Rattle.cloud_points.specs.declared.point.Point.{Point}
 use Rattle.decimal_coords.specs.declared.grid.Scale.{Scale}
 use Rattle.ieee_words.proofs.NearWords.{near_word_is}
 use Rattle.las_header.specs.Offsets.{IsOffset}
+use Rattle.las_header.proofs.Standing.{block_is_short}
 use Rattle.forward_rules.specs.declared.form.LasForm.{LasForm}
 use Rattle.point_formats.specs.declared.encoding.EncodeFault.{EncodeFault}
 use Rattle.point_formats.specs.Grids.{scale_on, offset_on, coordinate}
 use Rattle.las_writer.specs.declared.totals.Totals.{Totals}
 use Rattle.las_writer.specs.Laws.{HasRaws}
-use Rattle.las_writer.specs.Records.{grid_for, written, bytes_or_none, point_record, raw_number, refused_or, refusal_from, refusal}
+use Rattle.las_writer.specs.declared.faults.RecordFault.{RecordFault}
+use Rattle.las_writer.specs.Records.{fits, grid_for, written, bytes_or_none, point_record, raw_number, unplaced, refused_or, refusal_from, refusal}
 use Rattle.las_writer.specs.Totals.{raws, number_on, totals_of}
 use Rattle.las_writer.specs.LasOutput.{IsForm, points_at, bound, bounds}
 use Rattle.las_writer.specs.Sizes.{HasSmallTotals}
@@ -36,18 +38,19 @@ abbrev AllSmall : LasForm → List Point → Type 0
 AllSmall form [] = Unit {0}
 AllSmall form (p ∷ points) = SmallRaws (point_record form p) × AllSmall form points
 
-small_record : (form : LasForm) (p : Point) (n : ℕ) (later : Option (ℕ × EncodeFault)) → refused_or n (written form p) later ≡ None → SmallRaws (point_record form p) × (later ≡ None)
+small_record : (form : LasForm) (p : Point) (n : ℕ) (fit : Bool) (later : Option (ℕ × RecordFault)) → refused_or n (unplaced fit (written form p)) later ≡ None → SmallRaws (point_record form p) × (later ≡ None)
 unfolding point_record
-small_record form p n later h = by (written form p) (raws_are form p) h
+small_record form p n fit later h = by fit (written form p) (raws_are form p) h
   where
-    by : (w : Result (List ℕ) EncodeFault) → ((bytes : List ℕ) → w ≡ Ok bytes → HasRaws (grid_for form) p bytes) → refused_or n w later ≡ None → SmallRaws (bytes_or_none w) × (later ≡ None)
-    by (Ok bytes) raws e = let r = raws bytes refl in
+    by : (fit : Bool) (w : Result (List ℕ) EncodeFault) → ((bytes : List ℕ) → w ≡ Ok bytes → HasRaws (grid_for form) p bytes) → refused_or n (unplaced fit w) later ≡ None → SmallRaws (bytes_or_none w) × (later ≡ None)
+    by true (Ok bytes) raws e = let r = raws bytes refl in
         (record { x = subst (FitsSigned w32) (sym r.x.is) r.x.small; y = subst (FitsSigned w32) (sym r.y.is) r.y.small; z = subst (FitsSigned w32) (sym r.z.is) r.z.small }, e)
-    by (Err f) raws e = absurd (cc)
+    by true (Err f) raws e = absurd (cc)
+    by false w raws e = absurd (cc)
 
-small_from : (form : LasForm) (n : ℕ) (points : List Point) → refusal_from form n points ≡ None → AllSmall form points
-small_from form n [] h = tt
-small_from form n (p ∷ points) h = let r = small_record form p n (refusal_from form (n + 1) points) h in (r.0, small_from form (n + 1) points r.1)
+small_from : (form : LasForm) (k n : ℕ) (points : List Point) → refusal_from form k n points ≡ None → AllSmall form points
+small_from form k n [] h = tt
+small_from form k n (p ∷ points) h = let r = small_record form p n (fits form (k + n)) (refusal_from form k (n + 1) points) h in (r.0, small_from form k (n + 1) points r.1)
 
 either_fits : (b : Bool) (x y : ℤ) → FitsSigned w32 x → FitsSigned w32 y → FitsSigned w32 (cond b x y)
 either_fits true x y h k = h
@@ -127,10 +130,10 @@ bounds_small form t is low high = by (t.count == 0)
     by false = six (bound_small form 0 t.greatest is high.x) (bound_small form 0 t.least is low.x) (bound_small form 1 t.greatest is high.y) (bound_small form 1 t.least is low.y)
         (bound_small form 2 t.greatest is high.z) (bound_small form 2 t.least is low.z)
 
-pub totals_small : (form : LasForm) (points : List Point) → IsForm form → refusal form points ≡ None → HasSmallTotals form (totals_of form points)
+pub totals_small : (form : LasForm) (points : List Point) → IsForm form → refusal form 0 points ≡ None → HasSmallTotals form (totals_of form points)
 unfolding totals_of
 totals_small form points is held =
-    let all = small_from form 0 points held in
+    let all = small_from form 0 0 points held in
     let x = x_fit form points all in
     let y = y_fit form points all in
     let z = z_fit form points all in
@@ -149,4 +152,4 @@ vlrs_length (v ∷ vlrs) h =
     omega (arith, length-append (vlr_bytes v) (flat_map vlr_bytes vlrs), vlr_length v (All-head IsVlr v vlrs h).sizes, vlrs_length vlrs (All-tail IsVlr v vlrs h), sum_by-cons payload_size v vlrs)
 
 pub start_small : (form : LasForm) → IsForm form → points_at form < 2 ^ 32
-start_small form is = omega (arith, is.vlrs.count, is.vlrs.payloads, vlrs_length form.vlrs is.vlrs.each)
+start_small form is = omega (arith, block_is_short form.minor, is.vlrs.count, is.vlrs.payloads, vlrs_length form.vlrs is.vlrs.each)

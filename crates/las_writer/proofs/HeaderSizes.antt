@@ -9,8 +9,10 @@ use Rattle.las_header.specs.declared.form.Format.{Format}
 use Rattle.las_header.specs.declared.form.Format.TheVariants.{F0, F1, F2, F3, F6, F7, F8}
 use Rattle.las_header.specs.Formats.{format_number, format_size}
 use Rattle.las_header.specs.Sizes.{HasFileSizes, HasRecordSizes, HasGridSizes, HasCountSizes}
-use Rattle.las_header.specs.Written.{nano_bytes, scale_bytes, file_part, record_part, grid_part, count_part, header_bytes}
-use Rattle.las_header.proofs.Standing.{HasSizes}
+use Rattle.las_header.specs.Written.{nano_bytes, scale_bytes, file_part, record_part, grid_part, count_part, header_fields, header_block}
+use Rattle.las_header.specs.Versions.{block_size}
+use Rattle.las_header.proofs.Standing.{HasSizes, block_is_short, block_length}
+use Rattle.las_vlr.specs.declared.entry.Vlr.{Vlr}
 use Rattle.cloud_points.specs.declared.point.Point.{Point}
 use Rattle.forward_rules.specs.declared.form.LasForm.{LasForm}
 use Rattle.las_writer.specs.declared.totals.Totals.{Totals}
@@ -18,7 +20,7 @@ use Rattle.las_writer.specs.Sizes.{HasFieldSizes, HasSmallTotals}
 use Rattle.cloud_points.specs.Queue.{up_to_limit}
 use Rattle.las_writer.specs.Totals.{returns_from, totals_of}
 use Rattle.las_writer.specs.Records.{grid_for}
-use Rattle.las_writer.specs.LasOutput.{IsForm, is_old, with_text_systems, legacy, bound, bounds, points_at, evlrs_at, header_with}
+use Rattle.las_writer.specs.LasOutput.{IsForm, is_old, with_text_systems, legacy, bound, bounds, points_at, has_wide_counts, file_evlrs, evlrs_at, from_one, header_with}
 
 pub flat_length : {A : Type 0} (f : A → List ℕ) (width : ℕ) (items : List A) → ((x : A) → length (f x) ≡ width) → length (flat_map f items) ≡ width * length items
 flat_length f width [] h = omega arith
@@ -81,13 +83,20 @@ count_length h s =
     five (to_le_bytes w64 h.waveform) (to_le_bytes w64 h.evlrs_at) (to_le_bytes w32 h.evlrs) (to_le_bytes w64 h.count) (flat_map (to_le_bytes w64) h.returns)
     ∙ omega (arith, flat_length (to_le_bytes w64) 8 h.returns (λ n. refl), s.fifteen_returns)
 
--- a header's bytes
-pub header_length : (h : Header) → HasSizes h → length (header_bytes h) ≡ 375
-header_length h s =
+pub all_length : (h : Header) → HasSizes h → length (header_fields h) ≡ 375
+all_length h s =
     let a = file_part h in
     let b = record_part h in
     let c = grid_part h in
     omega (arith, length-append (a ++ b ++ c) (count_part h), length-append (a ++ b) c, length-append a b, file_length h s.file, record_length h s.recorded, grid_length h s.grid, count_length h s.count)
+
+pub same_minor : (form : LasForm) (t : Totals) → (header_with form t).minor ≡ form.minor
+unfolding header_with
+same_minor form t = refl
+
+-- a header's block
+pub header_length : (h : Header) → HasSizes h → length (header_block h) ≡ block_size h.minor
+header_length h s = block_length h (all_length h s)
 
 encoding_small : (format : Format) (encoding : ℕ) → encoding < 2 ^ 16 → with_text_systems format encoding < 2 ^ 16
 encoding_small format encoding h = by (is_old format) (encoding / 16 % 2 == 0) refl
@@ -112,7 +121,7 @@ bounds_length form t = by (t.count == 0)
     by false = refl
 
 evlrs_at_small : (form : LasForm) (count : ℕ) → evlrs_at form count < 2 ^ 64
-evlrs_at_small form count = by (length form.evlrs == 0)
+evlrs_at_small form count = by (length (file_evlrs form) == 0)
   where
     by : (b : Bool) → (if b then 0 else up_to_limit (points_at form + format_size form.format * count)) < 2 ^ 64
     by true = omega arith
@@ -131,6 +140,23 @@ pub all_mapped : {A : Type 0} (P : ℕ → Type 0) (f : A → ℕ) (items : List
 all_mapped P f [] h = λ k d l. absurd (omega arith)
 all_mapped P f (x ∷ items) h = All-cons P (f x) (map f items) (h x) (all_mapped P f items h)
 
+-- what only a file of 1.4 has
+evlrs_few : (b : Bool) (evlrs : List Vlr) → length evlrs < 2 ^ 32 → length (if b then evlrs else []) < 2 ^ 32
+evlrs_few true evlrs h = h
+evlrs_few false evlrs h = omega arith
+
+count_small : (b : Bool) (n : ℕ) → n < 2 ^ 64 → (if b then n else 0) < 2 ^ 64
+count_small true n h = h
+count_small false n h = omega arith
+
+returns_length : (b : Bool) (all : List ℕ) → length (if b then from_one all else replicate 15 0) ≡ 15
+returns_length true all = refl
+returns_length false all = refl
+
+returns_small : (b : Bool) (all : List ℕ) → ((k : ℕ) → slice_index all k < 2 ^ 64) → All (λ n. n < 2 ^ 64) (if b then from_one all else replicate 15 0)
+returns_small true all h = all_mapped (λ n. n < 2 ^ 64) (slice_index all) (1 ∷ 2 ∷ 3 ∷ 4 ∷ 5 ∷ 6 ∷ 7 ∷ 8 ∷ 9 ∷ 10 ∷ 11 ∷ 12 ∷ 13 ∷ 14 ∷ 15 ∷ []) h
+returns_small false all h = all_mapped {A = ℕ} (λ n. n < 2 ^ 64) (λ n. 0) (replicate 15 0) (λ n. omega arith)
+
 -- the sizes of a header
 pub header_sizes : (form : LasForm) (t : Totals) → HasFieldSizes form → IsForm form → points_at form < 2 ^ 32 → HasSmallTotals form t → HasSizes (header_with form t)
 unfolding header_with
@@ -146,7 +172,7 @@ header_sizes form t fields is start small = record {
     year = fields.year;
   };
   recorded = record {
-    header_size = omega arith;
+    header_size = omega (arith, block_is_short form.minor);
     points_at = start;
     vlrs = omega (arith, is.vlrs.count);
     record_length = size_small form.format;
@@ -163,10 +189,10 @@ header_sizes form t fields is start small = record {
   count = record {
     waveform = omega arith;
     evlrs_at = evlrs_at_small form t.count;
-    evlrs = omega (arith, is.evlrs.count);
-    count = small.count;
-    fifteen_returns = refl;
-    returns = all_mapped (λ n. n < 2 ^ 64) (slice_index t.returns) (1 ∷ 2 ∷ 3 ∷ 4 ∷ 5 ∷ 6 ∷ 7 ∷ 8 ∷ 9 ∷ 10 ∷ 11 ∷ 12 ∷ 13 ∷ 14 ∷ 15 ∷ []) small.returns;
+    evlrs = evlrs_few (has_wide_counts form.minor) form.evlrs (omega (arith, is.evlrs.count));
+    count = count_small (has_wide_counts form.minor) t.count small.count;
+    fifteen_returns = returns_length (has_wide_counts form.minor) t.returns;
+    returns = returns_small (has_wide_counts form.minor) t.returns small.returns;
   };
 }
 

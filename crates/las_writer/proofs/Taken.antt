@@ -1,20 +1,23 @@
 -- The forms that go over are those that a writer takes.
-use Rattle.std.proofs.Common.{ℕ, zero, suc, ◌≤◌, ℤ, pos, Bool, true, false, cond, List, [], ◌∷◌, length, map, Option, Some, None, if◌then◌else◌, arith}
+use Rattle.std.proofs.Common.{◌≡◌, refl, ℕ, zero, suc, ◌≤◌, ℤ, pos, Bool, true, false, cond, List, [], ◌∷◌, length, map, Option, Some, None, if◌then◌else◌, arith}
 use Rattle.std.specs.Prelude.{IfSome, ◌&&◌, not}
 use Rattle.std.specs.Ordering.{int_eq}
 use Rattle.std.specs.List.{All, list_all, filter, sum_by}
 use Rattle.std.proofs.lemmas.Int.{ints}
 use Rattle.std.proofs.lemmas.List.Elements.{All-nil, All-cons, All-head, All-tail}
 use Rattle.std.proofs.lemmas.List.Sums.{sum_by-cons}
+use Rattle.las_header.specs.declared.form.Format.{Format}
+use Rattle.las_header.specs.declared.form.Format.TheVariants.{F3}
 use Rattle.las_header.specs.Offsets.{IsOffset}
+use Rattle.las_header.specs.Versions.{takes_format}
 use Rattle.las_vlr.specs.declared.entry.Vlr.{Vlr}
 use Rattle.las_vlr.specs.Limits.{AreHeld, AreHeldVlrs, AreHeldEvlrs}
 use Rattle.las_vlr.specs.Written.{IsVlr, IsEvlr, payload_size}
 use Rattle.forward_rules.specs.declared.options.LasOpts.{LasOpts}
 use Rattle.forward_rules.specs.Asked.{asked}
 use Rattle.forward_rules.specs.Lists.{is_extra_bytes}
-use Rattle.forward_rules.specs.Values.{default_values, offset_on}
-use Rattle.forward_rules.specs.Forwarded.{ReadFile, decided, given_on, flag_on, decided_offset, same_lists, decided_lists, form_of}
+use Rattle.forward_rules.specs.Values.{default_values, format_in, offset_on, same_format}
+use Rattle.forward_rules.specs.Forwarded.{ReadFile, decided, given_on, given_or, flag_on, decided_offset, same_lists, decided_lists, form_of}
 use Rattle.forward_rules.specs.Options.{AreGoodOptions}
 use Rattle.las_writer.specs.Laws.{IsGoodRead, AreGoodReads, FormsAreTaken}
 
@@ -97,12 +100,21 @@ filtered_held IsRecord test vlrs h = record {
   each = filtered_all IsRecord test vlrs h.each;
 }
 
+-- the format that is taken is one of the version
+format_taken : (minor : ℕ) (format : Format) → takes_format minor (format_in minor format) ≡ true
+format_taken minor format = by (takes_format minor format) refl
+  where
+    by : (b : Bool) → takes_format minor format ≡ b → takes_format minor (if b then format else F3) ≡ true
+    by true e = e
+    by false e = refl
+
 pub forms_are_taken : FormsAreTaken
 unfolding form_of
 forms_are_taken opts reads o good =
     let lists = lists_held opts reads good in
     record {
       version = o.version;
+      format = format_taken (given_or opts.minor 4) (decided same_format opts.format (asked opts.forward).format (map (λ r. r.values.format) reads) default_values.format);
       offsets = three_good (decided_offset opts reads 0) (decided_offset opts reads 1) (decided_offset opts reads 2) (offset_taken opts reads 0 o good) (offset_taken opts reads 1 o good) (offset_taken opts reads 2 o good);
       vlrs = filtered_held IsVlr (λ v. not (is_extra_bytes v)) (decided_lists opts reads).0 lists.vlrs;
       evlrs = lists.evlrs;

@@ -1,14 +1,15 @@
--- The file of a LAS writer (LAS 1.4 R15): the header, the VLRs, the records and the EVLRs.
-use Rattle.std.specs.Prelude.{◌≡◌, ℕ, ◌+◌, ◌*◌, ◌/◌, ◌%◌, ◌-◌, ◌^◌, ℤ, ◌==◌, min, nat_lt, Bool, ◌&&◌, if◌then◌else◌, List, [], ◌∷◌, ◌++◌, length, map, replicate, slice_index, codes}
+-- The file of a LAS writer: the header block, the VLRs, the records and, in LAS 1.4, the EVLRs.
+use Rattle.std.specs.Prelude.{◌≡◌, ℕ, ◌+◌, ◌*◌, ◌/◌, ◌%◌, ◌-◌, ◌^◌, ℤ, ◌==◌, min, nat_lt, Bool, true, ◌&&◌, if◌then◌else◌, List, [], ◌∷◌, ◌++◌, length, map, replicate, slice_index, codes}
 use Rattle.std.specs.List.{All, flat_map}
 use Rattle.cloud_points.specs.declared.point.Point.{Point}
 use Rattle.ieee_words.specs.NearWord.{near_word}
 use Rattle.las_header.specs.declared.block.Header.{Header}
 use Rattle.las_header.specs.declared.form.Format.{Format}
 use Rattle.las_header.specs.Formats.{format_number, format_size}
-use Rattle.las_header.specs.Headers.{block_size}
 use Rattle.las_header.specs.Offsets.{IsOffset}
-use Rattle.las_header.specs.Written.{header_bytes}
+use Rattle.las_header.specs.Versions.{block_size, is_version, takes_format}
+use Rattle.las_header.specs.Written.{header_block}
+use Rattle.las_vlr.specs.declared.entry.Vlr.{Vlr}
 use Rattle.las_vlr.specs.Limits.{AreHeldVlrs, AreHeldEvlrs}
 use Rattle.las_vlr.specs.Written.{vlr_bytes, evlr_bytes}
 use Rattle.point_formats.specs.declared.grid.Grid.{Grid}
@@ -19,12 +20,18 @@ use Rattle.las_writer.specs.Records.{grid_for, records}
 use Rattle.cloud_points.specs.Queue.{up_to_limit}
 use Rattle.las_writer.specs.Totals.{number_on, totals_of}
 
--- what a writer takes: version 1.4, offsets below 10 ^ 9 in size, and lists within the limits of those that are read
+-- what a writer takes: version 1.2, 1.3 or 1.4, a format of that version, offsets below 10 ^ 9 in size, and lists within the limits of
+-- those that are read
 pub record IsForm (form : LasForm) : Type 0 where
-  pub version : form.minor ≡ 4
+  pub version : is_version form.minor ≡ true
+  pub format : takes_format form.minor form.format ≡ true
   pub offsets : All IsOffset form.offset
   pub vlrs : AreHeldVlrs form.vlrs
   pub evlrs : AreHeldEvlrs form.evlrs
+
+-- LAS 1.4 alone has EVLRs, and counts of 64 bits
+abbrev pub has_wide_counts : ℕ → Bool
+has_wide_counts minor = minor == 4
 
 -- formats 0 to 3, which have counts of 32 bits too
 abbrev pub is_old : Format → Bool
@@ -58,16 +65,20 @@ bounds grid t = if t.count == 0 then replicate 6 0 else bound grid 0 t.greatest 
 abbrev pub vlrs_bytes : LasForm → List ℕ
 vlrs_bytes form = flat_map vlr_bytes form.vlrs
 
+-- the EVLRs of the file
+abbrev pub file_evlrs : LasForm → List Vlr
+file_evlrs form = if has_wide_counts form.minor then form.evlrs else []
+
 abbrev pub evlrs_bytes : LasForm → List ℕ
-evlrs_bytes form = flat_map evlr_bytes form.evlrs
+evlrs_bytes form = flat_map evlr_bytes (file_evlrs form)
 
 -- where the points begin
 abbrev pub points_at : LasForm → ℕ
-points_at form = block_size + length (vlrs_bytes form)
+points_at form = block_size form.minor + length (vlrs_bytes form)
 
 -- where the EVLRs begin, behind so many points; 0 without EVLRs
 abbrev pub evlrs_at : LasForm → ℕ → ℕ
-evlrs_at form count = if length form.evlrs == 0 then 0 else up_to_limit (points_at form + format_size form.format * count)
+evlrs_at form count = if length (file_evlrs form) == 0 then 0 else up_to_limit (points_at form + format_size form.format * count)
 
 -- the header with these totals
 unfoldable pub header_with : LasForm → Totals → Header
@@ -82,7 +93,7 @@ header_with form t = record {
   software = form.software;
   day = form.day;
   year = form.year;
-  header_size = block_size;
+  header_size = block_size form.minor;
   points_at = points_at form;
   vlrs = length form.vlrs;
   format = form.format;
@@ -94,9 +105,9 @@ header_with form t = record {
   bounds = bounds (grid_for form) t;
   waveform = 0;
   evlrs_at = evlrs_at form t.count;
-  evlrs = length form.evlrs;
-  count = t.count;
-  returns = from_one t.returns;
+  evlrs = length (file_evlrs form);
+  count = if has_wide_counts form.minor then t.count else 0;
+  returns = if has_wide_counts form.minor then from_one t.returns else replicate 15 0;
 }
 
 -- the header of a file of these points
@@ -105,8 +116,8 @@ header_for form points = header_with form (totals_of form points)
 
 -- a file that isn't finished: its header is that of no points, and the EVLRs lack
 abbrev pub las_unfinished : LasForm → List Point → List ℕ
-las_unfinished form points = header_bytes (header_for form []) ++ (vlrs_bytes form ++ records form points)
+las_unfinished form points = header_block (header_for form []) ++ (vlrs_bytes form ++ records form points)
 
 -- the whole file of these points
 abbrev pub las_output : LasForm → List Point → List ℕ
-las_output form points = header_bytes (header_for form points) ++ (vlrs_bytes form ++ (records form points ++ evlrs_bytes form))
+las_output form points = header_block (header_for form points) ++ (vlrs_bytes form ++ (records form points ++ evlrs_bytes form))

@@ -1,13 +1,13 @@
 -- Points that are cut into parts.
-use Rattle.std.specs.Prelude.{◌≡◌, ℕ, ◌+◌, ◌<◌, ℤ, FitsSigned, List, [], ◌∷◌, ◌++◌, length, Some, None, Ok, option_map, ⊤}
+use Rattle.std.specs.Prelude.{◌≡◌, ℕ, ◌+◌, ℤ, FitsSigned, List, [], ◌∷◌, ◌++◌, length, Some, None, Ok, option_map, ⊤}
 use Rattle.std.specs.Int.{w32}
 use Rattle.decimal_coords.specs.Grid.{nearest_step}
 use Rattle.point_formats.specs.declared.grid.Grid.{Grid}
 use Rattle.point_formats.specs.Grids.{scale_on, offset_on}
 use Rattle.cloud_points.specs.declared.point.Point.{Point}
 use Rattle.forward_rules.specs.declared.form.LasForm.{LasForm}
-use Rattle.point_formats.specs.declared.encoding.EncodeFault.{EncodeFault}
-use Rattle.las_writer.specs.Records.{grid_for, written, raw_number, records, refusal, refusal_from}
+use Rattle.las_writer.specs.declared.faults.RecordFault.{RecordFault}
+use Rattle.las_writer.specs.Records.{grid_for, written, raw_number, records, refusal}
 use Rattle.std.specs.List.{All}
 use Rattle.las_header.specs.Offsets.{IsOffset}
 use Rattle.las_vlr.specs.Limits.{AreHeldVlrs, AreHeldEvlrs}
@@ -18,19 +18,11 @@ use Rattle.las_writer.specs.LasOutput.{IsForm, las_unfinished}
 
 -- behind a refused point nothing counts
 abbrev pub FirstPartRefuses : Type 0
-FirstPartRefuses = (form : LasForm) (a b : List Point) (r : ℕ × EncodeFault) → refusal form a ≡ Some r → refusal form (a ++ b) ≡ Some r
+FirstPartRefuses = (form : LasForm) (k : ℕ) (a b : List Point) (r : ℕ × RecordFault) → refusal form k a ≡ Some r → refusal form k (a ++ b) ≡ Some r
 
--- where the first part has no refused point, the second one is judged behind it
+-- where the first part has no refused point, the second one is judged behind it, with its numbers counted on
 abbrev pub SecondPartRefuses : Type 0
-SecondPartRefuses = (form : LasForm) (a b : List Point) → refusal form a ≡ None → refusal form (a ++ b) ≡ refusal_from form (length a) b
-
--- points behind others have the same refusal, with so many added to its number
-abbrev pub NumbersShift : Type 0
-NumbersShift = (form : LasForm) (n : ℕ) (points : List Point) → refusal_from form n points ≡ option_map (λ r. (n + r.0, r.1)) (refusal form points)
-
--- a refused point is one of the points
-abbrev pub RefusedIsThere : Type 0
-RefusedIsThere = (form : LasForm) (points : List Point) (r : ℕ × EncodeFault) → refusal form points ≡ Some r → r.0 < length points
+SecondPartRefuses = (form : LasForm) (k : ℕ) (a b : List Point) → refusal form k a ≡ None → refusal form k (a ++ b) ≡ option_map (λ r. (length a + r.0, r.1)) (refusal form (k + length a) b)
 
 -- the unfinished file of more points
 abbrev pub UnfinishedGrows : Type 0

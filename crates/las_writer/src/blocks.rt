@@ -5,7 +5,7 @@ ghost use Rattle.std.specs.List.{All};
 ghost use Rattle.las_header.specs.Formats.{format_size};
 ghost use Rattle.las_header.specs.Offsets.{IsOffset};
 ghost use Rattle.point_formats.specs.Grids.{IsNear, coordinate};
-ghost use Rattle.las_writer.specs.LasOutput.{IsForm, is_old, with_text_systems, legacy, legacy_returns, from_one, bound, bounds, points_at, evlrs_at, header_with};
+ghost use Rattle.las_writer.specs.LasOutput.{IsForm, has_wide_counts, is_old, with_text_systems, legacy, legacy_returns, from_one, bound, bounds, points_at, file_evlrs, evlrs_at, header_with};
 
 use crate::Totals;
 use crate::records::grid_for;
@@ -13,11 +13,30 @@ use crate::totals::RETURNS;
 use decimal_coords::real;
 use forward_rules::LasForm;
 use ieee_words::near;
-use las_header::{BLOCK_SIZE, Format, Header};
+use las_header::{Format, Header, block_size};
+use las_vlr::Vlr;
 use point_formats::Grid;
 
 /// Bit 4 of the encoding, which says that coordinate systems are given as text.
 const TEXT_SYSTEMS: u16 = 16;
+
+/// Whether files of this minor version have EVLRs, and counts of 64 bits: those of LAS 1.4 alone.
+fn has_wide_counts(minor: u8) -> bool
+    ensures { result ≡ has_wide_counts minor }
+{
+    minor == 4
+}
+
+/// The EVLRs of the file.
+pub(crate) fn file_evlrs(form: &LasForm) -> &[Vlr]
+    ensures { result.now ≡ file_evlrs form.now }
+{
+    if has_wide_counts(form.minor) {
+        form.evlrs.as_slice()
+    } else {
+        &[]
+    }
+}
 
 /// Whether a format is one of 0 to 3, which have counts of 32 bits too.
 fn is_old(format: Format) -> bool
@@ -87,7 +106,7 @@ fn evlrs_at(form: &LasForm, start: u32, count: u64) -> u64
     requires { start ≡ points_at form.now }
     ensures { result ≡ evlrs_at form.now count }
 {
-    if form.evlrs.as_slice().is_empty() {
+    if file_evlrs(form).is_empty() {
         return 0;
     }
     let size = form.format.size() as u64;
@@ -104,6 +123,7 @@ pub(crate) fn header_with(form: &LasForm, start: u32, totals: &Totals) -> Header
     let count = totals.count;
     let all = totals.returns;
     let format = form.format;
+    let is_wide = has_wide_counts(form.minor);
     Header {
         signature: *b"LASF",
         source_id: form.source_id,
@@ -115,7 +135,7 @@ pub(crate) fn header_with(form: &LasForm, start: u32, totals: &Totals) -> Header
         software: form.software,
         day: form.day,
         year: form.year,
-        header_size: BLOCK_SIZE as u16,
+        header_size: block_size(form.minor) as u16,
         points_at: start,
         vlrs: form.vlrs.as_slice().len() as u32,
         format,
@@ -127,9 +147,9 @@ pub(crate) fn header_with(form: &LasForm, start: u32, totals: &Totals) -> Header
         bounds: bounds(&grid_for(form), totals),
         waveform: 0,
         evlrs_at: evlrs_at(form, start, count),
-        evlrs: form.evlrs.as_slice().len() as u32,
-        count,
-        returns: from_one(all),
+        evlrs: file_evlrs(form).len() as u32,
+        count: if is_wide { count } else { 0 },
+        returns: if is_wide { from_one(all) } else { [0; 15] },
     }
 }
 

@@ -16,6 +16,11 @@ pub(crate) fn known_u32(number: u32)
     ensures { number < 2 ^ 32 }
 {}
 
+/// A number fits its type.
+pub(crate) fn known_u64(number: u64)
+    ensures { number < 2 ^ 64 }
+{}
+
 /// An array has its length.
 fn known_length<const N: usize>(bytes: [u8; N])
     ensures { length bytes.entry ≡ N }

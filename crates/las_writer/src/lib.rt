@@ -1,5 +1,5 @@
-//! Writes points as a LAS file (ASPRS LAS Specification 1.4 R15): the header, the VLRs, a record for each point, and the
-//! EVLRs.
+//! Writes points as a LAS file of version 1.2, 1.3 or 1.4 (ASPRS LAS Specification 1.4 R15): the header block, the
+//! VLRs, a record for each point, and in 1.4 the EVLRs.
 #![tactic(auto)]
 
 mod blocks;
@@ -11,8 +11,8 @@ mod records;
 mod totals;
 mod writer;
 
-pub use faults::{BeginErr, ChunkErr, PutFault};
+pub use faults::{BeginErr, ChunkErr, PutFault, RecordFault};
 pub use laws::{forms_are_taken, raw_numbers_are_steps, refusals_are_cut, unfinished_grows};
-pub use records::Refused;
+pub use records::RefusedPoint;
 pub use totals::Totals;
 pub use writer::{LasWriter, WriterParts};

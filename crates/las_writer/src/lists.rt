@@ -4,12 +4,12 @@ ghost use Rattle.std.specs.Prelude.{◌≡◌, ◌+◌, ◌≤◌, length, OnOk,
 ghost use Rattle.std.specs.List.{All, flat_map};
 ghost use Rattle.file_devices.specs.Counts.{HasCause};
 ghost use Rattle.file_devices.specs.Content.{Appends, AppendsPart};
-ghost use Rattle.las_header.specs.Headers.{block_size};
+ghost use Rattle.las_header.specs.Versions.{block_size};
 ghost use Rattle.las_vlr.specs.Limits.{AreHeldVlrs};
 ghost use Rattle.las_vlr.specs.Written.{IsVlr, payload_size, vlr_bytes, evlr_bytes};
 
 use file_devices::{Failed, Sink};
-use las_header::BLOCK_SIZE;
+use las_header::block_size;
 use las_vlr::{Vlr, write_evlr, write_vlr};
 
 /// The bytes in front of the payload of a VLR.
@@ -25,12 +25,12 @@ fn vlr_size(vlr: &Vlr) -> u32
     HEAD_SIZE + vlr.payload.as_slice().len() as u32
 }
 
-/// Where the points begin behind the header and these VLRs.
-pub(crate) fn points_at(vlrs: &[Vlr]) -> u32
+/// Where the points begin in a file of this minor version, behind the header block and these VLRs.
+pub(crate) fn points_at(minor: u8, vlrs: &[Vlr]) -> u32
     requires { AreHeldVlrs vlrs.now }
-    ensures { result ≡ block_size + length (flat_map vlr_bytes vlrs.now) }
+    ensures { result ≡ block_size minor + length (flat_map vlr_bytes vlrs.now) }
 {
-    let mut at = BLOCK_SIZE as u32;
+    let mut at = block_size(minor) as u32;
     for vlr in vlrs {
         at += vlr_size(vlr);
     }

@@ -1,31 +1,32 @@
 //! The writer.
 
-ghost use Rattle.std.specs.Prelude.{◌≡◌, ◌+◌, ◌≤◌, ◌++◌, ◌∷◌, [], List, Some, None, Err, true, length, IfOk, IfErr, OnOk, OnErr, vec_len};
+ghost use Rattle.std.specs.Prelude.{◌≡◌, ◌+◌, ◌≤◌, ◌++◌, ◌∷◌, [], List, Some, None, Err, true, length, take, IfOk, IfErr, OnOk, OnErr, vec_len};
+ghost use Rattle.cloud_points.specs.Queue.{up_to_limit};
 ghost use Rattle.cloud_points.specs.declared.point.Point.{Point};
 ghost use Rattle.file_devices.specs.Counts.{HasCause, Rose};
 ghost use Rattle.file_devices.specs.Content.{Appends, AppendsPart, Patches};
 ghost use Rattle.file_devices.specs.Told.{IsAsTold};
-ghost use Rattle.las_header.specs.Written.{header_bytes};
-ghost use Rattle.las_writer.specs.Records.{written, records, refusal};
+ghost use Rattle.las_header.specs.Versions.{block_size};
+ghost use Rattle.las_header.specs.Written.{header_block};
+ghost use Rattle.las_writer.specs.Records.{fits, written, records, refusal, unplaced};
 ghost use Rattle.las_writer.specs.Totals.{totals_of};
 ghost use Rattle.las_writer.specs.LasOutput.{IsForm, points_at, vlrs_bytes, header_with, las_unfinished, las_output};
 ghost use Rattle.las_writer.specs.Holding.{holds_las, IsRefused, put_fault, IsPutFault};
 
-use crate::blocks::header_with;
-use crate::known::{known_fields, known_u32};
+use crate::blocks::{file_evlrs, header_with};
+use crate::known::{known_fields, known_u32, known_u64};
 use crate::lists::{points_at, put_evlrs, put_vlrs};
-use crate::records::{CHUNK_ROOM, put_records};
-use crate::{BeginErr, ChunkErr, PutFault, Totals};
+use crate::records::{CHUNK_ROOM, put_chunk};
+use crate::{BeginErr, ChunkErr, PutFault, RecordFault, Totals};
 use cloud_points::{MOST_POINTS, Point};
 use file_devices::{Failed, FileSink, Sink};
 use forward_rules::LasForm;
-use las_header::{BLOCK_SIZE, write_header};
-use point_formats::EncodeFault;
+use las_header::{LONGEST_BLOCK, write_header};
 use std::alloc::Global;
 use std::marker::Model;
 
-/// A writer of points as a LAS file: the header and the VLRs, a record for each point, and the EVLRs. It is ended by
-/// `finish`, and `release` gives the sink back.
+/// A writer of points as a LAS file: the header block and the VLRs, a record for each point, and in LAS 1.4 the EVLRs.
+/// It is ended by `finish`, and `release` gives the sink back.
 pub struct LasWriter<K: FileSink> {
     parts: WriterParts<K>,
 }
@@ -44,14 +45,15 @@ pub struct WriterParts<K> {
 
 impl<K: FileSink> Model for LasWriter<K> {
     ghost use Rattle.std.specs.Prelude.{◌≤◌};
+    ghost use Rattle.las_header.specs.Versions.{block_size};
     ghost use Rattle.las_writer.specs.declared.writer.WriterParts.{WriterParts as Parts};
 
     ghost Value = { Parts K };
 
     ghost view = { λ w. w.parts };
 
-    // The header stands in front.
-    ghost invariant = { λ w. 375 ≤ K.appended w.parts.sink };
+    // The header block stands in front.
+    ghost invariant = { λ w. block_size w.parts.form.minor ≤ K.appended w.parts.sink };
 }
 
 /// What is wrong with a chunk of one point.
@@ -60,25 +62,32 @@ fn put_fault(e: ChunkErr) -> PutFault
 {
     match e {
         ChunkErr::Refused(refused) => match refused.why {
-            EncodeFault::NotHeld(dim) => PutFault::NotHeld(dim),
-            EncodeFault::ValueOutOfRange(dim) => PutFault::ValueOutOfRange(dim),
+            RecordFault::TooMany => PutFault::TooMany,
+            RecordFault::NotHeld(dim) => PutFault::NotHeld(dim),
+            RecordFault::ValueOutOfRange(dim) => PutFault::ValueOutOfRange(dim),
         },
         ChunkErr::Failed => PutFault::Failed,
     }
 }
 
-/// The header block with these totals.
-fn header_block(form: &LasForm, start: u32, totals: &Totals) -> [u8; BLOCK_SIZE]
+/// Writes the header block with these totals at the front of `block`, and answers its size.
+fn header_block(
+    form: &LasForm,
+    start: u32,
+    totals: &Totals,
+    block: &mut [u8; LONGEST_BLOCK],
+) -> usize
     requires form { IsForm form.now }
     requires start { start ≡ points_at form.now }
-    ensures { result ≡ header_bytes (header_with form.now totals.now) }
+    ensures bytes { take result block.new ≡ header_block (header_with form.now totals.now) }
+    ensures size { result ≡ block_size form.now.minor }
+    ensures long { length (header_block (header_with form.now totals.now)) ≡ block_size form.now.minor }
+    ensures within { result ≤ LONGEST_BLOCK }
 {
-    let mut block = [0; BLOCK_SIZE];
-    write_header(&header_with(form, start, totals), &mut block);
-    block
+    write_header(&header_with(form, start, totals), block)
 }
 
-/// Appends the header with these totals.
+/// Appends the header block with these totals.
 fn put_header<K: Sink>(
     form: &LasForm,
     start: u32,
@@ -87,17 +96,19 @@ fn put_header<K: Sink>(
 ) -> Result<(), Failed>
     requires form { IsForm form.now }
     requires start { start ≡ points_at form.now }
-    ensures ok { OnOk result (Appends (K.bytes sink.old) (header_bytes (header_with form.now totals.now))
+    ensures ok { OnOk result (Appends (K.bytes sink.old) (header_block (header_with form.now totals.now))
         (K.bytes sink.new)) }
-    ensures part { OnErr result (AppendsPart (K.bytes sink.old) (header_bytes (header_with form.now totals.now))
+    ensures part { OnErr result (AppendsPart (K.bytes sink.old) (header_block (header_with form.now totals.now))
         (K.bytes sink.new)) }
-    ensures begun { OnOk result (375 ≤ K.appended sink.new) }
+    ensures begun { OnOk result (block_size form.now.minor ≤ K.appended sink.new) }
     ensures cause { HasCause (K.faults sink.old) (K.faults sink.new) result }
 {
-    sink.append(&header_block(form, start, totals))
+    let mut block = [0; LONGEST_BLOCK];
+    let size = header_block(form, start, totals, &mut block);
+    sink.append(&block[..size])
 }
 
-/// Puts a header with these totals in place of the one in front.
+/// Puts a header block with these totals in place of the one in front.
 fn patch_header<K: FileSink>(
     form: &LasForm,
     start: u32,
@@ -106,14 +117,16 @@ fn patch_header<K: FileSink>(
 ) -> Result<(), Failed>
     requires form { IsForm form.now }
     requires start { start ≡ points_at form.now }
-    requires begun { 375 ≤ K.appended sink.old }
-    ensures ok { OnOk result (Patches (K.bytes sink.old) 0 (header_bytes (header_with form.now totals.now))
+    requires begun { block_size form.now.minor ≤ K.appended sink.old }
+    ensures ok { OnOk result (Patches (K.bytes sink.old) 0 (header_block (header_with form.now totals.now))
         (K.bytes sink.new)) }
-    ensures size { length (header_bytes (header_with form.now totals.now)) ≡ 375 }
-    ensures begun { 375 ≤ K.appended sink.new }
+    ensures size { length (header_block (header_with form.now totals.now)) ≡ block_size form.now.minor }
+    ensures begun { block_size form.now.minor ≤ K.appended sink.new }
     ensures cause { HasCause (K.faults sink.old) (K.faults sink.new) result }
 {
-    sink.patch(0, &header_block(form, start, totals))
+    let mut block = [0; LONGEST_BLOCK];
+    let size = header_block(form, start, totals, &mut block);
+    sink.patch(0, &block[..size])
 }
 
 /// Appends what stands in front of the points.
@@ -126,10 +139,10 @@ fn put_front<K: Sink>(
     requires form { IsForm form.now }
     requires start { start ≡ points_at form.now }
     ensures ok { OnOk result (Appends (K.bytes sink.old)
-        (header_bytes (header_with form.now totals.now) ++ vlrs_bytes form.now) (K.bytes sink.new)) }
+        (header_block (header_with form.now totals.now) ++ vlrs_bytes form.now) (K.bytes sink.new)) }
     ensures part { OnErr result (AppendsPart (K.bytes sink.old)
-        (header_bytes (header_with form.now totals.now) ++ vlrs_bytes form.now) (K.bytes sink.new)) }
-    ensures begun { OnOk result (375 ≤ K.appended sink.new) }
+        (header_block (header_with form.now totals.now) ++ vlrs_bytes form.now) (K.bytes sink.new)) }
+    ensures begun { OnOk result (block_size form.now.minor ≤ K.appended sink.new) }
     ensures cause { HasCause (K.faults sink.old) (K.faults sink.new) result }
 {
     put_header(form, start, totals, sink)?;
@@ -139,9 +152,10 @@ fn put_front<K: Sink>(
 impl<K: FileSink> LasWriter<K> {
     /// A writer onto a sink to which nothing was appended; it appends a header without points, and the VLRs.
     ///
-    /// The form is of version 1.4, its offsets are below 10^18 nanounits in size, and its lists are within the limits of
-    /// those that are read. A refusal gives the sink back. It is `Memory` where there is none for the records of a chunk, and
-    /// the sink is then as it was; it is `Failed` only where the sink failed, and a beginning was appended then.
+    /// The form is of version 1.2, 1.3 or 1.4, its format is one of the version, its offsets are below 10^18 nanounits
+    /// in size, and its lists are within the limits of those that are read. A refusal gives the sink back. It is
+    /// `Memory` where there is none for the records of a chunk, and the sink is then as it was; it is `Failed` only
+    /// where the sink failed, and a beginning was appended then.
     pub fn begin(alloc: Global, sink: K, form: LasForm) -> Result<LasWriter<K>, (K, BeginErr)>
         requires { IsForm form }
         ensures ok { IfOk result (λ w. Appends (K.bytes sink) (las_unfinished form []) (K.bytes w.sink)) }
@@ -158,7 +172,7 @@ impl<K: FileSink> LasWriter<K> {
         let Ok(buffer) = vec![in alloc; 0u8; CHUNK_ROOM] else {
             return Err((sink, BeginErr::Memory));
         };
-        let start = points_at(form.vlrs.as_slice());
+        let start = points_at(form.minor, form.vlrs.as_slice());
         let totals = Totals::none();
         let mut sink = sink;
         match put_front(&form, start, &totals, &mut sink) {
@@ -175,24 +189,27 @@ impl<K: FileSink> LasWriter<K> {
         }
     }
 
-    /// Appends the records of a chunk of points, in their order, with one call of the sink, or with none where there are no
-    /// points: an empty piece would have the sink write what it holds back.
+    /// Appends the records of a chunk of points, in their order, with one call of the sink, or with none where there
+    /// are no points: an empty piece would have the sink write what it holds back.
     ///
-    /// It is `Refused` exactly where a point has no record, with the first such point, and changes nothing then. It is
-    /// `Failed` only where the sink failed. A prefix of the records was appended then.
+    /// It is `Refused` exactly where a point has no place in the file behind those that were written, with the first
+    /// such point, and changes nothing then: a file of version 1.2 or 1.3 counts at most 4,294,967,295 points, and each
+    /// point needs a record. It is `Failed` only where the sink failed. A prefix of the records was appended then.
     pub fn put_all(&mut self, points: &[Point]) -> Result<(), ChunkErr>
         requires { length points.now ≤ MOST_POINTS }
         ensures idle { points.now ≡ [] → self.new ≡ self.old }
         ensures ok { OnOk result (Appends (K.bytes self.old.sink) (records self.old.form points.now)
             (K.bytes self.new.sink)) }
-        ensures held { OnOk result (refusal self.old.form points.now ≡ None) }
+        ensures held { OnOk result (refusal self.old.form self.old.totals.count points.now ≡ None) }
         ensures totals { OnOk result ((before : List Point)
             → self.old.totals ≡ totals_of self.old.form before
             → self.new.totals ≡ totals_of self.old.form (before ++ points.now)) }
+        ensures count { OnOk result (self.new.totals.count
+            ≡ up_to_limit (self.old.totals.count + length points.now)) }
         ensures holds { (result ≡ Err ChunkErr.Failed → ⊥) → (before : List Point)
             → holds_las (K.bytes self.old.sink) self.old.form self.old.totals before ≡ true
             → holds_las (K.bytes self.new.sink) self.old.form self.new.totals (before ++ points.now) ≡ true }
-        ensures refused { IfErr result (IsRefused self.old.form points.now) }
+        ensures refused { IfErr result (IsRefused self.old.form self.old.totals.count points.now) }
         ensures unchanged { IfErr result (λ e. (e ≡ ChunkErr.Failed → ⊥) → self.new.sink ≡ self.old.sink) }
         ensures part { OnErr result (AppendsPart (K.bytes self.old.sink) (records self.old.form points.now)
             (K.bytes self.new.sink)) }
@@ -202,25 +219,34 @@ impl<K: FileSink> LasWriter<K> {
             → Rose (K.faults self.old.sink) (K.faults self.new.sink)) }
         ensures later { K.faults self.old.sink ≤ K.faults self.new.sink }
     {
+        let parts = &mut self.parts;
+        known_u64(parts.totals.count);
         if points.is_empty() {
             return Ok(());
         }
-        let parts = &mut self.parts;
         let mut totals = parts.totals;
-        let size = put_records(points, &parts.form, &mut parts.buffer, &mut totals)?;
+        let size = put_chunk(points, &parts.form, &mut parts.buffer, &mut totals)?;
         parts.sink.append(&parts.buffer[..size])?;
         parts.totals = totals;
         Ok(())
     }
 
+    /// How many points were written, up to the greatest u64.
+    pub fn count(&self) -> u64
+        ensures { result ≡ self.now.totals.count }
+    {
+        self.parts.totals.count
+    }
+
     /// Appends the record of a point.
     ///
-    /// It is `NotHeld` or `ValueOutOfRange` exactly where the point has no record, and changes nothing then. It is `Failed`
-    /// only where the sink failed. A prefix of the record was appended then.
+    /// It is `TooMany` exactly where the file counts no point more than those that were written, and else `NotHeld` or
+    /// `ValueOutOfRange` exactly where the point has no record; nothing changes then. It is `Failed` only where the
+    /// sink failed. A prefix of the record was appended then.
     pub fn put(&mut self, point: &Point) -> Result<(), PutFault>
         ensures ok { OnOk result (Appends (K.bytes self.old.sink) (records self.old.form (point.now ∷ []))
             (K.bytes self.new.sink)) }
-        ensures held { OnOk result (refusal self.old.form (point.now ∷ []) ≡ None) }
+        ensures held { OnOk result (refusal self.old.form self.old.totals.count (point.now ∷ []) ≡ None) }
         ensures totals { OnOk result ((before : List Point)
             → self.old.totals ≡ totals_of self.old.form before
             → self.new.totals ≡ totals_of self.old.form (before ++ point.now ∷ [])) }
@@ -228,7 +254,8 @@ impl<K: FileSink> LasWriter<K> {
             → holds_las (K.bytes self.old.sink) self.old.form self.old.totals before ≡ true
             → holds_las (K.bytes self.new.sink) self.old.form self.new.totals
             (before ++ point.now ∷ []) ≡ true) }
-        ensures refused { IfErr result (IsPutFault (written self.old.form point.now)) }
+        ensures refused { IfErr result (IsPutFault
+            (unplaced (fits self.old.form self.old.totals.count) (written self.old.form point.now))) }
         ensures unchanged { IfErr result (λ e. (e ≡ PutFault.Failed → ⊥) → self.new.sink ≡ self.old.sink) }
         ensures part { OnErr result (AppendsPart (K.bytes self.old.sink)
             (records self.old.form (point.now ∷ [])) (K.bytes self.new.sink)) }
@@ -245,14 +272,14 @@ impl<K: FileSink> LasWriter<K> {
         }
     }
 
-    /// Appends the EVLRs, puts a header with the totals of the points in place of the one in front, and has the sink write
-    /// what it holds back, by appending nothing.
+    /// Appends the EVLRs that the version has, puts a header block with the totals of the points in place of the one in
+    /// front, and has the sink write what it holds back, by appending nothing.
     ///
     /// It is `Failed` only where the sink failed. What the sink holds then is no file.
     pub fn finish(&mut self) -> Result<(), Failed>
         ensures ok { OnOk result ((points : List Point)
             → holds_las (K.bytes self.old.sink) self.old.form self.old.totals points ≡ true
-            → refusal self.old.form points ≡ None
+            → refusal self.old.form 0 points ≡ None
             → IsAsTold (K.bytes self.new.sink) (Some (las_output self.old.form points))) }
         ensures form { self.new.form ≡ self.old.form }
         ensures cause { HasCause (K.faults self.old.sink) (K.faults self.new.sink) result }
@@ -260,7 +287,7 @@ impl<K: FileSink> LasWriter<K> {
         let parts = &mut self.parts;
         known_fields(&parts.form);
         known_u32(parts.start);
-        put_evlrs(parts.form.evlrs.as_slice(), &mut parts.sink)?;
+        put_evlrs(file_evlrs(&parts.form), &mut parts.sink)?;
         patch_header(&parts.form, parts.start, &parts.totals, &mut parts.sink)?;
         parts.sink.append(&[])
     }

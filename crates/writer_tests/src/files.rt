@@ -4,9 +4,8 @@ use crate::samples::{BOUNDS, new_point, old_points, plain};
 use cloud_points::{Dim, MOST_POINTS, Point};
 use decimal_coords::Scale;
 use file_devices::{MemOut, SureOut};
-use las_header::Format;
-use las_writer::{BeginErr, ChunkErr, LasWriter, PutFault, Refused};
-use point_formats::EncodeFault;
+use las_header::{Format, is_version, takes_format};
+use las_writer::{BeginErr, ChunkErr, LasWriter, PutFault, RecordFault, RefusedPoint};
 use std::alloc::Global;
 
 /// Pieces of a file without points, in format 3, and their places.
@@ -20,18 +19,37 @@ const EMPTY: [(usize, &[u8]); 7] = [
     (147, &[0x7B, 0x14, 0xAE, 0x47, 0xE1, 0x7A, 0x84, 0x3F]),
 ];
 
+/// Two records of format 0.
+const RECORDS: [u8; 40] = [
+    0x64, 0, 0, 0, 0xC8, 0, 0, 0, 0x2C, 1, 0, 0, 0, 0, 9, 2, 0, 0, 0, 0, 0xFF, 0xFF, 0xFF, 0xFF, 0,
+    0, 0, 0, 5, 0, 0, 0, 0, 0, 9, 2, 0, 0, 0, 0,
+];
+
 /// Pieces of a file of two points in format 0: legacy counts, bounds, counts and records.
 const TWO: [(usize, &[u8]); 4] = [
     (107, &[2, 0, 0, 0, 2, 0, 0, 0]),
     (179, &BOUNDS),
     (247, &[2, 0, 0, 0, 0, 0, 0, 0, 2, 0, 0, 0, 0, 0, 0, 0]),
-    (
-        375,
-        &[
-            0x64, 0, 0, 0, 0xC8, 0, 0, 0, 0x2C, 1, 0, 0, 0, 0, 9, 2, 0, 0, 0, 0, 0xFF, 0xFF, 0xFF,
-            0xFF, 0, 0, 0, 0, 5, 0, 0, 0, 0, 0, 9, 2, 0, 0, 0, 0,
-        ],
-    ),
+    (375, &RECORDS),
+];
+
+/// Pieces of such files of 1.2 and 1.3, whose block ends with the bounds, or with the start of the waveform packets.
+const TWO_OF_1_2: [(usize, &[u8]); 6] = [
+    (24, &[1, 2]),
+    (94, &[0xE3, 0, 0xE3, 0, 0, 0, 0, 0, 0, 0]),
+    (104, &[0, 0x14, 0]),
+    (107, &[2, 0, 0, 0, 2, 0, 0, 0]),
+    (179, &BOUNDS),
+    (227, &RECORDS),
+];
+
+const TWO_OF_1_3: [(usize, &[u8]); 6] = [
+    (24, &[1, 3]),
+    (94, &[0xEB, 0, 0xEB, 0, 0, 0, 0, 0, 0, 0]),
+    (107, &[2, 0, 0, 0, 2, 0, 0, 0]),
+    (179, &BOUNDS),
+    (227, &[0; 8]),
+    (235, &RECORDS),
 ];
 
 /// Pieces of a file of one point in format 6: the encoding, no legacy counts, the counts and the record.
@@ -49,12 +67,12 @@ const NEW: [(usize, &[u8]); 4] = [
 ];
 
 /// The bytes of the file of these points, written in one chunk.
-fn written(alloc: Global, format: Format, points: &[Point]) -> Option<Vec<u8>> {
-    if points.len() > MOST_POINTS {
+fn written(alloc: Global, minor: u8, format: Format, points: &[Point]) -> Option<Vec<u8>> {
+    if points.len() > MOST_POINTS || !is_version(minor) || !takes_format(minor, format) {
         return None;
     }
     let sink = SureOut::new(alloc, 1000).ok()?;
-    let form = plain(alloc, format, Scale::new(10_000_000)?);
+    let form = plain(alloc, minor, format, Scale::new(10_000_000)?);
     let Ok(mut writer) = LasWriter::begin(alloc, sink, form) else {
         return None;
     };
@@ -79,16 +97,35 @@ fn has(file: Option<Vec<u8>>, size: usize, pieces: &[(usize, &[u8])]) -> bool {
 #[test]
 fn a_file_has_its_header_and_its_records(rt: HostRuntime) {
     let alloc = rt.alloc();
-    assert!(rt; has(written(alloc, Format::F3, &[]), 375, &EMPTY));
-    assert!(rt; has(written(alloc, Format::F0, &old_points()), 415, &TWO));
-    assert!(rt; has(written(alloc, Format::F6, &[new_point()]), 405, &NEW));
+    assert!(rt; has(written(alloc, 4, Format::F3, &[]), 375, &EMPTY));
+    assert!(rt; has(written(alloc, 4, Format::F0, &old_points()), 415, &TWO));
+    assert!(rt; has(written(alloc, 4, Format::F6, &[new_point()]), 405, &NEW));
+}
+
+#[test]
+fn a_file_of_an_older_version_has_a_shorter_block(rt: HostRuntime) {
+    let alloc = rt.alloc();
+    assert!(rt;
+        has(
+            written(alloc, 2, Format::F0, &old_points()),
+            267,
+            &TWO_OF_1_2
+        )
+    );
+    assert!(rt;
+        has(
+            written(alloc, 3, Format::F0, &old_points()),
+            275,
+            &TWO_OF_1_3
+        )
+    );
 }
 
 /// What a writer of format 1 answers to a chunk whose second point has no record, and to that point alone; and the bytes that
 /// were appended.
 fn refused(alloc: Global) -> Option<(Result<(), ChunkErr>, Result<(), PutFault>, usize)> {
     let sink = SureOut::new(alloc, 1000).ok()?;
-    let form = plain(alloc, Format::F1, Scale::new(10_000_000)?);
+    let form = plain(alloc, 4, Format::F1, Scale::new(10_000_000)?);
     let Ok(mut writer) = LasWriter::begin(alloc, sink, form) else {
         return None;
     };
@@ -101,11 +138,11 @@ fn refused(alloc: Global) -> Option<(Result<(), ChunkErr>, Result<(), PutFault>,
 
 #[test]
 fn a_point_without_a_record_is_refused(rt: HostRuntime) {
-    let why = EncodeFault::ValueOutOfRange(Dim::ReturnNumber);
+    let why = RecordFault::ValueOutOfRange(Dim::ReturnNumber);
     assert_eq!(rt;
         refused(rt.alloc()),
         Some((
-            Err(ChunkErr::Refused(Refused { at: 1, why })),
+            Err(ChunkErr::Refused(RefusedPoint { at: 1, why })),
             Err(PutFault::ValueOutOfRange(Dim::ReturnNumber)),
             375
         ))
@@ -116,7 +153,7 @@ fn a_point_without_a_record_is_refused(rt: HostRuntime) {
 fn failing(alloc: Global, call: u64) -> Option<[bool; 3]> {
     let calls = vec![in alloc; call].ok()?;
     let sink = MemOut::new(alloc, 1000, calls).ok()?;
-    let form = plain(alloc, Format::F0, Scale::new(10_000_000)?);
+    let form = plain(alloc, 4, Format::F0, Scale::new(10_000_000)?);
     match LasWriter::begin(alloc, sink, form) {
         Ok(mut writer) => {
             let put = writer.put_all(&[]).is_err()

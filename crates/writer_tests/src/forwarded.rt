@@ -1,6 +1,7 @@
 //! What goes over from files that are read.
 
-ghost use Rattle.std.specs.Prelude.{IfOk, ◌<◌};
+ghost use Rattle.std.specs.Prelude.{◌≡◌, ◌<◌, true, IfOk};
+ghost use Rattle.las_header.specs.Versions.{is_version};
 ghost use Rattle.las_writer.specs.LasOutput.{IsForm};
 
 use crate::samples::{BOUNDS, options};
@@ -70,7 +71,7 @@ fn records(alloc: Global) -> Result<VlrList, AllocError> {
 /// The form behind two files, of which the second has another day and another offset of X.
 fn form(alloc: Global, forward: &[&str]) -> Option<LasForm> {
     let step = Scale::new(1_000_000)?;
-    let opts = options(alloc, forward, Some(3)).ok()?;
+    let opts = options(alloc, None, forward, Some(3)).ok()?;
     let mut forwarding = Forwarding::begin(alloc, &opts).ok()?;
     let none = VlrList::new(Vec::new(alloc));
     for (day, offset) in [(1, 5), (2, 6)] {
@@ -135,11 +136,16 @@ fn fields_are_given_or_go_over_or_are_the_defaults(rt: HostRuntime) {
     }
 }
 
-/// The form of a file that takes all over from another.
-fn form_of<S: Source>(alloc: Global, reader: &LasReader<S>) -> Result<LasForm, AllocError>
+/// The form of a file of this minor version that takes all over from another.
+fn form_of<S: Source>(
+    alloc: Global,
+    minor: u8,
+    reader: &LasReader<S>,
+) -> Result<LasForm, AllocError>
+    requires { is_version minor ≡ true }
     ensures { IfOk result IsForm }
 {
-    let opts = options(alloc, &["all"], None)?;
+    let opts = options(alloc, Some(minor), &["all"], None)?;
     let mut forwarding = Forwarding::begin(alloc, &opts)?;
     forwarding.add(alloc, reader.header(), reader.vlrs(), reader.evlrs())?;
     forms_are_taken();
@@ -147,8 +153,10 @@ fn form_of<S: Source>(alloc: Global, reader: &LasReader<S>) -> Result<LasForm, A
 }
 
 /// The file of the first points of a reader, with all that stands around them.
-fn again<S: Source>(alloc: Global, reader: &mut LasReader<S>) -> Option<Vec<u8>> {
-    let form = form_of(alloc, reader).ok()?;
+fn again<S: Source>(alloc: Global, minor: u8, reader: &mut LasReader<S>) -> Option<Vec<u8>>
+    requires { is_version minor ≡ true }
+{
+    let form = form_of(alloc, minor, reader).ok()?;
     let sink = SureOut::new(alloc, 1000).ok()?;
     let mut points = Spread::new();
     let made = reader.next(64, &mut points);
@@ -167,14 +175,16 @@ fn again<S: Source>(alloc: Global, reader: &mut LasReader<S>) -> Option<Vec<u8>>
     Vec::from_slice(alloc, sink.bytes()?).ok()
 }
 
-/// A file that is read, and written again with all that stands around its points.
-fn read_and_written(alloc: Global, file: &[u8]) -> Option<Vec<u8>> {
+/// A file that is read, and written again in this minor version with all that stands around its points.
+fn read_and_written(alloc: Global, minor: u8, file: &[u8]) -> Option<Vec<u8>>
+    requires { is_version minor ≡ true }
+{
     let content = Vec::from_slice(alloc, file).ok()?;
     let source = MemIn::new(content, 1000, Vec::new(alloc));
     let Ok(mut reader) = LasReader::begin(alloc, source) else {
         return None;
     };
-    let file = again(alloc, &mut reader);
+    let file = again(alloc, minor, &mut reader);
     drop(reader.release());
     file
 }
@@ -189,7 +199,7 @@ fn sample() -> [u8; 415] {
 #[test]
 fn a_file_is_written_again_as_it_was(rt: HostRuntime) {
     let file = sample();
-    let written = read_and_written(rt.alloc(), &file);
+    let written = read_and_written(rt.alloc(), 4, &file);
     assert_eq!(rt; written.as_deref(), Some(file.as_slice()));
     files_are_read_back();
     files_become_bytes();
@@ -197,4 +207,35 @@ fn a_file_is_written_again_as_it_was(rt: HostRuntime) {
     raw_numbers_are_steps();
     refusals_are_cut();
     unfinished_grows();
+}
+
+/// An EVLR: its user, the size of its payload, and the payload.
+const EVLR: [u8; 62] = [
+    0, 0, b's', b'u', b'r', b'v', b'e', b'y', 0, 0, 0, 0, 0, 0, 0, 0, 0, 0, 0, 0, 2, 0, 0, 0, 0, 0,
+    0, 0, 0, 0, 0, 0, 0, 0, 0, 0, 0, 0, 0, 0, 0, 0, 0, 0, 0, 0, 0, 0, 0, 0, 0, 0, 0, 0, 0, 0, 0, 0,
+    0, 0, 7, 8,
+];
+
+/// The file of two points, whose header names an EVLR behind it.
+fn front_of_evlr() -> [u8; 415] {
+    let mut front = sample();
+    front[235..247].copy_from_slice(&[0x9F, 1, 0, 0, 0, 0, 0, 0, 1, 0, 0, 0]);
+    front
+}
+
+/// A file of two points, and the EVLR behind them.
+fn sample_with_evlr() -> [u8; 477] {
+    let mut file = [0; 477];
+    file[..415].copy_from_slice(&front_of_evlr());
+    file[415..].copy_from_slice(&EVLR);
+    file
+}
+
+#[test]
+fn evlrs_go_over_into_files_of_1_4_alone(rt: HostRuntime) {
+    let file = sample_with_evlr();
+    let written = read_and_written(rt.alloc(), 4, &file);
+    assert_eq!(rt; written.as_deref(), Some(file.as_slice()));
+    let older = read_and_written(rt.alloc(), 2, &file);
+    assert_eq!(rt; older.map(|file| file.len()), Some(267));
 }

@@ -1,7 +1,9 @@
 //! Forms and points to write.
 
-ghost use Rattle.std.specs.Prelude.{IfOk};
+ghost use Rattle.std.specs.Prelude.{◌≡◌, true, IfOk};
+ghost use Rattle.forward_rules.specs.Forwarded.{given_or};
 ghost use Rattle.forward_rules.specs.Options.{AreGoodOptions};
+ghost use Rattle.las_header.specs.Versions.{is_version, takes_format};
 ghost use Rattle.las_writer.specs.LasOutput.{IsForm};
 
 use cloud_points::Point;
@@ -28,13 +30,15 @@ fn text(start: &[u8]) -> [u8; 32] {
     all
 }
 
-/// The form of a file that nothing is said of, but its format.
-pub(crate) fn plain(alloc: Global, format: Format, scale: Scale) -> LasForm
+/// The form of a file that nothing is said of, but its minor version and its format.
+pub(crate) fn plain(alloc: Global, minor: u8, format: Format, scale: Scale) -> LasForm
+    requires version { is_version minor ≡ true }
+    requires format { takes_format minor format ≡ true }
     ensures { IsForm result }
 {
     LasForm {
         format,
-        minor: 4,
+        minor,
         scale: [scale; 3],
         offset: [0; 3],
         source_id: 0,
@@ -49,12 +53,14 @@ pub(crate) fn plain(alloc: Global, format: Format, scale: Scale) -> LasForm
     }
 }
 
-/// Options that forward these names, and give a source id.
+/// Options that forward these names, and give a minor version and a source id.
 pub(crate) fn options(
     alloc: Global,
+    minor: Option<u8>,
     forward: &[&str],
     source_id: Option<u16>,
 ) -> Result<LasOpts, AllocError>
+    requires { is_version (given_or minor 4) ≡ true }
     ensures { IfOk result AreGoodOptions }
 {
     let mut names = Vec::new(alloc);
@@ -63,7 +69,7 @@ pub(crate) fn options(
     }
     Ok(LasOpts {
         format: None,
-        minor: None,
+        minor,
         scale: [None; 3],
         offset: [None; 3],
         forward: NameList::new(names),

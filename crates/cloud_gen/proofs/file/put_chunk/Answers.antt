@@ -8,7 +8,8 @@ unreachable-requires g c =
     let form = c.args.writer.now.form in
     let points = c.as_slice.result.now in
     never_refused form c.args.start c.args.end points c.requires.form (c.as_slice.ensures.value ∙ c.generated_chunk-points.ensures) c.requires.ordered
-    c.in-Err-Refused.field-0-0 c.requires.few (subst (IsRefused form points) c.in-Err-Refused.field-0-is c.in-Err-Refused.ensures.refused)
+    c.args.writer.now.totals.count c.in-Err-Refused.field-0-0 c.requires.few
+    (subst (IsRefused form c.args.writer.now.totals.count points) c.in-Err-Refused.field-0-is c.in-Err-Refused.ensures.refused)
 
 pub returns-in-Ok-clause-holds : goal.returns-in-Ok-clause-holds
 returns-in-Ok-clause-holds g c =

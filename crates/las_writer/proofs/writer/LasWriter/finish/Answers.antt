@@ -18,8 +18,8 @@ returns-clause-ok g c =
     let parts = c.self.inside.parts in
     let start : points_at parts.form < 2 ^ 32 = subst (λ n. n < 2 ^ 32) parts.behind c.known_u32.ensures in
     let extended : Appends (g.K.Sink.bytes parts.sink) (evlrs_bytes parts.form) (g.K.Sink.bytes c.put_evlrs.new.sink) =
-    subst (λ vlrs. Appends (g.K.Sink.bytes parts.sink) (flat_map evlr_bytes vlrs) (g.K.Sink.bytes c.put_evlrs.new.sink)) c.as_slice.ensures c.in_ok-put_evlrs.ensures.ok in
-    subst (λ now. OnOk c.append.result ((points : List Point) → holds_las (g.K.Sink.bytes now.sink) now.form now.totals points ≡ true → refusal now.form points ≡ None → IsAsTold (g.K.Sink.bytes c.append.new.self) (Some (las_output now.form points)))) c.self.view_is
+    subst (λ vlrs. Appends (g.K.Sink.bytes parts.sink) (flat_map evlr_bytes vlrs) (g.K.Sink.bytes c.put_evlrs.new.sink)) c.file_evlrs.ensures c.in_ok-put_evlrs.ensures.ok in
+    subst (λ now. OnOk c.append.result ((points : List Point) → holds_las (g.K.Sink.bytes now.sink) now.form now.totals points ≡ true → refusal now.form 0 points ≡ None → IsAsTold (g.K.Sink.bytes c.append.new.self) (Some (las_output now.form points)))) c.self.view_is
     (on_ok_weaker c.append.result
     (λ flushed points h none.
     let out = las_output parts.form points in
