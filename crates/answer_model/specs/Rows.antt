@@ -10,12 +10,13 @@ use Rattle.stage_options.specs.Ferries.{with_targets, ferries_bound}
 use Rattle.stage_options.specs.declared.options.Options.{Options}
 use Rattle.stage_options.specs.declared.options.Options.TheVariants.{ReadersLas, FiltersRange, FiltersCrop, FiltersAssign, FiltersFerry, FiltersExpression, FiltersDecimation, FiltersHead, FiltersReturns, FiltersMerge, FiltersSort, FiltersTail, FiltersGroupby, WritersLas, WritersText}
 use Rattle.forward_rules.specs.Forwarded.{ReadFile, form_of}
+use Rattle.forward_rules.specs.declared.form.LasForm.{LasForm}
 use Rattle.las_writer.specs.LasOutput.{las_output}
-use Rattle.las_writer.specs.Records.{written}
+use Rattle.las_writer.specs.Records.{fits, written}
 use Rattle.stage_meanings.specs.Conditions.{passes}
-use Rattle.stage_meanings.specs.Filtering.{Filtering, By, Merge, filtered, filtered_stop}
+use Rattle.stage_meanings.specs.Filtering.{Filtering, By, Admit, Merge, filtered, filtered_stop}
 use Rattle.stage_meanings.specs.Filters.{Rule, is_true}
-use Rattle.stage_meanings.specs.Rules.{range, crop, decimation, head, returns, expression, assign, admitted}
+use Rattle.stage_meanings.specs.Rules.{range, crop, decimation, head, returns, expression, assign}
 use Rattle.stage_meanings.specs.Records.{unrecorded}
 use Rattle.stage_meanings.specs.declared.reason.Reason.{Reason}
 use Rattle.text_writer.specs.TextOutput.{text_output}
@@ -53,14 +54,18 @@ gathers g = record { making = Gathered g; writes = λ p. false; bytes = λ point
 abbrev pub by : List (List ℕ) → Rule Point Reason → Option (Formula (List ℕ)) → Row
 by names rule only = filters (By rule (bound_where names only))
 
--- a writer gives its points on, and writes those for which a condition holds; a point against which there is a reason has no place
--- in its file
-abbrev pub writes : List (List ℕ) → (Point → Option Reason) → (List Point → List ℕ) → Option (Formula (List ℕ)) → Row
+-- a writer gives its points on, and writes those for which a condition holds; a point against which there is a reason, behind so many
+-- that are written, has no place in its file
+abbrev pub writes : List (List ℕ) → (ℕ → Point → Option Reason) → (List Point → List ℕ) → Option (Formula (List ℕ)) → Row
 writes names reason bytes only = record {
-  making = Judging (By (admitted reason) (bound_where names only));
+  making = Judging (Admit reason (bound_where names only));
   writes = λ p. is_true (passes (bound_where names only) p);
   bytes = bytes;
 }
+
+-- why a point has no place in a LAS file behind so many that are written: the file counts no point more, or it has no record
+abbrev pub unplaced_in : LasForm → ℕ → Point → Option Reason
+unplaced_in form k p = unrecorded (fits form k) (written form p)
 
 -- the rows, by the options of a stage and where it stands; a reader takes no flow, so that its row says nothing
 abbrev pub row_of : Options → Setting → Row
@@ -77,8 +82,8 @@ row_of (FiltersMerge o) s = filters Merge
 row_of (FiltersSort o) s = gathers (Sort (dim_of s.names o.dimension) o.down)
 row_of (FiltersTail o) s = gathers (Tail o.count)
 row_of (FiltersGroupby o) s = gathers (GroupBy (dim_of s.names o.dimension))
-row_of (WritersLas o) s = writes s.names (λ p. unrecorded (written (form_of o.fields s.reads) p)) (las_output (form_of o.fields s.reads)) o.only
-row_of (WritersText o) s = writes s.names (λ p. None) (text_output (text_form s.names o)) o.only
+row_of (WritersLas o) s = writes s.names (unplaced_in (form_of o.fields s.reads)) (las_output (form_of o.fields s.reads)) o.only
+row_of (WritersText o) s = writes s.names (λ k p. None) (text_output (text_form s.names o)) o.only
 
 -- a stage that needs whole views has no fault
 abbrev pub made : Making → Flow Point → Flow Point

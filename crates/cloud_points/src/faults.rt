@@ -21,6 +21,9 @@ pub enum PointFault {
 
     /// A point's expression has a value above 10^27 in size.
     ArithOverflow(u64),
+
+    /// A file holds no point more than those that were written before this one.
+    TooMany(u64),
 }
 
 /// The fault of a stage: its points', or its device's.

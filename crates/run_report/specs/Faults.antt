@@ -9,7 +9,7 @@ use Rattle.las_header.specs.declared.faults.HeaderFault.TheVariants.{NotLas, Ver
 use Rattle.las_vlr.specs.declared.entry.VlrFault.{VlrFault}
 use Rattle.las_vlr.specs.declared.entry.VlrFault.TheVariants.{TooManyVlrs, VlrPastPoints, VlrPastEnd, EvlrPastEnd}
 use Rattle.cloud_points.specs.declared.faults.PointFault.{PointFault}
-use Rattle.cloud_points.specs.declared.faults.PointFault.TheVariants.{Cut, NotHeld, ValueOutOfRange, DivideByZero, ArithOverflow}
+use Rattle.cloud_points.specs.declared.faults.PointFault.TheVariants.{Cut, NotHeld, ValueOutOfRange, DivideByZero, ArithOverflow, TooMany}
 use Rattle.cloud_points.specs.Dims.{name_of}
 use Rattle.stage_names.specs.declared.faults.PipeFault.{PipeFault}
 use Rattle.stage_names.specs.declared.faults.PipeFault.TheVariants.{TextTooLong, NotJson, NotAPipeline, Empty, TooManyStages, BadStage, TypeUnknown, CannotInfer, TagTwice, TagUnknown, InputOfReader, NoInput, UsedTwice, Loose, OptionUnknown, OptionMissing, OptionValue, SameOutput, DimUnknown, DimNotNumeric, TooManyDims}
@@ -55,6 +55,7 @@ point_fault_text (NotHeld k dim) = point_text k ++ name_of dim ++ codes " not he
 point_fault_text (ValueOutOfRange k dim) = point_text k ++ name_of dim ++ codes " out of range"
 point_fault_text (DivideByZero k) = point_text k ++ codes "division by zero"
 point_fault_text (ArithOverflow k) = point_text k ++ codes "overflow"
+point_fault_text (TooMany k) = point_text k ++ codes "more than 4294967295 points"
 
 abbrev pub fault_text : Fault → List ℕ
 fault_text (Header f) = header_fault_text f

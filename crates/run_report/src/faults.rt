@@ -165,6 +165,10 @@ fn push_point_fault(fault: PointFault, text: &mut Text)
             push_point(number, text);
             text.push_str("overflow");
         }
+        PointFault::TooMany(number) => {
+            push_point(number, text);
+            text.push_str("more than 4294967295 points");
+        }
     }
 }
 

@@ -1,78 +1,133 @@
 -- The first point that a writer doesn't take.
-use Rattle.std.proofs.Common.{◌≡◌, ℕ, zero, suc, ◌+◌, ◌<◌, ◌≤◌, List, [], ◌∷◌, ◌++◌, length, take, get_or, Option, Some, None, ap, sym, subst, ◌∙◌, arith}
+use Rattle.std.proofs.Common.{◌≡◌, ℕ, suc, ◌+◌, ◌<◌, ◌≤◌, Bool, cond, List, [], ◌∷◌, ◌++◌, length, length-append, take, drop, get_or, Option, Some, None, refl, ap, sym, subst, ◌∙◌, arith}
 use Rattle.std.specs.Prelude.{option_map}
-use Rattle.std.proofs.lemmas.List.{take_more}
-use Rattle.cloud_points.specs.Flows.{Flow, all_of}
+use Rattle.std.proofs.lemmas.List.{take_more, take_all, take-append-drop, get_or_past, length-take-le}
+use Rattle.std.proofs.Math.Seq.{drop-cons}
+use Rattle.std.proofs.lemmas.List.Elements.{filter-append}
+use Rattle.cloud_points.specs.Events.{first_fault}
+use Rattle.cloud_points.specs.Flows.{Flow, all_of, points}
 use Rattle.cloud_points.specs.Queue.{up_to_limit}
 use Rattle.cloud_points.specs.declared.point.Point.{Point}
-use Rattle.set_filters.proofs.Firsts.{stop_in_view, no_stop}
-use Rattle.stage_kinds.specs.Stages.{why_not, writing_filter}
+use Rattle.set_filters.proofs.Firsts.{points_at}
+use Rattle.stage_kinds.specs.Files.{chosen, unwritten}
+use Rattle.stage_kinds.specs.Stages.{first_stop, why_not, writing_filter}
 use Rattle.stage_kinds.specs.declared.file_form.Writing.{Writing}
 use Rattle.stage_kinds.specs.declared.writer_stage.TakeErr.{TakeErr}
 use Rattle.stage_kinds.specs.declared.writer_stage.TakeErr.TheVariants.{Refused}
 use Rattle.stage_kinds.specs.Takes.{IsUntaken}
+use Rattle.stage_meanings.specs.Admitting.{refused_append}
+use Rattle.stage_meanings.specs.Conditions.{passes}
 use Rattle.stage_meanings.specs.Filtering.{filtered_stop}
-use Rattle.stage_meanings.specs.Filters.{first_from, found, point_fault}
+use Rattle.stage_meanings.specs.Filters.{is_true, positions, first_from, found, refused_by, first_refused, point_fault}
 use Rattle.stage_meanings.specs.declared.reason.Reason.{Reason}
 use Rattle.whole_filters.specs.Held.{view_at}
 use Rattle.set_engine.specs.Stops.{IsStopAt, IsStopBehind}
 use Rattle.set_engine.specs.declared.writers.WriteErr.{WriteErr}
 use Rattle.set_engine.specs.declared.writers.WriteErr.TheVariants as write
 
-module _ {P R : Type 0} (why : P → Option R) where
-  none_behind : (n : ℕ) (ps : List P) (p : P) → first_from why n ps ≡ None → why p ≡ None → first_from why n (ps ++ p ∷ []) ≡ None
-  none_behind n [] p e is = ap (λ o. found n o None) is
-  none_behind n (q ∷ ps) p e is = go (why q) e (none_behind (n + 1) ps p)
-    where
-      go : (o : Option R) → found n o (first_from why (n + 1) ps) ≡ None → (first_from why (n + 1) ps ≡ None → why p ≡ None → first_from why (n + 1) (ps ++ p ∷ []) ≡ None)
-          → found n o (first_from why (n + 1) (ps ++ p ∷ [])) ≡ None
-      go None e later = later e is
-      go (Some r) e later = absurd cc
+-- the same first one, counted from another number
+moved : {P R : Type 0} (why : P → Option R) (n m : ℕ) (ps : List P) → first_from why (n + m) ps ≡ option_map (λ s. (n + s.0, s.1)) (first_from why m ps)
+moved why n m [] = refl
+moved {P} {R} why n m (p ∷ ps) = go (why p) (ap (λ k. first_from why k ps) (let z : n + m + 1 ≡ n + (m + 1) = omega arith in z) ∙ moved why n (m + 1) ps)
+  where
+    go : (o : Option R) → first_from why (n + m + 1) ps ≡ option_map (λ s. (n + s.0, s.1)) (first_from why (m + 1) ps)
+        → found (n + m) o (first_from why (n + m + 1) ps) ≡ option_map (λ s. (n + s.0, s.1)) (found m o (first_from why (m + 1) ps))
+    go (Some r) ih = refl
+    go None ih = ih
 
-  -- one more can be judged
-  pub none_more : (ps : List P) (i : ℕ) (d : P) → i < length ps → first_from why 0 (take i ps) ≡ None → why (get_or ps i d) ≡ None → first_from why 0 (take (i + 1) ps) ≡ None
-  none_more ps i d lt e is = ap (first_from why 0) (take_more ps i d lt) ∙ none_behind 0 (take i ps) (get_or ps i d) e is
+module _ (x : Writing) where
+  -- the first of these points, by its number from n on, behind k that were written
+  abbrev first : ℕ → ℕ → List Point → Option (ℕ × Reason)
+  first n k ps = first_refused (unwritten x.form) (passes x.only) n (up_to_limit k) ps
 
-  here_from : (n : ℕ) (ps : List P) (i : ℕ) (d : P) (r : R) → i < length ps → first_from why n (take i ps) ≡ None → why (get_or ps i d) ≡ Some r → first_from why n ps ≡ Some (n + i, r)
-  here_from n [] i d r lt e is = absurd (omega (arith, lt))
-  here_from n (p ∷ ps) zero d r lt e is = ap (λ o. found n o (first_from why (n + 1) ps)) is ∙ (let same : n ≡ n + 0 = omega arith in ap (λ k. Some (k, r)) same)
-  here_from n (p ∷ ps) (suc i) d r lt e is = go (why p) e (here_from (n + 1) ps i d r (omega (arith, lt)))
-    where
-      go : (o : Option R) → found n o (first_from why (n + 1) (take i ps)) ≡ None
-          → (first_from why (n + 1) (take i ps) ≡ None → why (get_or ps i d) ≡ Some r → first_from why (n + 1) ps ≡ Some (n + 1 + i, r))
-          → found n o (first_from why (n + 1) ps) ≡ Some (n + suc i, r)
-      go None e later = let same : n + 1 + i ≡ n + suc i = omega arith in later e is ∙ ap (λ k. Some (k, r)) same
-      go (Some q) e later = absurd cc
+  abbrev passing : Point → Bool
+  passing p = is_true (passes x.only p)
 
-  -- this one is the first that can't
-  pub here : (ps : List P) (i : ℕ) (d : P) (r : R) → i < length ps → first_from why 0 (take i ps) ≡ None → why (get_or ps i d) ≡ Some r → first_from why 0 ps ≡ Some (i, r)
-  here ps i d r lt e is = let same : 0 + i ≡ i = omega arith in here_from 0 ps i d r lt e is ∙ ap (λ k. Some (k, r)) same
+  abbrev refused : Point × ℕ → Option Reason
+  refused q = refused_by (unwritten x.form) (passes x.only) q
 
--- a writer that doesn't take a point of a view stops there
-pub refused_here : (x y : Writing) (ps : List Point) (i before number : ℕ) (d : Point) (e : TakeErr) (r : Reason) → i < length ps → number ≡ up_to_limit (before + i) → y ≡ x
-    → first_from (why_not x) 0 (take i ps) ≡ None → IsUntaken (why_not y (get_or ps i d)) e → e ≡ Refused r → IsStopBehind before (first_from (why_not x) 0 ps) (write.Refused number r)
-refused_here x y ps i before number d e r lt count same none why is =
-    let there : why_not x (get_or ps i d) ≡ Some r = subst (λ z. why_not z (get_or ps i d) ≡ Some r) same (subst (IsUntaken (why_not y (get_or ps i d))) is why) in
-    (i, here (why_not x) ps i d r lt none there, count)
+  -- where it doesn't take the first of them, that is the one
+  first_is : (n k : ℕ) (p : Point) (ps : List Point) (r : Reason) → why_not x (up_to_limit k) p ≡ Some r → first n k (p ∷ ps) ≡ Some (n, r)
+  first_is n k p ps r e = ap (λ o. found n o (first_from refused (n + 1) (positions passing (cond (passing p) (up_to_limit (up_to_limit k + 1)) (up_to_limit k)) ps))) e
 
--- one that takes the next point, too, stops at none of those so far
-pub taken_more : (x y : Writing) (ps : List Point) (i : ℕ) (d : Point) → i < length ps → y ≡ x → first_from (why_not x) 0 (take i ps) ≡ None → why_not y (get_or ps i d) ≡ None → first_from (why_not x) 0 (take (i + 1) ps) ≡ None
-taken_more x y ps i d lt same none is = none_more (why_not x) ps i d lt none (subst (λ z. why_not z (get_or ps i d) ≡ None) same is)
+  abbrev written : List Point → ℕ
+  written ps = length (chosen x.only ps)
 
--- a writer that stops in a view stops there on all of them
-pub stop_in : (x : Writing) (flow : Flow Point) (v number : ℕ) (view : List Point) (e : WriteErr) → v ≤ length flow.views → view ≡ view_at flow v
-    → number ≡ up_to_limit (length (all_of (take v flow.views))) → first_from (why_not x) 0 (all_of (take v flow.views)) ≡ None
-    → IsStopBehind number (first_from (why_not x) 0 view) e → IsStopAt (filtered_stop (writing_filter x) flow) e
-stop_in x flow v number view (write.Refused m r) le is count before behind =
-    let k = behind.0 in
-    let n = length (all_of (take v flow.views)) in
-    let there = stop_in_view (why_not x) flow v before k r le (ap (first_from (why_not x) 0) (sym is) ∙ behind.1) in
-    let same : m ≡ up_to_limit (n + k) = (let a = behind.2 in omega (arith, a, count)) in
-    ap (option_map (λ s. point_fault (up_to_limit s.0) s.1)) there ∙ ap (λ m. Some (point_fault m r)) (sym same)
-stop_in x flow v number view write.Failed le is count before behind = tt
+  pub written_both : (a b : List Point) → written (a ++ b) ≡ written a + written b
+  written_both a b = ap length (filter-append _ a b) ∙ length-append (chosen x.only a) (chosen x.only b)
 
--- one that stops in none has no fault
-pub sound_all : (x : Writing) (flow : Flow Point) (v : ℕ) (view : List Point) → length flow.views ≤ v → view ≡ view_at flow v
-    → first_from (why_not x) 0 (all_of (take v flow.views)) ≡ None → first_from (why_not x) 0 view ≡ None → filtered_stop (writing_filter x) flow ≡ None
-sound_all x flow v view past is before none =
-    ap (option_map (λ s. point_fault (up_to_limit s.0) s.1)) (no_stop (why_not x) flow v before past (ap (first_from (why_not x) 0) (sym is) ∙ none))
+  -- it stands in the first part, or else in the second one
+  behind_none : (n k : ℕ) (a b : List Point) → first n k a ≡ None → first n k (a ++ b) ≡ first (n + length a) (k + written a) b
+  behind_none n k a b e = refused_append (unwritten x.form) (passes x.only) n k a b ∙ ap (λ o. first_fault o (first (n + length a) (k + written a) b)) e
+
+  before_some : (n k : ℕ) (a b : List Point) (s : ℕ × Reason) → first n k a ≡ Some s → first n k (a ++ b) ≡ Some s
+  before_some n k a b s e = refused_append (unwritten x.form) (passes x.only) n k a b ∙ ap (λ o. first_fault o (first (n + length a) (k + written a) b)) e
+
+  from_any : (n k : ℕ) (ps : List Point) → first 0 k ps ≡ None → first n k ps ≡ None
+  from_any n k ps e = let same : n ≡ n + 0 = omega arith in ap (λ m. first m k ps) same ∙ moved refused n 0 (positions passing (up_to_limit k) ps) ∙ ap (option_map (λ s. (n + s.0, s.1))) e
+
+  from_some : (n k : ℕ) (ps : List Point) (j : ℕ) (r : Reason) → first 0 k ps ≡ Some (j, r) → first n k ps ≡ Some (n + j, r)
+  from_some n k ps j r e = let same : n ≡ n + 0 = omega arith in ap (λ m. first m k ps) same ∙ moved refused n 0 (positions passing (up_to_limit k) ps) ∙ ap (option_map (λ s. (n + s.0, s.1))) e
+
+  -- of one more point
+  pub taken_more : (y : Writing) (k count : ℕ) (ps : List Point) (i : ℕ) (d : Point) → i < length ps → y ≡ x → first 0 k (take i ps) ≡ None → count ≡ up_to_limit (k + written (take i ps)) → why_not y count (get_or ps i d) ≡ None
+      → first 0 k (take (i + 1) ps) ≡ None
+  taken_more y k count ps i d lt same none counted is =
+      ap (first 0 k) (take_more ps i d lt) ∙ behind_none 0 k (take i ps) (get_or ps i d ∷ []) none
+      ∙ ap (λ o. found (0 + length (take i ps)) o None) (ap (λ c. why_not x c (get_or ps i d)) (sym counted) ∙ subst (λ z. why_not z count (get_or ps i d) ≡ None) same is)
+
+  -- and how many are written with it
+  pub written_more : (y : Writing) (k count after : ℕ) (ps : List Point) (i : ℕ) (d : Point) → i < length ps → y ≡ x → count ≡ up_to_limit (k + written (take i ps)) → after ≡ up_to_limit (count + length (chosen y.only (get_or ps i d ∷ [])))
+      → after ≡ up_to_limit (k + written (take (i + 1) ps))
+  written_more y k count after ps i d lt same counted more =
+      let one = length (chosen x.only (get_or ps i d ∷ [])) in
+      let own : after ≡ up_to_limit (count + one) = more ∙ ap (λ (z : Writing). up_to_limit (count + length (chosen z.only (get_or ps i d ∷ [])))) same in
+      let split : written (take (i + 1) ps) ≡ written (take i ps) + one = ap written (take_more ps i d lt) ∙ written_both (take i ps) (get_or ps i d ∷ []) in
+      omega (arith, own, counted, split)
+
+  refused_there : (k count : ℕ) (ps : List Point) (i : ℕ) (d : Point) (r : Reason) → i < length ps → first 0 k (take i ps) ≡ None → count ≡ up_to_limit (k + written (take i ps)) → why_not x count (get_or ps i d) ≡ Some r
+      → first 0 k ps ≡ Some (i, r)
+  refused_there k count ps i d r lt none counted is =
+      let split : ps ≡ take i ps ++ (get_or ps i d ∷ drop (suc i) ps) = sym (take-append-drop i ps) ∙ ap (λ l. take i ps ++ l) (drop-cons ps i d lt) in
+      let place : 0 + length (take i ps) ≡ i = (let l = length-take-le i ps (omega (arith, lt)) in omega (arith, l)) in
+      ap (first 0 k) split ∙ behind_none 0 k (take i ps) (get_or ps i d ∷ drop (suc i) ps) none
+      ∙ first_is (0 + length (take i ps)) (k + written (take i ps)) (get_or ps i d) (drop (suc i) ps) r (ap (λ c. why_not x c (get_or ps i d)) (sym counted) ∙ is) ∙ ap (λ j. Some (j, r)) place
+
+  -- a writer that doesn't take a point of a view stops there
+  pub refused_here : (y : Writing) (k count : ℕ) (ps : List Point) (i before number : ℕ) (d : Point) (e : TakeErr) (r : Reason) → i < length ps → number ≡ up_to_limit (before + i) → y ≡ x
+      → first 0 k (take i ps) ≡ None → count ≡ up_to_limit (k + written (take i ps)) → IsUntaken (why_not y count (get_or ps i d)) e → e ≡ Refused r → IsStopBehind before (first 0 k ps) (write.Refused number r)
+  refused_here y k count ps i before number d e r lt at same none counted why is =
+      let there : why_not x count (get_or ps i d) ≡ Some r = subst (λ z. why_not z count (get_or ps i d) ≡ Some r) same (subst (IsUntaken (why_not y count (get_or ps i d))) is why) in
+      (i, refused_there k count ps i d r lt none counted there, at)
+
+  -- a writer that stops in a view stops there on all of them
+  pub stop_in : (flow : Flow Point) (v number : ℕ) (view : List Point) (e : WriteErr) → v ≤ length flow.views → view ≡ view_at flow v
+      → number ≡ up_to_limit (length (all_of (take v flow.views))) → first 0 0 (all_of (take v flow.views)) ≡ None
+      → IsStopBehind number (first 0 (written (all_of (take v flow.views))) view) e → IsStopAt (filtered_stop (writing_filter x) flow) e
+  stop_in flow v number view (write.Refused m r) le is count none behind =
+      let before = all_of (take v flow.views) in
+      let j = behind.0 in
+      let rest = points_at flow.views flow.open_view v le in
+      let n = length before in
+      let split : points flow ≡ before ++ (view ++ rest.0) = rest.1 ∙ ap (λ w. before ++ (w ++ rest.0)) (sym is) in
+      let there : first 0 0 (points flow) ≡ Some (0 + n + j, r) =
+      ap (first 0 0) split ∙ behind_none 0 0 before (view ++ rest.0) none
+      ∙ before_some (0 + n) (0 + written before) view rest.0 (0 + n + j, r) (from_some (0 + n) (0 + written before) view j r (ap (λ k. first 0 k view) (let z : 0 + written before ≡ written before = omega arith in z) ∙ behind.1)) in
+      let same : m ≡ up_to_limit (0 + n + j) = (let a = behind.2 in omega (arith, a, count)) in
+      ap (option_map (λ s. point_fault (up_to_limit s.0) s.1)) there ∙ ap (λ m. Some (point_fault m r)) (sym same)
+  stop_in flow v number view write.Failed le is count none behind = tt
+
+  -- one that stops in none has no fault
+  pub sound_all : (flow : Flow Point) (v : ℕ) (view : List Point) → length flow.views ≤ v → view ≡ view_at flow v
+      → first 0 0 (all_of (take v flow.views)) ≡ None → first 0 (written (all_of (take v flow.views))) view ≡ None → filtered_stop (writing_filter x) flow ≡ None
+  sound_all flow v view past is before none =
+      let a = all_of (take v flow.views) in
+      let all : a ≡ all_of flow.views = ap all_of (take_all v flow.views past) in
+      let last : view ≡ flow.open_view = is ∙ get_or_past flow.views v flow.open_view past in
+      let whole : points flow ≡ a ++ view = λ i. sym all i ++ sym last i in
+      ap (option_map (λ s. point_fault (up_to_limit s.0) s.1))
+      (ap (first 0 0) whole ∙ behind_none 0 0 a view before ∙ from_any (0 + length a) (0 + written a) view (ap (λ k. first 0 k view) (let z : 0 + written a ≡ written a = omega arith in z) ∙ none))
+
+  -- with one more view
+  pub none_more : (before view : List Point) → first 0 0 before ≡ None → first 0 (written before) view ≡ None → first 0 0 (before ++ view) ≡ None
+  none_more before view a b = behind_none 0 0 before view a ∙ from_any (0 + length before) (0 + written before) view (ap (λ k. first 0 k view) (let z : 0 + written before ≡ written before = omega arith in z) ∙ b)

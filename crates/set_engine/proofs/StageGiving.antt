@@ -1,7 +1,6 @@
 -- What a stage gives on.
 use Rattle.std.proofs.Common.{◌≡◌, ℕ, ◌+◌, Bool, true, false, List, [], ◌∷◌, ◌++◌, map, length, filter, Option, Some, None, Result, Ok, Err, refl, ap, sym, subst, ◌∙◌, true≢false, append_assoc}
 use Rattle.std.specs.Prelude.{option_map, IfOk, if◌then◌else◌}
-use Rattle.std.specs.List.{cons_option}
 use Rattle.answer_model.specs.Rows.{Row, Judging, made, stop}
 use Rattle.answer_model.specs.Values.{value_of}
 use Rattle.cloud_points.specs.Flows.{Flow, all_of, points}
@@ -14,20 +13,16 @@ use Rattle.cloud_points.proofs.FlowLaws.{flow_of-flow_marks}
 use Rattle.las_reader.specs.Files.{Las, las_with}
 use Rattle.las_reader.specs.Flows.{las_flow, las_fault}
 use Rattle.stage_kinds.specs.Reads.{tells_of, told_of, told_fault_of}
-use Rattle.stage_kinds.specs.Stages.{holds_chosen, is_leaf, only_of, stops_nowhere, why_not, writes_of, writing_filter, writing_of, written_by, writing_rule}
-use Rattle.stage_kinds.specs.Files.{chosen}
+use Rattle.stage_kinds.specs.Stages.{holds_chosen, is_leaf, only_of, stops_nowhere, writes_of, writing_filter, writing_of, written_by}
+use Rattle.stage_kinds.specs.Files.{chosen, count_of}
 use Rattle.stage_kinds.specs.declared.file_form.Writing.{Writing}
 use Rattle.stage_kinds.specs.declared.stage_work.StageWork.{StageWork}
 use Rattle.stage_kinds.specs.declared.stage_work.StageWork.TheVariants.{Reader, Filter, Collector, Views, Writer}
 use Rattle.stage_kinds.specs.declared.writer_stage.WriterStage.{WriterStage}
 use Rattle.stage_kinds.proofs.Streams.{sound_nowhere, written-count}
 use Rattle.stage_kinds.proofs.Telling.{reader_starts}
-use Rattle.stage_meanings.specs.Filtering.{filtered, filtered_stop}
-use Rattle.stage_meanings.specs.Conditions.{passes}
-use Rattle.stage_meanings.specs.Filters.{◌>>=◌, first_from, found, at_point, or_nothing, on_view, reason_of, stop_of, before_stop}
-use Rattle.stage_meanings.specs.Rules.{unless_against}
-use Rattle.stage_meanings.specs.declared.reason.Reason.{Reason}
-use Rattle.stage_kinds.specs.Files.{unwritten}
+use Rattle.stage_meanings.specs.Filtering.{filtered, filtered_stop, stop_in}
+use Rattle.stage_meanings.specs.Filters.{before_stop}
 use Rattle.stage_options.specs.Roles.{Role, target_of}
 use Rattle.set_engine.specs.Fits.{IsFor, IsWriting, HasFile}
 use Rattle.set_engine.specs.Given.{IsGiven, IsGivenBy, fault_of}
@@ -36,65 +31,17 @@ use Rattle.set_engine.specs.declared.stop.Stop.{Stop}
 
 -- ---- writers
 
--- a point that a writer takes goes on as it is
-goes-on : (x : Writing) (p : Point) → why_not x p ≡ None → at_point (writing_rule x) (passes x.only) p ≡ Ok (Some p)
-goes-on x p e = go (passes x.only p) (unwritten x.form p) e
-  where
-    go : (r : Result Bool Reason) (o : Option Reason) → reason_of (r >>= λ b. if b then unless_against o p else Ok (Some p)) ≡ None → (r >>= λ b. if b then unless_against o p else Ok (Some p)) ≡ Ok (Some p)
-    go (Ok true) None e = refl
-    go (Ok true) (Some q) e = absurd cc
-    go (Ok false) o e = refl
-    go (Err q) o e = absurd cc
-
-view-goes-on : (x : Writing) (n : ℕ) (view : List Point) → first_from (why_not x) n view ≡ None → on_view (writing_rule x) (passes x.only) view ≡ view
-view-goes-on x n [] e = refl
-view-goes-on x n (p ∷ view) e = go (why_not x p) refl (view-goes-on x (n + 1) view) e
-  where
-    go : (o : Option Reason) → why_not x p ≡ o → (first_from (why_not x) (n + 1) view ≡ None → on_view (writing_rule x) (passes x.only) view ≡ view) → found n o (first_from (why_not x) (n + 1) view) ≡ None
-        → cons_option (or_nothing (at_point (writing_rule x) (passes x.only) p)) (on_view (writing_rule x) (passes x.only) view) ≡ p ∷ view
-    go None is later e = ap (λ r. cons_option (or_nothing r) (on_view (writing_rule x) (passes x.only) view)) (goes-on x p is) ∙ ap (λ ps. p ∷ ps) (later e)
-    go (Some r) is later e = absurd cc
-
--- of points in which there is nothing, there is nothing in the first and the last
-module _ {P R : Type 0} (f : P → Option R) where
-  nothing-first : (n : ℕ) (a b : List P) → first_from f n (a ++ b) ≡ None → first_from f n a ≡ None
-  nothing-first n [] b e = refl
-  nothing-first n (p ∷ a) b e = go (f p) e (nothing-first (n + 1) a b)
-    where
-      go : (o : Option R) → found n o (first_from f (n + 1) (a ++ b)) ≡ None → (first_from f (n + 1) (a ++ b) ≡ None → first_from f (n + 1) a ≡ None) → found n o (first_from f (n + 1) a) ≡ None
-      go None e later = later e
-      go (Some r) e later = absurd cc
-
-  nothing-last : (n : ℕ) (a b : List P) → first_from f n (a ++ b) ≡ None → (m : ℕ) × (first_from f m b ≡ None)
-  nothing-last n [] b e = (n, e)
-  nothing-last n (p ∷ a) b e = go (f p) e (nothing-last (n + 1) a b)
-    where
-      go : (o : Option R) → found n o (first_from f (n + 1) (a ++ b)) ≡ None → (first_from f (n + 1) (a ++ b) ≡ None → (m : ℕ) × (first_from f m b ≡ None)) → (m : ℕ) × (first_from f m b ≡ None)
-      go None e later = later e
-      go (Some r) e later = absurd cc
-
-views-go-on : (x : Writing) (n : ℕ) (views : List (List Point)) (last : List Point) → first_from (why_not x) n (all_of views ++ last) ≡ None
-    → (map (on_view (writing_rule x) (passes x.only)) views ≡ views) × (on_view (writing_rule x) (passes x.only) last ≡ last)
-views-go-on x n [] last e = (refl, view-goes-on x n last e)
-views-go-on x n (v ∷ views) last e =
-    let joined : first_from (why_not x) n (v ++ (all_of views ++ last)) ≡ None = ap (first_from (why_not x) n) (sym (append_assoc v (all_of views) last)) ∙ e in
-    let first = view-goes-on x n v (nothing-first (why_not x) n v (all_of views ++ last) joined) in
-    let later = nothing-last (why_not x) n v (all_of views ++ last) joined in
-    let rest = views-go-on x later.0 views last later.1 in
-    (ap (λ w. w ∷ map (on_view (writing_rule x) (passes x.only)) views) first ∙ ap (λ vs. v ∷ vs) rest.0, rest.1)
-
 no_stop : {A B : Type 0} (f : A → B) (o : Option A) → option_map f o ≡ None → o ≡ None
 no_stop f None e = refl
 no_stop f (Some s) e = absurd cc
 
 -- a writer that stops nowhere gives on what it takes
 flow-goes-on : (x : Writing) (flow : Flow Point) → filtered_stop (writing_filter x) flow ≡ None → filtered (writing_filter x) flow ≡ flow
-flow-goes-on x flow e =
-    let none : first_from (why_not x) 0 (points flow) ≡ None = no_stop _ (stop_of (writing_rule x) (passes x.only) flow) e in
-    let same = views-go-on x 0 flow.views flow.open_view none in
-    ap (λ o. record { views = map (on_view (writing_rule x) (passes x.only)) (before_stop o flow).views; open_view = on_view (writing_rule x) (passes x.only) (before_stop o flow).open_view; cut = (before_stop o flow).cut }) none
-    ∙ ap (λ vs. record { views = vs; open_view = on_view (writing_rule x) (passes x.only) flow.open_view; cut = flow.cut }) same.0
-    ∙ ap (λ ps. record { views = flow.views; open_view = ps; cut = flow.cut }) same.1
+flow-goes-on x flow e = ap (λ o. before_stop o flow) (no_stop _ (stop_in (writing_filter x) flow) e)
+
+-- before its first point it wrote none
+begun-with : {K : Type 0} (bytes : K → Option (List ℕ)) (w : WriterStage K) → holds_chosen bytes w [] ≡ true → count_of w.file ≡ 0
+begun-with bytes w holds = written-count w bytes [] holds refl
 
 pub writer-given : {S K : Type 0} (bytes : K → Option (List ℕ)) (role : Role) (row : Row) (las : Las) (taken : Flow Point) (v w : WriterStage K) → IsWriting bytes role row v → writes_of w ≡ writes_of v
     → filtered_stop (writing_filter (writes_of v)) taken ≡ None → (holds_chosen bytes v [] ≡ true → holds_chosen bytes w (points taken) ≡ true) → IsGiven {S = S} bytes role row las taken (Writer w) taken
@@ -114,15 +61,16 @@ writer-given bytes role row las taken v w start same sound holds =
 
 -- so it is with what it gave, and where it stopped
 pub writer-gave : {S K : Type 0} (sources : S → Option (List ℕ)) (sinks : K → Option (List ℕ)) (taken : Flow Point) (work : StageWork S K) (v w : WriterStage K) (r : Result Given Stop) → work ≡ Writer v → writes_of w ≡ writes_of v
-    → IfOk r (λ given. given.fault ≡ filtered_stop (writing_filter (writes_of v)) taken) → IfOk r (λ given. given.fault ≡ None → given.views ≡ taken)
+    → IfOk r (λ given. count_of v.file ≡ 0 → given.fault ≡ filtered_stop (writing_filter (writes_of v)) taken) → IfOk r (λ given. given.fault ≡ None → given.views ≡ taken)
     → IfOk r (λ given. given.fault ≡ None → holds_chosen sinks v [] ≡ true → holds_chosen sinks w (points taken) ≡ true)
     → IfOk r (λ given. (role : Role) (row : Row) (las : Las) → IsFor sinks role row work → HasFile sources las work → IsGivenBy {S = S} sinks role row las taken (Writer w) given)
 writer-gave sources sinks taken work v w (Ok given) is same fault all holds = λ role row las start file. (
     let start : IsWriting sinks role row v = subst (IsFor sinks role row) is start in
     let faults : fault_of role row las taken ≡ filtered_stop (writing_filter (writes_of v)) taken = ap (λ r. fault_of r row las taken) start.does ∙ ap (λ m. stop m taken) start.judges in
+    let own = fault (begun-with sinks v start.holds) in
     record {
-      fault = fault ∙ sym faults;
-      sound = λ none. subst (IsGiven sinks role row las taken (Writer w)) (sym (all none)) (writer-given sinks role row las taken v w start same (sym fault ∙ none) (holds none));
+      fault = own ∙ sym faults;
+      sound = λ none. subst (IsGiven sinks role row las taken (Writer w)) (sym (all none)) (writer-given sinks role row las taken v w start same (sym own ∙ none) (holds none));
     })
 writer-gave sources sinks taken work v w (Err s) is same fault all holds = tt
 

@@ -1,16 +1,15 @@
 //! Writers on whole views.
 
-ghost use Rattle.std.specs.Prelude.{◌≡◌, ◌≤◌, ◌+◌, ◌++◌, List, [], length, true, None, Some, IfErr, IfOk, OnOk};
+ghost use Rattle.std.specs.Prelude.{◌≡◌, ◌≤◌, ◌+◌, ◌++◌, ℕ, List, [], length, true, None, Some, IfErr, IfOk, OnOk};
 ghost use Rattle.cloud_points.specs.Flows.{points, upto};
 ghost use Rattle.cloud_points.specs.Queue.{up_to_limit};
 ghost use Rattle.cloud_points.specs.declared.point.Point as point_type;
 ghost use Rattle.file_devices.specs.Counts.{Rose};
 ghost use Rattle.set_engine.specs.Stops.{HasFailed, IsStopAt, IsStopBehind};
 ghost use Rattle.file_devices.specs.declared.devices.Op.{Op};
-ghost use Rattle.stage_kinds.specs.Files.{sink_of};
-ghost use Rattle.stage_kinds.specs.Stages.{holds_chosen, why_not, writes_of, writing_filter};
+ghost use Rattle.stage_kinds.specs.Files.{chosen, count_of, sink_of};
+ghost use Rattle.stage_kinds.specs.Stages.{first_stop, holds_chosen, only_of, writes_of, writing_filter};
 ghost use Rattle.stage_meanings.specs.Filtering.{filtered_stop};
-ghost use Rattle.stage_meanings.specs.Filters.{first_from};
 
 use crate::given::Given;
 use crate::stop::Stop;
@@ -39,8 +38,12 @@ fn write_view<K: FileSink>(
     before: u64,
 ) -> Result<u64, WriteErr>
     ensures ok { IfOk result (λ next. next ≡ up_to_limit (before + length view.now)) }
-    ensures sound { OnOk result (first_from (why_not (writes_of writer.old)) 0 view.now ≡ None) }
-    ensures err { IfErr result (IsStopBehind before (first_from (why_not (writes_of writer.old)) 0 view.now)) }
+    ensures sound { OnOk result ((k : ℕ) → count_of writer.old.file ≡ up_to_limit k
+        → first_stop (writes_of writer.old) (up_to_limit k) view.now ≡ None) }
+    ensures err { IfErr result (λ e. (k : ℕ) → count_of writer.old.file ≡ up_to_limit k
+        → IsStopBehind before (first_stop (writes_of writer.old) (up_to_limit k) view.now) e) }
+    ensures count { OnOk result ((k : ℕ) → count_of writer.old.file ≡ up_to_limit k
+        → count_of writer.new.file ≡ up_to_limit (k + length (chosen (only_of writer.old) view.now))) }
     ensures form { writes_of writer.new ≡ writes_of writer.old }
     ensures holds { OnOk result ((earlier : List point_type.Point)
         → holds_chosen K.bytes writer.old earlier ≡ true → holds_chosen K.bytes writer.new (earlier ++ view.now) ≡ true) }
@@ -58,10 +61,12 @@ fn write_view<K: FileSink>(
     Ok(number)
 }
 
-/// Has a writer take all points of whole views. It stops at the first one that the writer doesn't take.
+/// Has a writer that wrote none yet take all points of whole views. It stops at the first one that the writer doesn't take.
 fn write_all<K: FileSink>(writer: &mut WriterStage<K>, views: &Views) -> Result<(), WriteErr>
-    ensures sound { OnOk result (filtered_stop (writing_filter (writes_of writer.old)) views.now ≡ None) }
-    ensures err { IfErr result (IsStopAt (filtered_stop (writing_filter (writes_of writer.old)) views.now)) }
+    ensures sound { OnOk result (count_of writer.old.file ≡ 0
+        → filtered_stop (writing_filter (writes_of writer.old)) views.now ≡ None) }
+    ensures err { IfErr result (λ e. count_of writer.old.file ≡ 0
+        → IsStopAt (filtered_stop (writing_filter (writes_of writer.old)) views.now) e) }
     ensures form { writes_of writer.new ≡ writes_of writer.old }
     ensures holds { OnOk result (holds_chosen K.bytes writer.old [] ≡ true → holds_chosen K.bytes writer.new (points views.now) ≡ true) }
     ensures failed { IfErr result (λ e. e ≡ WriteErr.Failed → Rose (K.faults (sink_of writer.old.file)) (K.faults (sink_of writer.new.file))) }
@@ -100,13 +105,14 @@ fn before_point(alloc: Global, views: &Views, number: u64) -> Result<Views, Allo
     Ok(given)
 }
 
-/// Has a writer take all points of whole views, up to the first one that it doesn't take. It gives those points on.
+/// Has a writer that wrote none yet take all points of whole views, up to the first one that it doesn't take. It gives those points on.
 pub(crate) fn written_views<K: FileSink>(
     alloc: Global,
     writer: &mut WriterStage<K>,
     views: Views,
 ) -> Result<Given, Stop>
-    ensures fault { IfOk result (λ given. given.fault ≡ filtered_stop (writing_filter (writes_of writer.old)) views) }
+    ensures fault { IfOk result (λ given. count_of writer.old.file ≡ 0
+        → given.fault ≡ filtered_stop (writing_filter (writes_of writer.old)) views) }
     ensures all { IfOk result (λ given. given.fault ≡ None → given.views ≡ views) }
     ensures form { writes_of writer.new ≡ writes_of writer.old }
     ensures holds { IfOk result (λ given. given.fault ≡ None

@@ -8,7 +8,7 @@ use Rattle.stage_meanings.specs.Filters.{found, first_from}
 use Rattle.whole_filters.specs.Held.{view_at}
 
 -- the points of the view at a place stand behind those of the views before it
-points_at : {P : Type 0} (views : List (List P)) (last : List P) (v : ℕ) → v ≤ length views
+pub points_at : {P : Type 0} (views : List (List P)) (last : List P) (v : ℕ) → v ≤ length views
     → (rest : List P) × (all_of views ++ last ≡ all_of (take v views) ++ (get_or views v last ++ rest))
 points_at [] last zero l = ([], sym (append-nil last))
 points_at [] last (suc v) l = absurd (omega (arith, l))

@@ -24,7 +24,7 @@ filtering_of filter.Merge only = Merge
 -- the rule; a merge has none, and each point goes on
 abbrev pub rule_in : Filtering → Rule Point Reason
 rule_in (By rule only) = rule
-rule_in Merge = passing
+rule_in _ = passing
 
 abbrev pub rule_of : BoundFilter → Rule Point Reason
 rule_of f = rule_in (filtering_of f None)

@@ -1,6 +1,5 @@
 -- What the work of each stage means.
 use Rattle.std.specs.Prelude.{◌≡◌, ℕ, ◌==◌, Bool, true, false, not, ◌&&◌, ◌||◌, List, length, Option, Some, None, is_some}
-use Rattle.std.specs.List.{list_any}
 use Rattle.cloud_points.specs.declared.dims.Dim.{Dim}
 use Rattle.cloud_points.specs.declared.point.Point.{Point}
 use Rattle.cloud_points.specs.declared.faults.StageFault.{StageFault}
@@ -9,11 +8,10 @@ use Rattle.cloud_points.specs.Meaning.{Meaning}
 use Rattle.cloud_points.specs.Queue.{up_to_limit}
 use Rattle.expr_lang.specs.Formula.{Formula}
 use Rattle.network_theory.specs.Machine.{Machine}
-use Rattle.stage_meanings.specs.ByRule.{steps_of, spot_at}
+use Rattle.stage_meanings.specs.ByRule.{admitting_steps, spot_at}
 use Rattle.stage_meanings.specs.Conditions.{passes}
-use Rattle.stage_meanings.specs.Filtering.{Filtering, By, filter_meaning}
-use Rattle.stage_meanings.specs.Filters.{Rule, why}
-use Rattle.stage_meanings.specs.Rules.{admitted}
+use Rattle.stage_meanings.specs.Filtering.{Filtering, Admit, filter_meaning}
+use Rattle.stage_meanings.specs.Filters.{refused_by, first_refused}
 use Rattle.stage_meanings.specs.Steps.{Steps, given, reached, stopped}
 use Rattle.stage_meanings.specs.declared.reason.Reason.{Reason}
 use Rattle.stage_meanings.specs.declared.spot.Spot.{Spot}
@@ -27,28 +25,24 @@ use Rattle.stage_kinds.specs.declared.stage_work.StageState.TheVariants.{Reading
 use Rattle.stage_kinds.specs.declared.stage_work.StageWork.{StageWork}
 use Rattle.stage_kinds.specs.declared.stage_work.StageWork.TheVariants.{Reader, Filter, Collector, Views, Writer}
 use Rattle.stage_kinds.specs.declared.writer_stage.WriterStage.{WriterStage}
-use Rattle.stage_kinds.specs.Files.{chosen, file_form, file_holds, unwritten}
+use Rattle.stage_kinds.specs.Files.{chosen, count_of, file_form, file_holds, unwritten}
 
 -- ---- writers
 
--- the rule of a writer: each point goes on as it is, where it has a place in the file
-abbrev pub writing_rule : Writes → Rule Point Reason
-writing_rule x = admitted (unwritten x.form)
-
--- as a filter
+-- as a filter: it admits the points that aren't to be written, and those that have a place in the file
 abbrev pub writing_filter : Writes → Filtering
-writing_filter x = By (writing_rule x) x.only
+writing_filter x = Admit (unwritten x.form) x.only
 
 abbrev pub writing_steps : Writes → Steps Spot Point StageFault
-writing_steps x = steps_of (writing_rule x) (passes x.only)
+writing_steps x = admitting_steps (unwritten x.form) (passes x.only)
 
--- why it stops at a point
-abbrev pub why_not : Writes → Point → Option Reason
-why_not x p = why (writing_rule x) (passes x.only) p
+-- why it stops at a point behind so many that were written
+abbrev pub why_not : Writes → ℕ → Point → Option Reason
+why_not x k p = refused_by (unwritten x.form) (passes x.only) (p, k)
 
--- it stops at this point
-abbrev pub stops_at : Writes → Point → Bool
-stops_at x p = is_some (why_not x p)
+-- the first of these points at which it stops behind so many that were written, by its number among them
+abbrev pub first_stop : Writes → ℕ → List Point → Option (ℕ × Reason)
+first_stop x k points = first_refused (unwritten x.form) (passes x.only) 0 k points
 
 -- what the writer writes stands in its state, beside where its next point stands
 abbrev pub writing_meaning : Meaning (Writes × Spot) Point StageFault
@@ -60,9 +54,12 @@ writing_meaning = record {
   at_end = λ s cut. (s, false);
 }
 
--- it stops at none of these
+-- from its first point on it stops at one of these, or at none
+abbrev pub stops_somewhere : Writes → List Point → Bool
+stops_somewhere x points = is_some (first_stop x 0 points)
+
 abbrev pub stops_nowhere : Writes → List Point → Bool
-stops_nowhere x points = not (list_any (stops_at x) points)
+stops_nowhere x points = not (stops_somewhere x points)
 
 module _ {K : Type 0} where
   abbrev pub only_of : WriterStage K → Option (Formula Dim)
@@ -71,12 +68,16 @@ module _ {K : Type 0} where
   abbrev pub writes_of : WriterStage K → Writes
   writes_of w = record { form = file_form w.file; only = only_of w }
 
+  -- where its next point stands: behind so many of its points, and so many that it wrote
+  abbrev pub spot_in : WriterStage K → Spot
+  spot_in w = record { number = w.taken.number; place = count_of w.file }
+
   -- it wrote those of these points that are chosen, and its sink holds them, by the bytes that a sink tells; nothing is said where it
   -- stops at one of them
   abbrev pub holds_chosen : (K → Option (List ℕ)) → WriterStage K → List Point → Bool
   holds_chosen bytes w points =
-      list_any (stops_at (writes_of w)) points
-      || ((w.written == up_to_limit (length (chosen (only_of w) points))) && file_holds bytes w.file (chosen (only_of w) points))
+      stops_somewhere (writes_of w) points
+      || ((count_of w.file == up_to_limit (length (chosen (only_of w) points))) && file_holds bytes w.file (chosen (only_of w) points))
 
 -- ---- all
 
@@ -115,7 +116,7 @@ module _ {S K : Type 0} where
   state_of (Filter f) = At (spot_of f)
   state_of (Collector c) = Collecting c.gathering (held c.short c.views)
   state_of (Views h) = Reading
-  state_of (Writer w) = Writing (writes_of w) w.taken.spot
+  state_of (Writer w) = Writing (writes_of w) (spot_in w)
 
   abbrev pub is_leaf : StageWork S K → Bool
   is_leaf (Reader r) = true
@@ -139,7 +140,7 @@ module _ {S K : Type 0} where
 
   -- how many points it wrote
   abbrev pub written_by : StageWork S K → Option ℕ
-  written_by (Writer w) = Some w.written
+  written_by (Writer w) = Some (count_of w.file)
   written_by _ = None
 
 -- a writer of this holds these points, and stops at none of them

@@ -5,7 +5,7 @@ ghost use Rattle.file_devices.specs.Counts.{Rose};
 ghost use Rattle.file_devices.specs.Told.{IsAsTold};
 ghost use Rattle.file_devices.specs.declared.devices.Op as op_type;
 ghost use Rattle.stage_kinds.specs.declared.beginning.BeginErr.TheVariants.{Failed as BeginFailed, Memory as BeginMemory};
-ghost use Rattle.stage_kinds.specs.Files.{IsFileForm, file_form, file_holds, sink_of};
+ghost use Rattle.stage_kinds.specs.Files.{IsFileForm, count_of, file_form, file_holds, sink_of};
 ghost use Rattle.stage_kinds.specs.Held.{op_of, faults_of};
 ghost use Rattle.stage_kinds.specs.Begins.{begin_err_of_text, begin_err_of_las};
 ghost use Rattle.stage_kinds.specs.Stages.{begun, state_of, holds_of, writing_of};
@@ -58,6 +58,7 @@ fn begin_form<K: FileSink>(
 ) -> Result<FileWriter<K>, (K, BeginErr)>
     requires { IsFileForm form }
     ensures form { IfOk result (λ w. file_form w ≡ form) }
+    ensures none { IfOk result (λ w. count_of w ≡ 0) }
     ensures holds { IfOk result (λ w. IsAsTold (K.bytes sink) (Some []) → file_holds K.bytes w [] ≡ true) }
     ensures later { IfOk result (λ w. K.faults sink ≤ K.faults (sink_of w)) }
     ensures failed { IfErr result (λ e. e.1 ≡ BeginErr.Failed → Rose (K.faults sink) (K.faults e.0)) }
@@ -65,7 +66,7 @@ fn begin_form<K: FileSink>(
 {
     match form {
         FileForm::Text(form) => match TextWriter::begin(alloc, sink, form) {
-            Ok(writer) => Ok(FileWriter::Text(writer)),
+            Ok(writer) => Ok(FileWriter::Text(writer, 0)),
             Err((sink, e)) => Err((sink, e.into())),
         },
         FileForm::Las(form) => match LasWriter::begin(alloc, sink, form) {
@@ -102,7 +103,6 @@ pub fn begin_file<S: Source, K: FileSink>(
             file,
             taken: Written::new(only),
             chosen,
-            written: 0,
         })),
         Err(refused) => Err(refused),
     }

@@ -22,7 +22,8 @@ pub enum StageState {
     /// A stage that needs whole views remembers what it is to make of them, and those that it took; None where memory was wanting.
     Collecting(Gathering, Option<Views>),
 
-    /// A writer remembers what it writes, and where its next point stands; of its points nothing but what its sink holds.
+    /// A writer remembers what it writes, and where its next point stands: behind how many of its points, and how many that it wrote.
+    /// Of its points it remembers nothing but what its sink holds.
     Writing(Writing, Spot),
 }
 
@@ -110,10 +111,7 @@ impl<S: Source, K: FileSink> Work for StageWork<S, K> {
                 collector.on_end_view();
                 true
             }
-            StageWork::Writer(writer) => {
-                writer.begin_view();
-                true
-            }
+            StageWork::Writer(_) => true,
         }
     }
 
@@ -196,7 +194,7 @@ impl<S: Source, K: FileSink> StageWork<S, K> {
         ensures { result ≡ written_by self.now }
     {
         match self {
-            StageWork::Writer(writer) => Some(writer.written),
+            StageWork::Writer(writer) => Some(writer.file.count()),
             _ => None,
         }
     }

@@ -1,5 +1,5 @@
 -- Worked examples of the definitions; a point is a number in the first ones.
-use Rattle.std.specs.Prelude.{◌≡◌, ℕ, ◌*◌, ◌/◌, ◌%◌, ◌^◌, ◌==◌, nat_lt, Bool, true, false, if◌then◌else◌, pos, List, [], ◌∷◌, Some, None, Result, Ok, Err, refl}
+use Rattle.std.specs.Prelude.{◌≡◌, ℕ, ◌*◌, ◌/◌, ◌%◌, ◌^◌, ◌==◌, nat_lt, Bool, true, false, if◌then◌else◌, pos, List, [], ◌∷◌, Option, Some, None, Result, Ok, Err, refl}
 use Rattle.cloud_points.specs.Flows.{Flow}
 use Rattle.cloud_points.specs.Points.{zero_point}
 use Rattle.cloud_points.specs.declared.dims.Dim.{Dim}
@@ -11,10 +11,10 @@ use Rattle.expr_lang.specs.Formula.{Formula, number, name, binary}
 use Rattle.expr_lang.specs.declared.op.Op.TheVariants.{Equal, Plus, Over}
 use Rattle.expr_eval.specs.declared.assignment.Assignment.{Assignment}
 use Rattle.stage_meanings.specs.declared.reason.Reason.{Reason}
-use Rattle.stage_meanings.specs.declared.reason.Reason.TheVariants.{DivideByZero, NotHeld}
-use Rattle.stage_meanings.specs.Filtering.{By, filtered, filtered_fault}
+use Rattle.stage_meanings.specs.declared.reason.Reason.TheVariants.{DivideByZero, NotHeld, TooMany}
+use Rattle.stage_meanings.specs.Filtering.{By, Admit, filtered, filtered_fault}
 use Rattle.stage_meanings.specs.Filters.{changed, on_view, streamed, streamed_fault, merged}
-use Rattle.stage_meanings.specs.Rules.{head, expression, assign, admitted}
+use Rattle.stage_meanings.specs.Rules.{head, expression, assign}
 
 abbrev all : ℕ → Result Bool Reason
 all p = Ok true
@@ -105,8 +105,18 @@ no_value : filtered_fault (By (assign two_assignments) (Some (binary Equal (bina
 no_value = refl
 
 -- a writer that can't write a class of 9, and has none to write
-not_written : filtered_fault (By (admitted (λ p. if p.classification == 9 then Some (NotHeld Classification) else None)) (Some is_red)) three ≡ None
+not_written : filtered_fault (Admit (λ k p. if p.classification == 9 then Some (NotHeld Classification) else None) (Some is_red)) three ≡ None
 not_written = refl
 
-not_held : filtered_fault (By (admitted (λ p. if p.classification == 9 then Some (NotHeld Classification) else None)) None) three ≡ Some (stage.Point (fault.NotHeld 1 Classification))
+not_held : filtered_fault (Admit (λ k p. if p.classification == 9 then Some (NotHeld Classification) else None) None) three ≡ Some (stage.Point (fault.NotHeld 1 Classification))
 not_held = refl
+
+-- a file that counts one point; of all views only those that pass the `where` are counted
+abbrev only_one : ℕ → Point → Option Reason
+only_one k p = if nat_lt k 1 then None else Some TooMany
+
+too_many : filtered_fault (Admit only_one (Some is_red)) three ≡ Some (stage.Point (fault.TooMany 2))
+too_many = refl
+
+before_too_many : filtered (Admit only_one (Some is_red)) three ≡ record { views = (point 1 3 ∷ []) ∷ []; open_view = point 0 9 ∷ []; cut = true }
+before_too_many = refl

@@ -6,7 +6,7 @@ use Rattle.cloud_points.specs.Meaning.{Meaning}
 use Rattle.cloud_points.specs.declared.faults.StageFault.{StageFault}
 use Rattle.stage_meanings.specs.declared.reason.Reason.{Reason}
 use Rattle.stage_meanings.specs.declared.spot.Spot.{Spot}
-use Rattle.stage_meanings.specs.Filters.{◌>>=◌, Rule, Each, Places, keeps, or_nothing, is_true, reason_of, fault_at}
+use Rattle.stage_meanings.specs.Filters.{◌>>=◌, Rule, Each, Places, keeps, or_nothing, is_true, reason_of, refused_by, fault_at}
 use Rattle.stage_meanings.specs.Steps.{Steps, steps_meaning}
 
 -- what a point at a place comes to, if it passes
@@ -56,6 +56,18 @@ steps_of rule only = record {
 
 abbrev pub rule_meaning : {P : Type 0} → Rule P Reason → (P → Result Bool Reason) → Meaning Spot P StageFault
 rule_meaning rule only = steps_meaning (steps_of rule only)
+
+-- each point goes on as it is, and those that pass are counted over all views
+abbrev pub admitting_steps : {P : Type 0} → (ℕ → P → Option Reason) → (P → Result Bool Reason) → Steps Spot P StageFault
+admitting_steps against only = record {
+  fault = λ s p. option_map (fault_at s.number) (refused_by against only (p, s.place));
+  becomes = λ s p. Some p;
+  next = λ s p. spot_after (is_true (only p)) s;
+  anew = λ s. s;
+}
+
+abbrev pub admitting_meaning : {P : Type 0} → (ℕ → P → Option Reason) → (P → Result Bool Reason) → Meaning Spot P StageFault
+admitting_meaning against only = steps_meaning (admitting_steps against only)
 
 -- all points go on, no end of a view does, and one goes before an end that isn't cut
 abbrev pub merge_meaning : {S P F : Type 0} → Meaning S P F

@@ -15,7 +15,7 @@ use Rattle.stage_meanings.specs.Steps.{Steps, unless, given, reached, stopped}
 use Rattle.stage_meanings.specs.StepsCut.{steps_keep}
 use Rattle.stage_meanings.specs.Filters.{◌>>=◌, Rule, Each, Places, keeps, at_point, reason_of, or_nothing, is_true, positions, chosen, on_view, found, first_from, why, streamed, streamed_fault, told_stop, fault_at}
 use Rattle.stage_meanings.specs.ByRule.{judged_at, spot_after, steps_of, rule_meaning, spot_at}
-use Rattle.stage_meanings.specs.Streams.{number_of, within, StreamsBy, streams_give, streams_fault}
+use Rattle.stage_meanings.specs.Streams.{number_of, within, each_stops, StreamsBy, streams_give, streams_fault}
 
 limits : (n m : ℕ) → n ≡ up_to_limit m → up_to_limit (n + 1) ≡ up_to_limit (m + 1)
 limits n m e = omega (arith, e)
@@ -137,7 +137,7 @@ view-given (Each f) only n m v e = each-gives f only n (spot_at m) v e
 view-given (Places test) only n m v e = places-give test only n (spot_at m) v e
 
 module _ {P : Type 0} (rule : Rule P Reason) (only : P → Result Bool Reason) where
-  pub rule_streams : StreamsBy (rule_meaning rule only) (why rule only) told_stop spot_at (on_view rule only)
+  pub rule_streams : StreamsBy (rule_meaning rule only) (each_stops (why rule only)) told_stop spot_at (on_view rule only)
   rule_streams = record {
     fault = λ n v. fault-found rule only n (spot_at n) v refl;
     gives = λ n v e. view-given rule only n n v e;
@@ -148,7 +148,7 @@ module _ {P : Type 0} (rule : Rule P Reason) (only : P → Result Bool Reason) w
 
   -- what a node with this filter gives for a flow, and its fault
   pub filter_gives : (f : Flow P) → output (rule_meaning rule only) (at_start 1 (spot_at 0)) (flow_marks f) ≡ flow_marks (streamed rule only f)
-  filter_gives f = streams_give (rule_meaning rule only) (steps_keep (steps_of rule only)) (why rule only) told_stop spot_at (on_view rule only) rule_streams f
+  filter_gives f = streams_give (rule_meaning rule only) (steps_keep (steps_of rule only)) (each_stops (why rule only)) told_stop spot_at (on_view rule only) rule_streams 0 refl f
 
   pub filter_faults : (f : Flow P) → (after_all (rule_meaning rule only) (at_start 1 (spot_at 0)) (flow_marks f)).fault ≡ streamed_fault rule only f
-  filter_faults f = streams_fault (rule_meaning rule only) (steps_keep (steps_of rule only)) (why rule only) told_stop spot_at (on_view rule only) rule_streams f
+  filter_faults f = streams_fault (rule_meaning rule only) (steps_keep (steps_of rule only)) (each_stops (why rule only)) told_stop spot_at (on_view rule only) rule_streams 0 f

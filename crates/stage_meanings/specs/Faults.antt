@@ -6,17 +6,18 @@ use Rattle.cloud_points.specs.Events.{is_device, first_fault, IsOf}
 use Rattle.cloud_points.specs.declared.faults.StageFault.{StageFault}
 use Rattle.cloud_points.specs.declared.faults.StageFault.TheVariants as stage
 use Rattle.stage_meanings.specs.declared.reason.Reason.{Reason}
-use Rattle.stage_meanings.specs.declared.reason.Reason.TheVariants.{OutOfRange, NotHeld, DivideByZero, ArithOverflow}
+use Rattle.stage_meanings.specs.declared.reason.Reason.TheVariants.{OutOfRange, NotHeld, DivideByZero, ArithOverflow, TooMany}
 use Rattle.stage_meanings.specs.declared.spot.Spot.{Spot}
 use Rattle.stage_meanings.specs.Filters.{Rule, reason_of, is_true, fault_at}
 use Rattle.stage_meanings.specs.ByRule.{judged_at, spot_after, steps_of}
 use Rattle.stage_meanings.specs.Steps.{stopped}
 
-no_device : (n : ℕ) (r : Reason) → is_device (Some (fault_at n r)) ≡ false
+pub no_device : (n : ℕ) (r : Reason) → is_device (Some (fault_at n r)) ≡ false
 no_device n (OutOfRange d) = refl
 no_device n (NotHeld d) = refl
 no_device n DivideByZero = refl
 no_device n ArithOverflow = refl
+no_device n TooMany = refl
 
 pub filters_have_no_device : {P : Type 0} (rule : Rule P Reason) (only : P → Result Bool Reason) (s : Spot) (v : List P) → is_device (stopped (steps_of rule only) s v) ≡ false
 filters_have_no_device rule only s [] = refl

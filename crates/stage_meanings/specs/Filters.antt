@@ -1,5 +1,5 @@
 -- What a filter makes of whole views and flows.
-use Rattle.std.specs.Prelude.{ℕ, ◌+◌, Bool, true, false, not, ◌||◌, if◌then◌else◌, List, [], ◌∷◌, map, filter, Option, Some, None, Result, Ok, Err}
+use Rattle.std.specs.Prelude.{ℕ, ◌+◌, Bool, true, false, not, ◌||◌, if◌then◌else◌, List, [], ◌∷◌, map, filter, take, Option, Some, None, Result, Ok, Err}
 use Rattle.std.specs.List.{filter_map}
 use Rattle.std.specs.Option.{option_map}
 use Rattle.cloud_points.specs.Queue.{up_to_limit}
@@ -9,7 +9,7 @@ use Rattle.cloud_points.specs.declared.faults.StageFault.TheVariants as stage
 use Rattle.cloud_points.specs.declared.faults.PointFault.{PointFault}
 use Rattle.cloud_points.specs.declared.faults.PointFault.TheVariants as fault
 use Rattle.stage_meanings.specs.declared.reason.Reason.{Reason}
-use Rattle.stage_meanings.specs.declared.reason.Reason.TheVariants.{OutOfRange, NotHeld, DivideByZero, ArithOverflow}
+use Rattle.stage_meanings.specs.declared.reason.Reason.TheVariants.{OutOfRange, NotHeld, DivideByZero, ArithOverflow, TooMany}
 
 -- ---- what a filter does with the points that pass its `where`
 
@@ -93,7 +93,12 @@ why rule only p = reason_of (at_point rule only p)
 abbrev pub stop_of : {P R : Type 0} → Rule P R → (P → Result Bool R) → Flow P → Option (ℕ × R)
 stop_of rule only flow = first_from (why rule only) 0 (points flow)
 
--- what stands before the point of this number, and all where there is none
+-- of points those before the one of this number, and all where there is none
+abbrev pub points_before : {P R : Type 0} → Option (ℕ × R) → List P → List P
+points_before None points = points
+points_before (Some s) points = take s.0 points
+
+-- the same of a flow
 abbrev pub before_stop : {P R : Type 0} → Option (ℕ × R) → Flow P → Flow P
 before_stop None flow = flow
 before_stop (Some s) flow = upto flow s.0
@@ -101,6 +106,36 @@ before_stop (Some s) flow = upto flow s.0
 -- each view by itself, up to the first point that can't be judged
 abbrev pub streamed : {P R : Type 0} → Rule P R → (P → Result Bool R) → Flow P → Flow P
 streamed rule only flow = map_views (on_view rule only) (before_stop (stop_of rule only flow) flow)
+
+-- ---- points that a filter admits by how many passed before them
+
+-- the least number from n on of a point at which the `where` has no value
+abbrev pub first_unjudged : {P R : Type 0} → (P → Result Bool R) → ℕ → List P → Option (ℕ × R)
+first_unjudged only n points = first_from (λ p. reason_of (only p)) n points
+
+-- the reason against a point, by the one there is if it passes; where its `where` has no value, why that is
+abbrev pub if_passing : {R : Type 0} → Result Bool R → Option R → Option R
+if_passing (Ok true) reason = reason
+if_passing (Ok false) reason = None
+if_passing (Err r) reason = Some r
+
+-- of a point with its position among those that pass
+abbrev pub refused_by : {P R : Type 0} → (ℕ → P → Option R) → (P → Result Bool R) → P × ℕ → Option R
+refused_by against only q = if_passing (only q.0) (against q.1 q.0)
+
+-- the least number from n on of a point that isn't admitted, where k passed before these points
+abbrev pub first_refused : {P R : Type 0} → (ℕ → P → Option R) → (P → Result Bool R) → ℕ → ℕ → List P → Option (ℕ × R)
+first_refused against only n k points = first_from (refused_by against only) n (positions (λ p. is_true (only p)) k points)
+
+-- the same of a flow: those that passed are counted over all views
+abbrev pub refusal_of : {P R : Type 0} → (ℕ → P → Option R) → (P → Result Bool R) → Flow P → Option (ℕ × R)
+refusal_of against only flow = first_refused against only 0 0 (points flow)
+
+-- all views as they are, up to that point
+abbrev pub admitted : {P R : Type 0} → (ℕ → P → Option R) → (P → Result Bool R) → Flow P → Flow P
+admitted against only flow = before_stop (refusal_of against only flow) flow
+
+-- ---- all views as one
 
 -- one view with all points; of a cut flow only an open one
 abbrev pub merged : {P : Type 0} → Flow P → Flow P
@@ -115,6 +150,7 @@ point_fault n (OutOfRange d) = fault.ValueOutOfRange n d
 point_fault n (NotHeld d) = fault.NotHeld n d
 point_fault n DivideByZero = fault.DivideByZero n
 point_fault n ArithOverflow = fault.ArithOverflow n
+point_fault n TooMany = fault.TooMany n
 
 abbrev pub fault_at : ℕ → Reason → StageFault
 fault_at n r = stage.Point (point_fault n r)

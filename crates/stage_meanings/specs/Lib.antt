@@ -13,6 +13,7 @@ pub mod Merging
 pub mod Faults
 pub mod Heads
 pub mod Places
-pub mod Counting
+pub mod Spots
 pub mod Admitting
+pub mod Choosing
 pub mod FiltersStream

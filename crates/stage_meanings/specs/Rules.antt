@@ -51,17 +51,9 @@ crop shape outside = tested (λ p. Ok (different outside (in_shape p shape)))
 abbrev pub expression : Formula Dim → Rule Point Reason
 expression c = tested (condition c)
 
--- each point as it is, as at a writer
+-- each point as it is
 abbrev pub passing : {P R : Type 0} → Rule P R
 passing = Each (λ p. Ok (Some p))
-
--- each point as it is, unless there is a reason against it, as at a writer whose files can't hold every point
-abbrev pub unless_against : {P R : Type 0} → Option R → P → Result (Option P) R
-unless_against None p = Ok (Some p)
-unless_against (Some r) p = Err r
-
-abbrev pub admitted : {P R : Type 0} → (P → Option R) → Rule P R
-admitted against = Each (λ p. unless_against (against p) p)
 
 -- ---- assignments
 

@@ -29,7 +29,7 @@ module _ {P R : Type 0} (why : P → Option R) where
       go (Some q) ih e = let same : n ≡ k = ap number_of e in (omega (arith, same), omega (arith, same))
       go None ih e = let low = (ih e).0 in let high = (ih e).1 in (omega (arith, low), omega (arith, high))
 
-  first-append : (n : ℕ) (a b : List P) → first_from why n (a ++ b) ≡ first_fault (first_from why n a) (first_from why (n + length a) b)
+  pub first-append : (n : ℕ) (a b : List P) → first_from why n (a ++ b) ≡ first_fault (first_from why n a) (first_from why (n + length a) b)
   first-append n [] b = ap (λ z. first_from why z b) (omega arith)
   first-append n (p ∷ a) b = go (why p) (first-append (n + 1) a b)
     where
@@ -38,27 +38,51 @@ module _ {P R : Type 0} (why : P → Option R) where
       go (Some r) ih = refl
       go None ih = ih ∙ ap (λ z. first_fault (first_from why (n + 1) a) (first_from why z b)) (omega arith)
 
-  module _ (last : List P) (cut : Bool) where
-    -- a stop behind a view
-    later : (n : ℕ) (v : List P) (vs : List (List P)) (o : Option (ℕ × R)) → first_from why (n + length v) (all_of vs ++ last) ≡ o
-        → before_from n o (record { views = v ∷ vs; open_view = last; cut = cut }) ≡ with_view v (before_from (n + length v) o (record { views = vs; open_view = last; cut = cut }))
-    later n v vs None e = refl
-    later n v vs (Some s) e = let low = (within (n + length v) (all_of vs ++ last) s.0 s.1 e).0 in
-        let far : length v ≤ s.0 - n = omega (arith, low) in
-        let less : s.0 - n - length v ≡ s.0 - (n + length v) = omega arith in
-        ap (λ b. cond b (record { views = []; open_view = take (s.0 - n) v; cut = true }) (with_view v (views_upto vs last (s.0 - n - length v)))) (le-ltb (s.0 - n) (length v) far)
-        ∙ ap (λ k. with_view v (views_upto vs last k)) less
+-- what stood before a view, as far as it tells where the next stop is
+pub record Stops (H P R : Type 0) : Type 0 where
+  -- how many points stood there, the next stop among these points, and what stands before what comes behind them
+  pub count : H → ℕ
+  pub first : H → List P → Option (ℕ × R)
+  pub behind : H → List P → H
+  -- a stop is one of the points, whose numbers go on; and what comes behind a stop is no matter
+  pub counted : (h : H) (a : List P) → count (behind h a) ≡ count h + length a
+  pub within : (h : H) (a : List P) (k : ℕ) (r : R) → first h a ≡ Some (k, r) → (count h ≤ k) × (k < count h + length a)
+  pub append : (h : H) (a b : List P) → first h (a ++ b) ≡ first_fault (first h a) (first (behind h a) b)
 
-    -- a stop in the first view
-    here : (n : ℕ) (v : List P) (vs : List (List P)) (k : ℕ) (r : R) → first_from why n v ≡ Some (k, r)
-        → before_from n (Some (k, r)) (record { views = v ∷ vs; open_view = last; cut = cut }) ≡ record { views = []; open_view = take (k - n) v; cut = true }
-    here n v vs k r e = let high = (within n v k r e).1 in let low = (within n v k r e).0 in
-        let near : k - n < length v = omega (arith, high, low) in
-        ap (λ b. cond b (record { views = []; open_view = take (k - n) v; cut = true }) (with_view v (views_upto vs last (k - n - length v)))) (lt-ltb (k - n) (length v) near)
+-- a reason at each point by itself
+abbrev pub each_stops : {P R : Type 0} → (P → Option R) → Stops ℕ P R
+each_stops why = record {
+  count = λ n. n;
+  first = first_from why;
+  behind = λ n a. n + length a;
+  counted = λ n a. refl;
+  within = within why;
+  append = first-append why;
+}
 
-    all-first : (n : ℕ) (v : List P) (vs : List (List P)) (o : Option (ℕ × R)) → first_from why n v ≡ o
-        → first_from why n ((v ++ all_of vs) ++ last) ≡ first_fault o (first_from why (n + length v) (all_of vs ++ last))
-    all-first n v vs o e = ap (first_from why n) (append_assoc v (all_of vs) last) ∙ first-append n v (all_of vs ++ last) ∙ ap (λ z. first_fault z (first_from why (n + length v) (all_of vs ++ last))) e
+module _ {H P R : Type 0} (st : Stops H P R) (last : List P) (cut : Bool) where
+  -- a stop behind a view
+  later : (h : H) (v : List P) (vs : List (List P)) (o : Option (ℕ × R)) → st.first (st.behind h v) (all_of vs ++ last) ≡ o
+      → before_from (st.count h) o (record { views = v ∷ vs; open_view = last; cut = cut }) ≡ with_view v (before_from (st.count (st.behind h v)) o (record { views = vs; open_view = last; cut = cut }))
+  later h v vs None e = refl
+  later h v vs (Some s) e = let low = (st.within (st.behind h v) (all_of vs ++ last) s.0 s.1 e).0 in let count = st.counted h v in
+      let n : ℕ = st.count h in
+      let far : length v ≤ s.0 - n = omega (arith, low, count) in
+      let less : s.0 - n - length v ≡ s.0 - st.count (st.behind h v) = omega (arith, count) in
+      ap (λ b. cond b (record { views = []; open_view = take (s.0 - n) v; cut = true }) (with_view v (views_upto vs last (s.0 - n - length v)))) (le-ltb (s.0 - n) (length v) far)
+      ∙ ap (λ k. with_view v (views_upto vs last k)) less
+
+  -- a stop in the first view
+  here : (h : H) (v : List P) (vs : List (List P)) (k : ℕ) (r : R) → st.first h v ≡ Some (k, r)
+      → before_from (st.count h) (Some (k, r)) (record { views = v ∷ vs; open_view = last; cut = cut }) ≡ record { views = []; open_view = take (k - st.count h) v; cut = true }
+  here h v vs k r e = let high = (st.within h v k r e).1 in let low = (st.within h v k r e).0 in
+      let n : ℕ = st.count h in
+      let near : k - n < length v = omega (arith, high, low) in
+      ap (λ b. cond b (record { views = []; open_view = take (k - n) v; cut = true }) (with_view v (views_upto vs last (k - n - length v)))) (lt-ltb (k - n) (length v) near)
+
+  all-first : (h : H) (v : List P) (vs : List (List P)) (o : Option (ℕ × R)) → st.first h v ≡ o
+      → st.first h ((v ++ all_of vs) ++ last) ≡ first_fault o (st.first (st.behind h v) (all_of vs ++ last))
+  all-first h v vs o e = ap (st.first h) (append_assoc v (all_of vs) last) ∙ st.append h v (all_of vs ++ last) ∙ ap (λ z. first_fault z (st.first (st.behind h v) (all_of vs ++ last))) e
 
 or-false : (b : Bool) → b || false ≡ b
 or-false true = refl
@@ -104,42 +128,42 @@ keeps_fault m c f (End cut ∷ ms) h = keeps_fault m (next m c (End cut)) f ms (
     go true = h
     go false = h
 
--- what it does from the beginning of a view, behind n points, by what it gives of a whole view and why a point stops it
-pub record StreamsBy {S P F R : Type 0} (m : Meaning S P F) (why : P → Option R) (told : ℕ × R → F) (start : ℕ → S) (g : List P → List P) : Type 0 where
-  pub fault : (n : ℕ) (v : List P) → m.fault (start n) v ≡ option_map told (first_from why n v)
-  pub gives : (n : ℕ) (v : List P) → first_from why n v ≡ None → m.emit (start n) v ≡ g v
-  pub stops : (n : ℕ) (v : List P) (k : ℕ) (r : R) → first_from why n v ≡ Some (k, r) → m.emit (start n) v ≡ g (take (k - n) v)
-  pub anew : (n : ℕ) (v : List P) → first_from why n v ≡ None → m.at_view (m.after (start n) v) ≡ (start (n + length v), true)
-  pub ends : (n : ℕ) (v : List P) (cut : Bool) → (m.at_end (m.after (start n) v) cut).1 ≡ false
+-- what it does from the beginning of a view, behind what stood before, by what it gives of a whole view and where it stops
+pub record StreamsBy {S P F H R : Type 0} (m : Meaning S P F) (st : Stops H P R) (told : ℕ × R → F) (start : H → S) (g : List P → List P) : Type 0 where
+  pub fault : (h : H) (v : List P) → m.fault (start h) v ≡ option_map told (st.first h v)
+  pub gives : (h : H) (v : List P) → st.first h v ≡ None → m.emit (start h) v ≡ g v
+  pub stops : (h : H) (v : List P) (k : ℕ) (r : R) → st.first h v ≡ Some (k, r) → m.emit (start h) v ≡ g (take (k - st.count h) v)
+  pub anew : (h : H) (v : List P) → st.first h v ≡ None → m.at_view (m.after (start h) v) ≡ (start (st.behind h v), true)
+  pub ends : (h : H) (v : List P) (cut : Bool) → (m.at_end (m.after (start h) v) cut).1 ≡ false
 
-module _ {S P F R : Type 0} (m : Meaning S P F) (law : KeepsCutting m) (why : P → Option R) (told : ℕ × R → F) (start : ℕ → S) (g : List P → List P) (by : StreamsBy m why told start g) where
-  abbrev at : ℕ → List P → Machine S F
-  at n v = chunked m (at_start 1 (start n)) v
+module _ {S P F H R : Type 0} (m : Meaning S P F) (law : KeepsCutting m) (st : Stops H P R) (told : ℕ × R → F) (start : H → S) (g : List P → List P) (by : StreamsBy m st told start g) where
+  abbrev at : H → List P → Machine S F
+  at h v = chunked m (at_start 1 (start h)) v
 
-  clear : (n : ℕ) (v : List P) → first_from why n v ≡ None → m.fault (start n) v ≡ None
-  clear n v e = by.fault n v ∙ ap (option_map told) e
+  clear : (h : H) (v : List P) → st.first h v ≡ None → m.fault (start h) v ≡ None
+  clear h v e = by.fault h v ∙ ap (option_map told) e
 
-  faulty : (n : ℕ) (v : List P) (s : ℕ × R) → first_from why n v ≡ Some s → m.fault (start n) v ≡ Some (told s)
-  faulty n v s e = by.fault n v ∙ ap (option_map told) e
+  faulty : (h : H) (v : List P) (s : ℕ × R) → st.first h v ≡ Some s → m.fault (start h) v ≡ Some (told s)
+  faulty h v s e = by.fault h v ∙ ap (option_map told) e
 
-  points-then : (n : ℕ) (v : List P) (ms : List (Mark P)) → output m (at_start 1 (start n)) (map At v ++ ms) ≡ map At (m.emit (start n) v) ++ output m (at n v) ms
-  points-then n v ms = output-append m (at_start 1 (start n)) (map At v) ms
-      ∙ ap (λ z. z ++ output m (after_all m (at_start 1 (start n)) (map At v)) ms) (output-chunk m law (at_start 1 (start n)) v refl)
-      ∙ ap (λ d. map At (m.emit (start n) v) ++ output m d ms) (after-chunk m law (at_start 1 (start n)) v refl)
+  points-then : (h : H) (v : List P) (ms : List (Mark P)) → output m (at_start 1 (start h)) (map At v ++ ms) ≡ map At (m.emit (start h) v) ++ output m (at h v) ms
+  points-then h v ms = output-append m (at_start 1 (start h)) (map At v) ms
+      ∙ ap (λ z. z ++ output m (after_all m (at_start 1 (start h)) (map At v)) ms) (output-chunk m law (at_start 1 (start h)) v refl)
+      ∙ ap (λ d. map At (m.emit (start h) v) ++ output m d ms) (after-chunk m law (at_start 1 (start h)) v refl)
 
-  after-points : (n : ℕ) (v : List P) (ms : List (Mark P)) → after_all m (at_start 1 (start n)) (map At v ++ ms) ≡ after_all m (at n v) ms
-  after-points n v ms = after_all-append m (at_start 1 (start n)) (map At v) ms ∙ ap (λ d. after_all m d ms) (after-chunk m law (at_start 1 (start n)) v refl)
+  after-points : (h : H) (v : List P) (ms : List (Mark P)) → after_all m (at_start 1 (start h)) (map At v ++ ms) ≡ after_all m (at h v) ms
+  after-points h v ms = after_all-append m (at_start 1 (start h)) (map At v) ms ∙ ap (λ d. after_all m d ms) (after-chunk m law (at_start 1 (start h)) v refl)
 
   -- a view's end, where there was no fault
-  view-gives : (n : ℕ) (v : List P) (ms : List (Mark P)) → first_from why n v ≡ None → output m (at n v) (View_end ∷ ms) ≡ View_end ∷ output m (at_start 1 (start (n + length v))) ms
-  view-gives n v ms e = rw (clear n v e, by.anew n v e) refl
+  view-gives : (h : H) (v : List P) (ms : List (Mark P)) → st.first h v ≡ None → output m (at h v) (View_end ∷ ms) ≡ View_end ∷ output m (at_start 1 (start (st.behind h v))) ms
+  view-gives h v ms e = rw (clear h v e, by.anew h v e) refl
 
-  view-leaves : (n : ℕ) (v : List P) → first_from why n v ≡ None → next m (at n v) View_end ≡ at_start 1 (start (n + length v))
-  view-leaves n v e = rw (clear n v e, by.anew n v e) refl
+  view-leaves : (h : H) (v : List P) → st.first h v ≡ None → next m (at h v) View_end ≡ at_start 1 (start (st.behind h v))
+  view-leaves h v e = rw (clear h v e, by.anew h v e) refl
 
-  ending : (n : ℕ) (v : List P) (cut b : Bool) → is_some (m.fault (start n) v) ≡ b → output m (at n v) (End cut ∷ []) ≡ End (cut || b) ∷ []
-  ending n v true b e = rw (by.ends n v true) refl
-  ending n v false b e = rw (e, by.ends n v b) refl
+  ending : (h : H) (v : List P) (cut b : Bool) → is_some (m.fault (start h) v) ≡ b → output m (at h v) (End cut ∷ []) ≡ End (cut || b) ∷ []
+  ending h v true b e = rw (by.ends h v true) refl
+  ending h v false b e = rw (e, by.ends h v b) refl
 
   module _ (last : List P) (cut : Bool) where
     abbrev tail : List (Mark P)
@@ -148,73 +172,73 @@ module _ {S P F R : Type 0} (m : Meaning S P F) (law : KeepsCutting m) (why : P 
     abbrev flow : List (List P) → Flow P
     flow vs = record { views = vs; open_view = last; cut = cut }
 
-    abbrev shown : ℕ → Option (ℕ × R) → Flow P → List (Mark P)
-    shown n o f = flow_marks (map_views g (before_from n o f))
+    abbrev shown : H → Option (ℕ × R) → Flow P → List (Mark P)
+    shown h o f = flow_marks (map_views g (before_from (st.count h) o f))
 
-    open_end : (n : ℕ) (o : Option (ℕ × R)) → first_from why n last ≡ o → map At (m.emit (start n) last) ++ output m (at n last) (End cut ∷ []) ≡ shown n o (flow [])
-    open_end n None e = ap (λ z. map At (m.emit (start n) last) ++ z) (ending n last cut false (ap is_some (clear n last e)) ∙ ap (λ b. End b ∷ []) (or-false cut))
-        ∙ ap (λ z. map At z ++ End cut ∷ []) (by.gives n last e)
-    open_end n (Some s) e = ap (λ z. map At (m.emit (start n) last) ++ z) (ending n last cut true (ap is_some (faulty n last s e)) ∙ ap (λ b. End b ∷ []) (or-true cut))
-        ∙ ap (λ z. map At z ++ End true ∷ []) (by.stops n last s.0 s.1 e)
+    open_end : (h : H) (o : Option (ℕ × R)) → st.first h last ≡ o → map At (m.emit (start h) last) ++ output m (at h last) (End cut ∷ []) ≡ shown h o (flow [])
+    open_end h None e = ap (λ z. map At (m.emit (start h) last) ++ z) (ending h last cut false (ap is_some (clear h last e)) ∙ ap (λ b. End b ∷ []) (or-false cut))
+        ∙ ap (λ z. map At z ++ End cut ∷ []) (by.gives h last e)
+    open_end h (Some s) e = ap (λ z. map At (m.emit (start h) last) ++ z) (ending h last cut true (ap is_some (faulty h last s e)) ∙ ap (λ b. End b ∷ []) (or-true cut))
+        ∙ ap (λ z. map At z ++ End true ∷ []) (by.stops h last s.0 s.1 e)
 
     -- behind its fault it gives only its end
-    faulted-gives : (n : ℕ) (v : List P) (vs : List (List P)) → is_some (m.fault (start n) v) ≡ true → output m (at n v) (view_marks vs ++ tail) ≡ End true ∷ []
-    faulted-gives n v vs h = dropped m (at n v) vs tail h
-        ∙ output-append m (at n v) (map At last) (End cut ∷ [])
-        ∙ ap (λ z. z ++ output m (after_all m (at n v) (map At last)) (End cut ∷ [])) (output-faulted m (at n v) last h)
-        ∙ ap (λ d. output m d (End cut ∷ [])) (after-faulted m (at n v) last h)
-        ∙ ending n v cut true h ∙ ap (λ b. End b ∷ []) (or-true cut)
+    faulted-gives : (h : H) (v : List P) (vs : List (List P)) → is_some (m.fault (start h) v) ≡ true → output m (at h v) (view_marks vs ++ tail) ≡ End true ∷ []
+    faulted-gives h v vs f = dropped m (at h v) vs tail f
+        ∙ output-append m (at h v) (map At last) (End cut ∷ [])
+        ∙ ap (λ z. z ++ output m (after_all m (at h v) (map At last)) (End cut ∷ [])) (output-faulted m (at h v) last f)
+        ∙ ap (λ d. output m d (End cut ∷ [])) (after-faulted m (at h v) last f)
+        ∙ ending h v cut true f ∙ ap (λ b. End b ∷ []) (or-true cut)
 
-    rest : (n : ℕ) (v : List P) (vs : List (List P)) (o : Option (ℕ × R)) → first_from why n v ≡ o
-        → ((k : ℕ) → output m (at_start 1 (start k)) (view_marks vs ++ tail) ≡ shown k (first_from why k (points (flow vs))) (flow vs))
-        → map At (m.emit (start n) v) ++ output m (at n v) (View_end ∷ (view_marks vs ++ tail)) ≡ shown n (first_from why n (points (flow (v ∷ vs)))) (flow (v ∷ vs))
-    rest n v vs None e ih =
-        ap (λ z. map At (m.emit (start n) v) ++ z) (view-gives n v (view_marks vs ++ tail) e ∙ ap (λ z. View_end ∷ z) (ih (n + length v)))
-        ∙ ap (λ z. map At z ++ View_end ∷ shown (n + length v) (first_from why (n + length v) (points (flow vs))) (flow vs)) (by.gives n v e)
-        ∙ sym (marks-with_view (g v) (map_views g (before_from (n + length v) (first_from why (n + length v) (points (flow vs))) (flow vs))))
-        ∙ ap (λ z. flow_marks (map_views g z)) (sym (later why last cut n v vs (first_from why (n + length v) (all_of vs ++ last)) refl))
-        ∙ ap (λ z. shown n z (flow (v ∷ vs))) (sym (all-first why last cut n v vs None e))
-    rest n v vs (Some s) e ih =
-        ap (λ z. map At (m.emit (start n) v) ++ z) (view_end (is_some (m.fault (start n) v)) (ap is_some (faulty n v s e)) ∙ faulted-gives n v vs (ap is_some (faulty n v s e)))
-        ∙ ap (λ z. map At z ++ End true ∷ []) (by.stops n v s.0 s.1 e)
-        ∙ ap (λ z. flow_marks (map_views g z)) (sym (here why last cut n v vs s.0 s.1 e))
-        ∙ ap (λ z. shown n z (flow (v ∷ vs))) (sym (all-first why last cut n v vs (Some s) e))
+    rest : (h : H) (v : List P) (vs : List (List P)) (o : Option (ℕ × R)) → st.first h v ≡ o
+        → ((k : H) → output m (at_start 1 (start k)) (view_marks vs ++ tail) ≡ shown k (st.first k (points (flow vs))) (flow vs))
+        → map At (m.emit (start h) v) ++ output m (at h v) (View_end ∷ (view_marks vs ++ tail)) ≡ shown h (st.first h (points (flow (v ∷ vs)))) (flow (v ∷ vs))
+    rest h v vs None e ih =
+        ap (λ z. map At (m.emit (start h) v) ++ z) (view-gives h v (view_marks vs ++ tail) e ∙ ap (λ z. View_end ∷ z) (ih (st.behind h v)))
+        ∙ ap (λ z. map At z ++ View_end ∷ shown (st.behind h v) (st.first (st.behind h v) (points (flow vs))) (flow vs)) (by.gives h v e)
+        ∙ sym (marks-with_view (g v) (map_views g (before_from (st.count (st.behind h v)) (st.first (st.behind h v) (points (flow vs))) (flow vs))))
+        ∙ ap (λ z. flow_marks (map_views g z)) (sym (later st last cut h v vs (st.first (st.behind h v) (all_of vs ++ last)) refl))
+        ∙ ap (λ z. shown h z (flow (v ∷ vs))) (sym (all-first st last cut h v vs None e))
+    rest h v vs (Some s) e ih =
+        ap (λ z. map At (m.emit (start h) v) ++ z) (view_end (is_some (m.fault (start h) v)) (ap is_some (faulty h v s e)) ∙ faulted-gives h v vs (ap is_some (faulty h v s e)))
+        ∙ ap (λ z. map At z ++ End true ∷ []) (by.stops h v s.0 s.1 e)
+        ∙ ap (λ z. flow_marks (map_views g z)) (sym (here st last cut h v vs s.0 s.1 e))
+        ∙ ap (λ z. shown h z (flow (v ∷ vs))) (sym (all-first st last cut h v vs (Some s) e))
       where
-        view_end : (b : Bool) → b ≡ true → cond b [] (cond ((m.at_view (m.after (start n) v)).1) (View_end ∷ []) []) ++ output m (cond b (at n v) (record (at n v) { state = (m.at_view (m.after (start n) v)).0 })) (view_marks vs ++ tail) ≡ output m (at n v) (view_marks vs ++ tail)
+        view_end : (b : Bool) → b ≡ true → cond b [] (cond ((m.at_view (m.after (start h) v)).1) (View_end ∷ []) []) ++ output m (cond b (at h v) (record (at h v) { state = (m.at_view (m.after (start h) v)).0 })) (view_marks vs ++ tail) ≡ output m (at h v) (view_marks vs ++ tail)
         view_end true e = refl
         view_end false e = absurd cc
 
-    flows : (vs : List (List P)) (n : ℕ) → output m (at_start 1 (start n)) (view_marks vs ++ tail) ≡ shown n (first_from why n (points (flow vs))) (flow vs)
-    flows [] n = points-then n last (End cut ∷ []) ∙ open_end n (first_from why n last) refl
-    flows (v ∷ vs) n = ap (output m (at_start 1 (start n))) (append_assoc (map At v) (View_end ∷ view_marks vs) tail)
-        ∙ points-then n v (View_end ∷ (view_marks vs ++ tail))
-        ∙ rest n v vs (first_from why n v) refl (flows vs)
+    flows : (vs : List (List P)) (h : H) → output m (at_start 1 (start h)) (view_marks vs ++ tail) ≡ shown h (st.first h (points (flow vs))) (flow vs)
+    flows [] h = points-then h last (End cut ∷ []) ∙ open_end h (st.first h last) refl
+    flows (v ∷ vs) h = ap (output m (at_start 1 (start h))) (append_assoc (map At v) (View_end ∷ view_marks vs) tail)
+        ∙ points-then h v (View_end ∷ (view_marks vs ++ tail))
+        ∙ rest h v vs (st.first h v) refl (flows vs)
 
-    faults : (vs : List (List P)) (n : ℕ) → (after_all m (at_start 1 (start n)) (view_marks vs ++ tail)).fault ≡ option_map told (first_from why n (all_of vs ++ last))
-    faults [] n = ap (λ d. d.fault) (after-points n last (End cut ∷ [])) ∙ by.fault n last
-    faults (v ∷ vs) n = ap (λ z. (after_all m (at_start 1 (start n)) z).fault) (append_assoc (map At v) (View_end ∷ view_marks vs) tail)
-        ∙ ap (λ d. d.fault) (after-points n v (View_end ∷ (view_marks vs ++ tail)))
-        ∙ go (first_from why n v) refl (faults vs)
-        ∙ ap (option_map told) (sym (all-first why last cut n v vs (first_from why n v) refl))
+    faults : (vs : List (List P)) (h : H) → (after_all m (at_start 1 (start h)) (view_marks vs ++ tail)).fault ≡ option_map told (st.first h (all_of vs ++ last))
+    faults [] h = ap (λ d. d.fault) (after-points h last (End cut ∷ [])) ∙ by.fault h last
+    faults (v ∷ vs) h = ap (λ z. (after_all m (at_start 1 (start h)) z).fault) (append_assoc (map At v) (View_end ∷ view_marks vs) tail)
+        ∙ ap (λ d. d.fault) (after-points h v (View_end ∷ (view_marks vs ++ tail)))
+        ∙ go (st.first h v) refl (faults vs)
+        ∙ ap (option_map told) (sym (all-first st last cut h v vs (st.first h v) refl))
       where
-        go : (o : Option (ℕ × R)) → first_from why n v ≡ o → ((k : ℕ) → (after_all m (at_start 1 (start k)) (view_marks vs ++ tail)).fault ≡ option_map told (first_from why k (all_of vs ++ last)))
-            → (after_all m (at n v) (View_end ∷ (view_marks vs ++ tail))).fault ≡ option_map told (first_fault o (first_from why (n + length v) (all_of vs ++ last)))
-        go None e ih = ap (λ d. (after_all m d (view_marks vs ++ tail)).fault) (view-leaves n v e) ∙ ih (n + length v)
-        go (Some s) e ih = keeps_fault m (at n v) (told s) (View_end ∷ (view_marks vs ++ tail)) (faulty n v s e)
+        go : (o : Option (ℕ × R)) → st.first h v ≡ o → ((k : H) → (after_all m (at_start 1 (start k)) (view_marks vs ++ tail)).fault ≡ option_map told (st.first k (all_of vs ++ last)))
+            → (after_all m (at h v) (View_end ∷ (view_marks vs ++ tail))).fault ≡ option_map told (first_fault o (st.first (st.behind h v) (all_of vs ++ last)))
+        go None e ih = ap (λ d. (after_all m d (view_marks vs ++ tail)).fault) (view-leaves h v e) ∙ ih (st.behind h v)
+        go (Some s) e ih = keeps_fault m (at h v) (told s) (View_end ∷ (view_marks vs ++ tail)) (faulty h v s e)
 
-  from_zero : (o : Option (ℕ × R)) (f : Flow P) → before_from 0 o f ≡ before_stop o f
-  from_zero None f = refl
-  from_zero (Some s) f = ap (upto f) (let z : s.0 - 0 ≡ s.0 = omega arith in z)
+  from_zero : (n : ℕ) → n ≡ 0 → (o : Option (ℕ × R)) (f : Flow P) → before_from n o f ≡ before_stop o f
+  from_zero n e None f = refl
+  from_zero n e (Some s) f = ap (upto f) (let z : s.0 - n ≡ s.0 = omega (arith, e) in z)
 
   -- what a node with this work gives for a flow, and its fault
-  pub streams_give : (f : Flow P) → output m (at_start 1 (start 0)) (flow_marks f) ≡ flow_marks (map_views g (before_stop (first_from why 0 (points f)) f))
-  streams_give f = ap (output m (at_start 1 (start 0))) (append_assoc (view_marks f.views) (map At f.open_view) (End f.cut ∷ []))
-      ∙ flows f.open_view f.cut f.views 0
-      ∙ ap (λ z. flow_marks (map_views g z)) (from_zero (first_from why 0 (points f)) f)
+  pub streams_give : (h : H) → st.count h ≡ 0 → (f : Flow P) → output m (at_start 1 (start h)) (flow_marks f) ≡ flow_marks (map_views g (before_stop (st.first h (points f)) f))
+  streams_give h e f = ap (output m (at_start 1 (start h))) (append_assoc (view_marks f.views) (map At f.open_view) (End f.cut ∷ []))
+      ∙ flows f.open_view f.cut f.views h
+      ∙ ap (λ z. flow_marks (map_views g z)) (from_zero (st.count h) e (st.first h (points f)) f)
 
-  pub streams_fault : (f : Flow P) → (after_all m (at_start 1 (start 0)) (flow_marks f)).fault ≡ option_map told (first_from why 0 (points f))
-  streams_fault f = ap (λ z. (after_all m (at_start 1 (start 0)) z).fault) (append_assoc (view_marks f.views) (map At f.open_view) (End f.cut ∷ []))
-      ∙ faults f.open_view f.cut f.views 0
+  pub streams_fault : (h : H) (f : Flow P) → (after_all m (at_start 1 (start h)) (flow_marks f)).fault ≡ option_map told (st.first h (points f))
+  streams_fault h f = ap (λ z. (after_all m (at_start 1 (start h)) z).fault) (append_assoc (view_marks f.views) (map At f.open_view) (End f.cut ∷ []))
+      ∙ faults f.open_view f.cut f.views h
 
 map_same : {P : Type 0} (vs : List (List P)) → map (λ v. v) vs ≡ vs
 map_same [] = refl
@@ -239,7 +263,7 @@ module _ {S P F : Type 0} (m : Meaning S P F) (law : KeepsCutting m) (s : S) (g 
   no_told : ℕ × ⊥ → F
   no_told r = absurd r.1
 
-  by : StreamsBy m never no_told (λ n. s) g
+  by : StreamsBy m (each_stops never) no_told (λ n. s) g
   by = record {
     fault = λ n v. sound v ∙ sym (ap (option_map no_told) (none_found n v));
     gives = λ n v e. gives_it v;
@@ -249,7 +273,7 @@ module _ {S P F : Type 0} (m : Meaning S P F) (law : KeepsCutting m) (s : S) (g 
   }
 
   pub stream_gives : (f : Flow P) → output m (at_start 1 s) (flow_marks f) ≡ flow_marks (map_views g f)
-  stream_gives f = streams_give m law never no_told (λ n. s) g by f ∙ ap (λ o. flow_marks (map_views g (before_stop o f))) (none_found 0 (points f))
+  stream_gives f = streams_give m law (each_stops never) no_told (λ n. s) g by 0 refl f ∙ ap (λ o. flow_marks (map_views g (before_stop o f))) (none_found 0 (points f))
 
   pub stream_sound : (f : Flow P) → (after_all m (at_start 1 s) (flow_marks f)).fault ≡ None
-  stream_sound f = streams_fault m law never no_told (λ n. s) g by f ∙ ap (option_map no_told) (none_found 0 (points f))
+  stream_sound f = streams_fault m law (each_stops never) no_told (λ n. s) g by 0 f ∙ ap (option_map no_told) (none_found 0 (points f))

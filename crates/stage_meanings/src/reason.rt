@@ -23,6 +23,9 @@ pub enum Reason {
 
     /// An expression has a value above 10^27 in size, in nanounits.
     ArithOverflow,
+
+    /// A file counts no point more.
+    TooMany,
 }
 
 impl Reason {
@@ -35,6 +38,7 @@ impl Reason {
             Reason::NotHeld(dim) => PointFault::NotHeld(number, dim),
             Reason::DivideByZero => PointFault::DivideByZero(number),
             Reason::ArithOverflow => PointFault::ArithOverflow(number),
+            Reason::TooMany => PointFault::TooMany(number),
         }
     }
 }

@@ -1,15 +1,16 @@
 //! Where a stage stands among its points.
 
 ghost use Rattle.std.specs.Prelude.{◌≡◌};
-ghost use Rattle.stage_meanings.specs.ByRule.{IsWithin, spot_at, spot_after, spot_past, spot_anew};
+ghost use Rattle.stage_meanings.specs.ByRule.{spot_at, spot_after, spot_anew};
 
-/// Where the next point of a filter stands. Both numbers stand at the greatest u64.
+/// Where the next point of a filter, or of a writer, stands. Both numbers stand at the greatest u64.
 #[derive(Clone, Copy, Debug, PartialEq, Eq)]
 pub struct Spot {
     /// Its number in the stage's input, counted from 0 over all views.
     pub number: u64,
 
-    /// Its position among the points of its view that pass the filter's `where`, if it is one of them.
+    /// Its position among the points of its view that pass the filter's `where`, if it is one of them; of a writer's points its
+    /// position over all views, which is how many were written before it.
     pub place: u64,
 }
 
@@ -31,17 +32,6 @@ impl Spot {
         self.number = self.number.saturating_add(1);
         if passed {
             self.place = self.place.saturating_add(1);
-        }
-    }
-
-    /// Behind so many points, of which so many passed.
-    pub fn past(self, points: usize, passed: usize) -> Spot
-        ensures past { result ≡ spot_past points passed self }
-        ensures within { IsWithin self }
-    {
-        Spot {
-            number: self.number.saturating_add(points as u64),
-            place: self.place.saturating_add(passed as u64),
         }
     }
 

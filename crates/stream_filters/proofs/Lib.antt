@@ -1,4 +1,3 @@
 pub mod Moving
 pub mod Judging
 pub mod Places
-pub mod Nothing

@@ -9,5 +9,5 @@ mod written;
 
 pub use filter::Filter;
 pub use point_filter::PointFilter;
-pub use rules::{Condition, Crop, Decimation, Head, PassOn, PointRule};
+pub use rules::{Condition, Crop, Decimation, Head, PointRule};
 pub use written::Written;

@@ -161,20 +161,6 @@ impl PointRule for Condition {
     }
 }
 
-/// Each point goes on as it is.
-#[derive(Clone, Copy, Debug)]
-pub struct PassOn;
-
-impl PointRule for PassOn {
-    ghost use Rattle.stage_meanings.specs.Rules.{passing};
-
-    ghost rule = { λ r. passing };
-
-    fn judge(&self, _place: u64, _p: &mut Point) -> Result<bool, Reason> {
-        Ok(true)
-    }
-}
-
 /// Whether the point passes a `where`; where there is none, each does.
 pub(crate) fn passes(only: &Option<Bound>, p: &Point) -> Result<bool, Reason>
     ensures { result ≡ passes only.now p.now }

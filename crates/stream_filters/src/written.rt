@@ -1,23 +1,18 @@
 //! A writer's `where`.
 
-ghost use Rattle.std.specs.Prelude.{◌≡◌, ◌≤◌, ◌<◌, ◌+◌, ◌++◌, [], length, filter, false, None, IfNone, IfSome};
+ghost use Rattle.std.specs.Prelude.{◌≡◌, ◌≤◌, ◌<◌, ◌+◌, ◌++◌, [], length, filter, IfNone, IfSome};
 ghost use Rattle.std.specs.List.{cons_option};
 ghost use Rattle.std.specs.Option.{option_map};
 ghost use Rattle.arrayvec.specs.ArrayVec.{array_vec_len};
-ghost use Rattle.cloud_points.specs.Events.{is_device};
+ghost use Rattle.cloud_points.specs.Queue.{up_to_limit};
 ghost use Rattle.stage_meanings.specs.Conditions.{passes};
-ghost use Rattle.stage_meanings.specs.Filters.{keeps, is_true};
-ghost use Rattle.stage_meanings.specs.Rules.{passing};
-ghost use Rattle.stage_meanings.specs.ByRule.{steps_of, spot_at, spot_anew};
-ghost use Rattle.stage_meanings.specs.Steps.{given, reached, stopped};
+ghost use Rattle.stage_meanings.specs.Filters.{keeps, is_true, first_unjudged, points_before};
 ghost use Rattle.stage_meanings.specs.Places.{IsPlaceOf};
 
-use crate::PassOn;
-use crate::judge::judge_each;
 use crate::rules::passes;
-use cloud_points::{Point, Spread, StageFault};
+use cloud_points::{Point, Spread};
 use expr_eval::Bound;
-use stage_meanings::Spot;
+use stage_meanings::Reason;
 
 /// Whether a `where` has a value for the point, and holds.
 fn is_written(only: &Option<Bound>, p: &Point) -> bool
@@ -37,22 +32,19 @@ fn put_if(into: &mut Spread, written: bool, p: Point)
     }
 }
 
-/// A writer's `where`: all points go on, up to the first at which it has no value, and those for which it holds are written.
+/// A writer's `where`, and how many points stood before the next one. The points for which it holds are written.
 #[derive(Drop)]
 pub struct Written {
     only: Option<Bound>,
-    spot: Spot,
+    number: u64,
 }
 
 impl Written {
     /// By this `where`, or all points where there is none.
     pub fn new(only: Option<Bound>) -> Self
-        ensures { result ≡ record { only = only; spot = spot_at 0 } }
+        ensures { result ≡ record { only = only; number = 0 } }
     {
-        Written {
-            only,
-            spot: Spot::first(),
-        }
+        Written { only, number: 0 }
     }
 
     /// The `where`.
@@ -62,34 +54,24 @@ impl Written {
         self.only.as_ref()
     }
 
-    /// Puts those of at most 64 points that are written, for which the `where` holds, in place of what `written` held.
+    /// The place of the first of at most 64 points at which the `where` has no value, and why it has none. Those before it for which
+    /// it holds come in place of what `chosen` held.
     ///
     /// Without a `where` these are all points, so that a writer need not ask for them.
-    pub fn select(&self, points: &[Point], written: &mut Spread)
+    pub fn choose(&self, points: &[Point], chosen: &mut Spread) -> Option<(usize, Reason)>
         requires { length points.now ≤ 64 }
-        ensures { written.new.items ≡ filter (λ p. is_true (passes self.now.only p)) points.now }
+        ensures stop { result ≡ first_unjudged (passes self.now.only) 0 points.now }
+        ensures chosen { chosen.new.items
+            ≡ filter (λ p. is_true (passes self.now.only p)) (points_before result points.now) }
     {
-        written.clear();
-        for p in points {
-            put_if(written, is_written(&self.only, p), *p);
+        chosen.clear();
+        for (at, p) in points.iter().enumerate() {
+            match passes(&self.only, p) {
+                Ok(written) => put_if(chosen, written, *p),
+                Err(why) => return Some((at, why)),
+            }
         }
-    }
-
-    /// Ends the points before the first at which the `where` has no value, and answers its fault.
-    pub fn judge(&mut self, points: &mut Spread) -> Option<StageFault>
-        ensures point { is_device result ≡ false }
-        ensures only { self.new.only ≡ self.old.only }
-        ensures gives { points.new.items ≡ given (steps_of passing (passes self.old.only)) self.old.spot points.old.items }
-        ensures reaches { self.new.spot ≡ reached (steps_of passing (passes self.old.only)) self.old.spot points.old.items }
-        ensures stops { result ≡ stopped (steps_of passing (passes self.old.only)) self.old.spot points.old.items }
-    {
-        if self.only.is_none() {
-            self.spot = self.spot.past(points.len(), points.len());
-            return None;
-        }
-        let (kept, fault) = judge_each(&PassOn, &self.only, &mut self.spot, points.as_mut_slice());
-        points.truncate(kept);
-        fault
+        None
     }
 
     /// The place of the point that is written after k others, where so many are written.
@@ -111,15 +93,15 @@ impl Written {
 
     /// The number of the next point.
     pub fn number(&self) -> u64
-        ensures { result ≡ self.now.spot.number }
+        ensures { result ≡ self.now.number }
     {
-        self.spot.number
+        self.number
     }
 
-    /// Goes on with the next view.
-    pub fn begin_view(&mut self)
-        ensures { self.new ≡ record self.old { spot = spot_anew self.old.spot } }
+    /// Goes on behind so many points; the number stands at the greatest u64.
+    pub fn go_on(&mut self, points: usize)
+        ensures { self.new ≡ record self.old { number = up_to_limit (self.old.number + points) } }
     {
-        self.spot.begin_view();
+        self.number = self.number.saturating_add(points as u64);
     }
 }

@@ -20,3 +20,7 @@ returns-in-NotHeld-clause-bytes c =
 pub returns-in-DivideByZero-clause-bytes : goal.returns-in-DivideByZero-clause-bytes
 returns-in-DivideByZero-clause-bytes c =
     rw c.in-DivideByZero.is (two_pieces c.args.text.now.bytes c.push_point-in-DivideByZero.new.text.bytes c.push_str-in-DivideByZero.new.self.bytes (point_text c.in-DivideByZero.number) (codes "division by zero") c.push_point-in-DivideByZero.ensures.bytes c.push_str-in-DivideByZero.ensures.bytes)
+
+pub returns-in-TooMany-clause-bytes : goal.returns-in-TooMany-clause-bytes
+returns-in-TooMany-clause-bytes c =
+    rw c.in-TooMany.is (two_pieces c.args.text.now.bytes c.push_point-in-TooMany.new.text.bytes c.push_str-in-TooMany.new.self.bytes (point_text c.in-TooMany.number) (codes "more than 4294967295 points") c.push_point-in-TooMany.ensures.bytes c.push_str-in-TooMany.ensures.bytes)
