@@ -337,7 +337,42 @@ const LAS_VALUES: &[(&str, &str)] = &[
     (r#""dataformat_id":"6""#, "write o"),
     (r#""dataformat_id":4"#, "wrong 1 dataformat_id"),
     (r#""minor_version":4"#, "write o"),
-    (r#""minor_version":3"#, "wrong 1 minor_version"),
+    (r#""minor_version":3"#, "write o"),
+    (r#""minor_version":2"#, "write o"),
+    (r#""minor_version":"3""#, "write o"),
+    (r#""minor_version":5"#, "wrong 1 minor_version"),
+    (r#""minor_version":1"#, "wrong 1 minor_version"),
+    (r#""minor_version":"1""#, "wrong 1 minor_version"),
+    (r#""minor_version":2,"dataformat_id":3"#, "write o"),
+    (
+        r#""minor_version":2,"dataformat_id":6"#,
+        "wrong 1 minor_version",
+    ),
+    (
+        r#""minor_version":2,"dataformat_id":7"#,
+        "wrong 1 minor_version",
+    ),
+    (
+        r#""dataformat_id":"8","minor_version":"2""#,
+        "wrong 1 minor_version",
+    ),
+    (
+        r#""minor_version":3,"dataformat_id":6"#,
+        "wrong 1 minor_version",
+    ),
+    (r#""minor_version":4,"dataformat_id":6"#, "write o"),
+    (
+        r#""minor_version":2,"dataformat_id":9"#,
+        "wrong 1 dataformat_id",
+    ),
+    (
+        r#""minor_version":1,"dataformat_id":6"#,
+        "wrong 1 minor_version",
+    ),
+    (
+        r#""minor_version":2,"dataformat_id":6,"scale_x":"2""#,
+        "wrong 1 minor_version",
+    ),
     (r#""scale_x":"0.000000001","scale_z":1"#, "write o"),
     (r#""scale_x":0.01"#, "wrong 1 scale_x"),
     (r#""scale_y":"0""#, "wrong 1 scale_y"),

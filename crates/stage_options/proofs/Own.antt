@@ -1,5 +1,5 @@
 -- Typed stages have the options of their types.
-use Rattle.std.proofs.Common.{ℕ, zero, suc, ◌≡◌, List, [], ◌∷◌, Option, unwrap_or, refl, ap, sym, subst}
+use Rattle.std.proofs.Common.{ℕ, zero, suc, ◌≡◌, List, [], ◌∷◌, Option, unwrap_or, refl, ap, subst}
 use Rattle.std.proofs.lemmas.Option.{none-some}
 use Rattle.serde_json.specs.Data.{Members}
 use Rattle.stage_names.specs.declared.kinds.KindName.{KindName}

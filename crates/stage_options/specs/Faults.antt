@@ -11,7 +11,7 @@ use Rattle.stage_names.specs.declared.faults.PipeFault.{PipeFault}
 use Rattle.stage_names.specs.declared.faults.PipeFault.TheVariants.{OptionUnknown, OptionMissing, OptionValue}
 use Rattle.stage_names.specs.declared.faults.PipeErr.{PipeErr}
 use Rattle.stage_names.specs.declared.faults.PipeErr.TheVariants.{Fault, Memory}
-use Rattle.stage_options.specs.Rules.{Allowed, Presence, always, at_will, one_of, along_with, Rule, rules_of, fits}
+use Rattle.stage_options.specs.Rules.{Allowed, Presence, always, one_of, along_with, apart_from, Rule, rules_of, fits}
 
 -- the value of an option. The file name stands beside the other members
 abbrev pub value_of : List ℕ → Option (List ℕ) → Members → Option Data
@@ -51,9 +51,9 @@ stands filename ms name = is_some (value_of name filename ms)
 -- of several the first is told
 abbrev pub is_missing : Presence → List ℕ → Option (List ℕ) → Members → Bool
 is_missing always name filename ms = not (stands filename ms name)
-is_missing at_will name filename ms = false
 is_missing (one_of before behind) name filename ms = is_empty before && not (stands filename ms name || list_any (stands filename ms) behind)
 is_missing (along_with other) name filename ms = stands filename ms other && not (stands filename ms name)
+is_missing _ name filename ms = false
 
 abbrev pub first_missing : List Rule → Option (List ℕ) → Members → Option (List ℕ)
 first_missing [] filename ms = None
@@ -61,12 +61,17 @@ first_missing (r ∷ rs) filename ms = if is_missing r.presence r.name filename 
 
 -- ---- the first one whose value isn't one, or that may not be there
 
+-- whether an option is there with a value of this kind
+abbrev pub holds_one : Allowed → Option Data → Bool
+holds_one allowed None = false
+holds_one allowed (Some d) = fits allowed d
+
 -- of several that stand the last is told
 abbrev pub is_barred : Presence → List ℕ → Option (List ℕ) → Members → Bool
-is_barred always name filename ms = false
-is_barred at_will name filename ms = false
 is_barred (one_of before behind) name filename ms = stands filename ms name && list_any (stands filename ms) before && not (list_any (stands filename ms) behind)
 is_barred (along_with other) name filename ms = stands filename ms name && not (stands filename ms other)
+is_barred (apart_from these other those) name filename ms = holds_one these (value_of name filename ms) && holds_one those (value_of other filename ms)
+is_barred _ name filename ms = false
 
 abbrev pub is_wrong : Allowed → Option Data → Bool
 is_wrong allowed None = false

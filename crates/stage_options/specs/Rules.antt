@@ -40,6 +40,7 @@ pub data Presence : Type 0 where
   at_will : Presence  -- it may be there
   one_of : List (List ℕ) → List (List ℕ) → Presence  -- just one of several has to be there: of those before it, itself, and those behind it
   along_with : List ℕ → Presence  -- it has to be there where this one is, and may not be there else
+  apart_from : Allowed → List ℕ → Allowed → Presence  -- it may be there, but not with a value of the first kind where this one has one of the second
 
 pub record Rule : Type 0 where
   pub name : List ℕ
@@ -53,12 +54,15 @@ required name allowed = record { name = name; presence = always; allowed = allow
 abbrev pub optional : List ℕ → Allowed → Rule
 optional name allowed = record { name = name; presence = at_will; allowed = allowed }
 
--- one of which just one has to be there, and one that goes with another
+-- one of which just one has to be there, one that goes with another, and one some of whose values don't go with some of another
 abbrev pub either : List ℕ → Allowed → List (List ℕ) → List (List ℕ) → Rule
 either name allowed before behind = record { name = name; presence = one_of before behind; allowed = allowed }
 
 abbrev pub going_with : List ℕ → Allowed → List ℕ → Rule
 going_with name allowed other = record { name = name; presence = along_with other; allowed = allowed }
+
+abbrev pub kept_apart : List ℕ → Allowed → Allowed → List ℕ → Allowed → Rule
+kept_apart name allowed these other those = record { name = name; presence = apart_from these other those; allowed = allowed }
 
 -- a scale factor, from 10 ^ -9 to 1; an offset, below 10 ^ 9 in size; a field of 16 bits
 abbrev pub scale : Allowed
@@ -132,7 +136,7 @@ rules_of FiltersGroupby =
 rules_of WritersLas =
     (required (codes "filename") target
     ∷ optional (codes "dataformat_id") format
-    ∷ optional (codes "minor_version") (whole 4 4)
+    ∷ kept_apart (codes "minor_version") (whole 2 4) (whole 2 3) (codes "dataformat_id") (whole 6 8)
     ∷ optional (codes "scale_x") scale
     ∷ optional (codes "scale_y") scale
     ∷ optional (codes "scale_z") scale

@@ -5,7 +5,7 @@ use Rattle.serde_json.specs.View.{view}
 use Rattle.stage_options.specs.declared.rules.Allowed.{Allowed}
 use Rattle.stage_options.specs.declared.rules.Allowed.TheVariants as allowed
 use Rattle.stage_options.specs.declared.rules.Rule.{Rule}
-use Rattle.stage_options.specs.declared.rules.Rule.TheVariants.{Required, Optional, OneOf, AlongWith}
+use Rattle.stage_options.specs.declared.rules.Rule.TheVariants.{Required, Optional, OneOf, AlongWith, Apart}
 use Rattle.stage_options.specs.declared.values.Given.{Given}
 use Rattle.stage_options.specs.declared.values.Given.TheVariants.{Name, Json}
 use Rattle.stage_options.specs.declared.role.Role.{Role}
@@ -39,6 +39,7 @@ rule_view (Required name allowed) = rules.required name.now (allowed_view allowe
 rule_view (Optional name allowed) = rules.optional name.now (allowed_view allowed)
 rule_view (OneOf name allowed before behind) = rules.either name.now (allowed_view allowed) (map (λ s. s.now) before.now) (map (λ s. s.now) behind.now)
 rule_view (AlongWith name allowed other) = rules.going_with name.now (allowed_view allowed) other.now
+rule_view (Apart name allowed these other those) = rules.kept_apart name.now (allowed_view allowed) (allowed_view these) other.now (allowed_view those)
 
 abbrev pub rules_view : List Rule → List rules.Rule
 rules_view rs = map rule_view rs

@@ -5,6 +5,8 @@ use Rattle.serde_json.specs.Data.{Data, Members}
 use Rattle.serde_json.specs.Find.{as_str, get_member}
 use Rattle.decimal_coords.specs.declared.grid.Scale.{Scale}
 use Rattle.las_header.specs.ScaleWords.{scale_of_nano}
+use Rattle.las_header.specs.Versions.{takes_format}
+use Rattle.las_header.specs.declared.form.Format.{Format}
 use Rattle.forward_rules.specs.declared.options.LasOpts.{LasOpts}
 use Rattle.expr_lang.specs.Formula.{Formula, number}
 use Rattle.expr_lang.specs.declared.expr.Assign.{Assign}
@@ -108,11 +110,24 @@ columns_in ms = unwrap_or (columns_of (unwrap_or (option_in as_str (codes "order
 abbrev pub forward_in : Members → List (List ℕ)
 forward_in ms = unwrap_or (option_and_then forward_of (option_in as_str (codes "forward") ms)) []
 
+-- the point data record format that is given
+abbrev pub format_in : Members → Option Format
+format_in ms = option_in format_with (codes "dataformat_id") ms
+
+-- whether files of a version have points of the format, where one is given
+abbrev pub takes_given : Option Format → ℕ → Bool
+takes_given None minor = true
+takes_given (Some format) minor = takes_format minor format
+
+-- the minor version whose files have points of the format that is given
+abbrev pub minor_in : Members → Option ℕ
+minor_in ms = option_and_then (where_it (takes_given (format_in ms))) (whole_in 2 4 (codes "minor_version") ms)
+
 -- what a LAS writer is told of its file
 abbrev pub las_fields_in : Members → LasOpts
 las_fields_in ms = record {
-  format = option_in format_with (codes "dataformat_id") ms;
-  minor = whole_in 4 4 (codes "minor_version") ms;
+  format = format_in ms;
+  minor = minor_in ms;
   scale = scale_in (codes "scale_x") ms ∷ scale_in (codes "scale_y") ms ∷ scale_in (codes "scale_z") ms ∷ [];
   offset = offset_in (codes "offset_x") ms ∷ offset_in (codes "offset_y") ms ∷ offset_in (codes "offset_z") ms ∷ [];
   forward = forward_in ms;

@@ -75,8 +75,8 @@ impl Delimiter {
     }
 }
 
-/// What a LAS writer is told of its file, which contracts see as `LasOpts`: a version is 1.4,
-/// offsets are below 10^9 in size, and identifiers have at most 32 bytes.
+/// What a LAS writer is told of its file, which contracts see as `LasOpts`: a version is 1.2, 1.3 or 1.4 and its files have points of
+/// the format, offsets are below 10^9 in size, and identifiers have at most 32 bytes.
 #[derive(Drop)]
 pub struct LasFields {
     fields: LasOpts,

@@ -4,11 +4,13 @@ ghost use Rattle.std.specs.Prelude.{◌≡◌, ◌≤◌, codes, length, option_
 ghost use Rattle.std.specs.Option.{unwrap_or};
 ghost use Rattle.serde_json.specs.Find.{as_str, get_member};
 ghost use Rattle.serde_json.specs.View.{members_view};
+ghost use Rattle.forward_rules.specs.Forwarded.{given_or};
 ghost use Rattle.las_header.specs.Offsets.{IsOffset};
 ghost use Rattle.las_header.specs.ScaleWords.{scale_of_nano};
+ghost use Rattle.las_header.specs.Versions.{is_version, takes_format};
 ghost use Rattle.stage_options.specs.Expressions.{condition_with};
 ghost use Rattle.stage_options.specs.Seen.{given_view};
-ghost use Rattle.stage_options.specs.Typed.{option_in, whole_in, text_in, scale_in, offset_in, columns_in, forward_in, las_fields_in, text_options_in, where_in, expression_in, assignments_in, ranges_in, box_in, ring_in, disc_in, shape_in, ferries_in, groups_in, name_in, is_down};
+ghost use Rattle.stage_options.specs.Typed.{option_in, whole_in, text_in, scale_in, offset_in, columns_in, forward_in, format_in, takes_given, minor_in, las_fields_in, text_options_in, where_in, expression_in, assignments_in, ranges_in, box_in, ring_in, disc_in, shape_in, ferries_in, groups_in, name_in, is_down};
 ghost use Rattle.stage_options.specs.Values.{whole_of, format_with, decimal_of, truth_of};
 
 use crate::assignments::AssignList;
@@ -22,7 +24,7 @@ use expr_lang::{Expr, ExprTree};
 use file_devices::Name;
 use forward_rules::{LasOpts, NameList};
 use geo_tests::{Area, Disc, Shape};
-use las_header::Format;
+use las_header::{Format, takes_format};
 use limits_text::{Polygon, RangeList};
 use option_texts::{Groups, NamedColumns, NamedFerries, columns_of, forward_of, groups_of};
 use pipeline_json::member;
@@ -62,6 +64,7 @@ pub(crate) fn whole_or(options: &Map<String, Value>, name: &str, default: u32) -
 /// The whole number of this range that an option is.
 fn whole_in(options: &Map<String, Value>, low: u32, high: u32, name: &str) -> Option<u32>
     ensures value { result ≡ whole_in low high name.now (members_view options.now.entries) }
+    ensures low { IfSome result (λ n. low ≤ n) }
     ensures high { IfSome result (λ n. n ≤ high) }
 {
     let whole = given(options, name)?.whole()?;
@@ -82,22 +85,36 @@ fn short_in(options: &Map<String, Value>, name: &str) -> Option<u16>
     }
 }
 
-/// The minor version that is given.
-fn minor_in(options: &Map<String, Value>) -> Option<u8>
-    ensures value { result ≡ whole_in 4 4 (codes "minor_version") (members_view options.now.entries) }
-    ensures four { IfSome result (λ minor. minor ≡ 4) }
+/// The point data record format that is given.
+fn format_in(options: &Map<String, Value>) -> Option<Format>
+    ensures { result ≡ format_in (members_view options.now.entries) }
 {
-    match whole_in(options, 4, 4, "minor_version") {
-        Some(_) => Some(4),
-        None => None,
+    given(options, "dataformat_id")?.format()
+}
+
+/// Whether files of a version have points of the format, where one is given.
+fn takes_given(format: Option<Format>, minor: u8) -> bool
+    ensures { result ≡ takes_given format minor }
+{
+    match format {
+        Some(format) => takes_format(minor, format),
+        None => true,
     }
 }
 
-/// The point data record format that is given.
-fn format_in(options: &Map<String, Value>) -> Option<Format>
-    ensures { result ≡ option_in format_with (codes "dataformat_id") (members_view options.now.entries) }
+/// The minor version whose files have points of the format that is given.
+fn minor_in(options: &Map<String, Value>, format: Option<Format>) -> Option<u8>
+    requires { format ≡ format_in (members_view options.now.entries) }
+    ensures value { result ≡ minor_in (members_view options.now.entries) }
+    ensures version { is_version (given_or result 4) ≡ true }
+    ensures takes { IfSome format (λ f. takes_format (given_or result 4) f ≡ true) }
 {
-    given(options, "dataformat_id")?.format()
+    let minor = whole_in(options, 2, 4, "minor_version")? as u8;
+    if takes_given(format, minor) {
+        Some(minor)
+    } else {
+        None
+    }
 }
 
 /// The decimal that an option is, in nanounits.
@@ -203,12 +220,13 @@ pub(crate) fn las_fields(
 ) -> Result<LasFields, AllocError>
     ensures { IfOk result (λ fields. fields ≡ las_fields_in (members_view options.now.entries)) }
 {
+    let format = format_in(options);
     let forward = forward_in(alloc, options)?;
     let system = identifier_in(alloc, options, "system_id")?;
     let software = identifier_in(alloc, options, "software_id")?;
     Ok(LasFields::new(LasOpts {
-        format: format_in(options),
-        minor: minor_in(options),
+        format,
+        minor: minor_in(options, format),
         scale: [
             scale_in(options, "scale_x"),
             scale_in(options, "scale_y"),

@@ -81,6 +81,9 @@ pub(crate) enum Rule {
 
     /// It has to be there where the other one is, and may not be there else.
     AlongWith(&'static str, Allowed, &'static str),
+
+    /// It may be there, but not with a value of the second kind where the other one has one of the third.
+    Apart(&'static str, Allowed, Allowed, &'static str, Allowed),
 }
 
 impl Rule {
@@ -92,7 +95,8 @@ impl Rule {
             Rule::Required(name, _)
             | Rule::Optional(name, _)
             | Rule::OneOf(name, _, _, _)
-            | Rule::AlongWith(name, _, _) => name,
+            | Rule::AlongWith(name, _, _)
+            | Rule::Apart(name, _, _, _, _) => name,
         }
     }
 
@@ -104,7 +108,8 @@ impl Rule {
             Rule::Required(_, allowed)
             | Rule::Optional(_, allowed)
             | Rule::OneOf(_, allowed, _, _)
-            | Rule::AlongWith(_, allowed, _) => *allowed,
+            | Rule::AlongWith(_, allowed, _)
+            | Rule::Apart(_, allowed, _, _, _) => *allowed,
         }
     }
 }
@@ -183,7 +188,13 @@ const FILTERS_GROUPBY: &[Rule] = &[Rule::Required("dimension", Allowed::Text)];
 const WRITERS_LAS: &[Rule] = &[
     Rule::Required("filename", Allowed::Target),
     Rule::Optional("dataformat_id", Allowed::Format),
-    Rule::Optional("minor_version", Allowed::Whole(4, 4)),
+    Rule::Apart(
+        "minor_version",
+        Allowed::Whole(2, 4),
+        Allowed::Whole(2, 3),
+        "dataformat_id",
+        Allowed::Whole(6, 8),
+    ),
     Rule::Optional("scale_x", SCALE),
     Rule::Optional("scale_y", SCALE),
     Rule::Optional("scale_z", SCALE),

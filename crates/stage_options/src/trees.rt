@@ -38,13 +38,16 @@ fn type_stage(alloc: Global, raw: &RawStage, i: u32) -> Result<StageSpec, PipeEr
         Some(name) => Some(name.as_str()),
         None => None,
     };
-    let options = type_options(alloc, raw.kind, filename, &raw.options, i)?;
+    // No way out of here drops typed options: what a drop of them may do weighs more in a proof than all the rest.
     let ins = copied(alloc, &raw.ins)?;
-    Ok(StageSpec {
-        kind: raw.kind,
-        ins,
-        options,
-    })
+    match type_options(alloc, raw.kind, filename, &raw.options, i) {
+        Ok(options) => Ok(StageSpec {
+            kind: raw.kind,
+            ins,
+            options,
+        }),
+        Err(err) => Err(err),
+    }
 }
 
 /// The typed stages, or the first fault of their options.
@@ -54,11 +57,11 @@ fn type_stages(alloc: Global, list: &[RawStage]) -> Result<Vec<StageSpec>, PipeE
     ensures ok { IfOk result (λ specs. specs.items ≡ specs_of (stages_view list.now)) }
     ensures fault { IfErr result (IsFaultOf (options_fault 0 (stages_view list.now))) }
 {
-    let mut specs = Vec::new(alloc);
+    let mut specs = Vec::with_capacity(alloc, list.len())?;
     for (i, raw) in list.iter().enumerate() {
-        let spec = type_stage(alloc, raw, i as u32)?;
-        if specs.push(spec).is_err() {
-            return Err(PipeErr::Memory);
+        match type_stage(alloc, raw, i as u32) {
+            Ok(spec) => specs.push_reserved(spec),
+            Err(err) => return Err(err),
         }
     }
     Ok(specs)

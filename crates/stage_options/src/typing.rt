@@ -3,9 +3,10 @@
 ghost use Rattle.std.specs.Prelude.{◌≡◌, [], option_map, None, IfOk, IfErr, OnOk, IsTrue};
 ghost use Rattle.std.specs.Option.{unwrap_or};
 ghost use Rattle.serde_json.specs.View.{members_view};
-ghost use Rattle.stage_options.specs.Typed.{typed_of, is_named, range_options, crop_options, assign_options, ferry_options, expression_options, decimation_options, head_options, returns_options, sort_options, tail_options, groupby_options, las_writer_options};
+ghost use Rattle.stage_options.specs.Typed.{typed_of, is_named, range_options, crop_options, assign_options, ferry_options, expression_options, decimation_options, head_options, returns_options, sort_options, tail_options, groupby_options, las_writer_options, text_options_in};
 ghost use Rattle.stage_options.specs.Faults.{first_fault, IsFaultOf};
 ghost use Rattle.stage_options.specs.Values.{is_source, is_target};
+ghost use Rattle.stage_options.specs.declared.options.Options.TheVariants as typed_as;
 
 use crate::members::{
     assignments_in, expression_in, ferries_in, groups_in, is_down, las_fields, name_in, number_in,
@@ -41,126 +42,140 @@ fn target_name(alloc: Global, filename: Option<&str>) -> Result<TargetName, Allo
     Ok(TargetName::new(name))
 }
 
-fn filters_range(alloc: Global, options: &Map<String, Value>) -> Result<RangeOptions, AllocError>
-    ensures { IfOk result (λ o. o ≡ range_options (members_view options.now.entries)) }
+fn filters_range(alloc: Global, options: &Map<String, Value>) -> Result<Options, AllocError>
+    ensures { IfOk result (λ o. o ≡ typed_as.FiltersRange (range_options (members_view options.now.entries))) }
 {
     let limits = ranges_in(alloc, options)?;
     let only = where_in(alloc, options)?;
-    Ok(RangeOptions { limits, only })
+    Ok(Options::FiltersRange(RangeOptions { limits, only }))
 }
 
-fn filters_crop(alloc: Global, options: &Map<String, Value>) -> Result<CropOptions, AllocError>
-    ensures { IfOk result (λ o. o ≡ crop_options (members_view options.now.entries)) }
+fn filters_crop(alloc: Global, options: &Map<String, Value>) -> Result<Options, AllocError>
+    ensures { IfOk result (λ o. o ≡ typed_as.FiltersCrop (crop_options (members_view options.now.entries))) }
 {
     let shape = shape_in(alloc, options)?;
     let outside = truth_or(options, "outside", false);
     let only = where_in(alloc, options)?;
-    Ok(CropOptions {
+    Ok(Options::FiltersCrop(CropOptions {
         shape,
         outside,
         only,
-    })
+    }))
 }
 
-fn filters_assign(alloc: Global, options: &Map<String, Value>) -> Result<AssignOptions, AllocError>
-    ensures { IfOk result (λ o. o ≡ assign_options (members_view options.now.entries)) }
+fn filters_assign(alloc: Global, options: &Map<String, Value>) -> Result<Options, AllocError>
+    ensures { IfOk result (λ o. o ≡ typed_as.FiltersAssign (assign_options (members_view options.now.entries))) }
 {
     let assignments = assignments_in(alloc, options)?;
     let only = where_in(alloc, options)?;
-    Ok(AssignOptions { assignments, only })
+    Ok(Options::FiltersAssign(AssignOptions { assignments, only }))
 }
 
-fn filters_ferry(alloc: Global, options: &Map<String, Value>) -> Result<FerryOptions, AllocError>
-    ensures { IfOk result (λ o. o ≡ ferry_options (members_view options.now.entries)) }
+fn filters_ferry(alloc: Global, options: &Map<String, Value>) -> Result<Options, AllocError>
+    ensures { IfOk result (λ o. o ≡ typed_as.FiltersFerry (ferry_options (members_view options.now.entries))) }
 {
     let ferries = ferries_in(alloc, options)?;
     let only = where_in(alloc, options)?;
-    Ok(FerryOptions { ferries, only })
+    Ok(Options::FiltersFerry(FerryOptions { ferries, only }))
 }
 
-fn filters_expression(
-    alloc: Global,
-    options: &Map<String, Value>,
-) -> Result<ExpressionOptions, AllocError>
-    ensures { IfOk result (λ o. o ≡ expression_options (members_view options.now.entries)) }
+fn filters_expression(alloc: Global, options: &Map<String, Value>) -> Result<Options, AllocError>
+    ensures { IfOk result (λ o. o ≡ typed_as.FiltersExpression (expression_options (members_view options.now.entries))) }
 {
     let expression = expression_in(alloc, options)?;
     let only = where_in(alloc, options)?;
-    Ok(ExpressionOptions { expression, only })
+    Ok(Options::FiltersExpression(ExpressionOptions { expression, only }))
 }
 
-fn filters_decimation(
-    alloc: Global,
-    options: &Map<String, Value>,
-) -> Result<DecimationOptions, AllocError>
-    ensures { IfOk result (λ o. o ≡ decimation_options (members_view options.now.entries)) }
+fn filters_decimation(alloc: Global, options: &Map<String, Value>) -> Result<Options, AllocError>
+    ensures { IfOk result (λ o. o ≡ typed_as.FiltersDecimation (decimation_options (members_view options.now.entries))) }
 {
-    Ok(DecimationOptions {
+    let only = where_in(alloc, options)?;
+    Ok(Options::FiltersDecimation(DecimationOptions {
         step: whole_or(options, "step", 1),
         offset: whole_or(options, "offset", 0),
         limit: number_in(options, "limit"),
-        only: where_in(alloc, options)?,
-    })
+        only,
+    }))
 }
 
-fn filters_head(alloc: Global, options: &Map<String, Value>) -> Result<HeadOptions, AllocError>
-    ensures { IfOk result (λ o. o ≡ head_options (members_view options.now.entries)) }
+fn filters_head(alloc: Global, options: &Map<String, Value>) -> Result<Options, AllocError>
+    ensures { IfOk result (λ o. o ≡ typed_as.FiltersHead (head_options (members_view options.now.entries))) }
 {
     let count = whole_or(options, "count", 10);
     let only = where_in(alloc, options)?;
-    Ok(HeadOptions { count, only })
+    Ok(Options::FiltersHead(HeadOptions { count, only }))
 }
 
-fn filters_returns(
-    alloc: Global,
-    options: &Map<String, Value>,
-) -> Result<ReturnsOptions, AllocError>
-    ensures { IfOk result (λ o. o ≡ returns_options (members_view options.now.entries)) }
+fn filters_returns(alloc: Global, options: &Map<String, Value>) -> Result<Options, AllocError>
+    ensures { IfOk result (λ o. o ≡ typed_as.FiltersReturns (returns_options (members_view options.now.entries))) }
 {
     let groups = groups_in(options);
     let only = where_in(alloc, options)?;
-    Ok(ReturnsOptions { groups, only })
+    Ok(Options::FiltersReturns(ReturnsOptions { groups, only }))
 }
 
-fn filters_sort(alloc: Global, options: &Map<String, Value>) -> Result<SortOptions, AllocError>
-    ensures { IfOk result (λ o. o ≡ sort_options (members_view options.now.entries)) }
+fn filters_sort(alloc: Global, options: &Map<String, Value>) -> Result<Options, AllocError>
+    ensures { IfOk result (λ o. o ≡ typed_as.FiltersSort (sort_options (members_view options.now.entries))) }
 {
     let dimension = name_in(alloc, options, "dimension")?;
     let down = is_down(options);
-    Ok(SortOptions { dimension, down })
+    Ok(Options::FiltersSort(SortOptions { dimension, down }))
 }
 
-fn filters_tail(options: &Map<String, Value>) -> TailOptions
-    ensures { result ≡ tail_options (members_view options.now.entries) }
+fn filters_tail(options: &Map<String, Value>) -> Options
+    ensures { result ≡ typed_as.FiltersTail (tail_options (members_view options.now.entries)) }
 {
     let count = whole_or(options, "count", 10);
-    TailOptions { count }
+    Options::FiltersTail(TailOptions { count })
 }
 
-fn filters_groupby(
-    alloc: Global,
-    options: &Map<String, Value>,
-) -> Result<GroupbyOptions, AllocError>
-    ensures { IfOk result (λ o. o ≡ groupby_options (members_view options.now.entries)) }
+fn filters_groupby(alloc: Global, options: &Map<String, Value>) -> Result<Options, AllocError>
+    ensures { IfOk result (λ o. o ≡ typed_as.FiltersGroupby (groupby_options (members_view options.now.entries))) }
 {
     let dimension = name_in(alloc, options, "dimension")?;
-    Ok(GroupbyOptions { dimension })
+    Ok(Options::FiltersGroupby(GroupbyOptions { dimension }))
+}
+
+fn readers_las(alloc: Global, filename: Option<&str>) -> Result<Options, AllocError>
+    requires { IsTrue (is_source (unwrap_or (option_map (λ s. s.now) filename) [])) }
+    ensures { IfOk result (λ o. o
+        ≡ typed_as.ReadersLas (record { filename = unwrap_or (option_map (λ s. s.now) filename.entry) [] })) }
+{
+    let filename = source_name(alloc, filename)?;
+    Ok(Options::ReadersLas(LasReaderOptions { filename }))
 }
 
 fn writers_las(
     alloc: Global,
-    filename: TargetName,
+    filename: Option<&str>,
     options: &Map<String, Value>,
-) -> Result<LasWriterOptions, AllocError>
-    ensures { IfOk result (λ o. o ≡ las_writer_options filename (members_view options.now.entries)) }
+) -> Result<Options, AllocError>
+    requires { IsTrue (is_target (unwrap_or (option_map (λ s. s.now) filename) [])) }
+    ensures { IfOk result (λ o. o ≡ typed_as.WritersLas
+        (las_writer_options (unwrap_or (option_map (λ s. s.now) filename.entry) []) (members_view options.now.entries))) }
 {
+    let filename = target_name(alloc, filename)?;
     let fields = las_fields(alloc, options)?;
     let only = where_in(alloc, options)?;
-    Ok(LasWriterOptions {
+    Ok(Options::WritersLas(LasWriterOptions {
         filename,
         fields,
         only,
-    })
+    }))
+}
+
+fn writers_text(
+    alloc: Global,
+    filename: Option<&str>,
+    options: &Map<String, Value>,
+) -> Result<Options, AllocError>
+    requires { IsTrue (is_target (unwrap_or (option_map (λ s. s.now) filename) [])) }
+    ensures { IfOk result (λ o. o ≡ typed_as.WritersText
+        (text_options_in (unwrap_or (option_map (λ s. s.now) filename.entry) []) (members_view options.now.entries))) }
+{
+    let filename = target_name(alloc, filename)?;
+    Ok(Options::WritersText(text_options(alloc, filename, options)?))
 }
 
 /// The options of a stage of this type, with this file name and these other members.
@@ -173,36 +188,23 @@ fn typed(
     requires { IsTrue (is_named kind (option_map (λ s. s.now) filename)) }
     ensures { IfOk result (λ o. o ≡ typed_of kind (option_map (λ s. s.now) filename.entry) (members_view options.now.entries)) }
 {
-    Ok(match kind {
-        KindName::ReadersLas => {
-            let filename = source_name(alloc, filename)?;
-            Options::ReadersLas(LasReaderOptions { filename })
-        }
-        KindName::FiltersRange => Options::FiltersRange(filters_range(alloc, options)?),
-        KindName::FiltersCrop => Options::FiltersCrop(filters_crop(alloc, options)?),
-        KindName::FiltersAssign => Options::FiltersAssign(filters_assign(alloc, options)?),
-        KindName::FiltersFerry => Options::FiltersFerry(filters_ferry(alloc, options)?),
-        KindName::FiltersExpression => {
-            Options::FiltersExpression(filters_expression(alloc, options)?)
-        }
-        KindName::FiltersDecimation => {
-            Options::FiltersDecimation(filters_decimation(alloc, options)?)
-        }
-        KindName::FiltersHead => Options::FiltersHead(filters_head(alloc, options)?),
-        KindName::FiltersReturns => Options::FiltersReturns(filters_returns(alloc, options)?),
-        KindName::FiltersMerge => Options::FiltersMerge(MergeOptions {}),
-        KindName::FiltersSort => Options::FiltersSort(filters_sort(alloc, options)?),
-        KindName::FiltersTail => Options::FiltersTail(filters_tail(options)),
-        KindName::FiltersGroupby => Options::FiltersGroupby(filters_groupby(alloc, options)?),
-        KindName::WritersLas => {
-            let filename = target_name(alloc, filename)?;
-            Options::WritersLas(writers_las(alloc, filename, options)?)
-        }
-        KindName::WritersText => {
-            let filename = target_name(alloc, filename)?;
-            Options::WritersText(text_options(alloc, filename, options)?)
-        }
-    })
+    match kind {
+        KindName::ReadersLas => readers_las(alloc, filename),
+        KindName::FiltersRange => filters_range(alloc, options),
+        KindName::FiltersCrop => filters_crop(alloc, options),
+        KindName::FiltersAssign => filters_assign(alloc, options),
+        KindName::FiltersFerry => filters_ferry(alloc, options),
+        KindName::FiltersExpression => filters_expression(alloc, options),
+        KindName::FiltersDecimation => filters_decimation(alloc, options),
+        KindName::FiltersHead => filters_head(alloc, options),
+        KindName::FiltersReturns => filters_returns(alloc, options),
+        KindName::FiltersMerge => Ok(Options::FiltersMerge(MergeOptions {})),
+        KindName::FiltersSort => filters_sort(alloc, options),
+        KindName::FiltersTail => Ok(filters_tail(options)),
+        KindName::FiltersGroupby => filters_groupby(alloc, options),
+        KindName::WritersLas => writers_las(alloc, filename, options),
+        KindName::WritersText => writers_text(alloc, filename, options),
+    }
 }
 
 /// The options of stage i, of this type, with this file name and these other members, or their first fault. The other

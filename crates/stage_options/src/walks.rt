@@ -1,12 +1,12 @@
 //! The faults of options: unknown names, then missing options, then wrong values.
 
-ghost use Rattle.std.specs.Prelude.{◌≡◌, not, map, option_map, string_bytes, find, None, IfOk, IfErr, OnOk};
+ghost use Rattle.std.specs.Prelude.{◌≡◌, not, is_some, map, option_map, string_bytes, find, None, IfOk, IfErr, OnOk};
 ghost use Rattle.std.specs.BTreeMap.{keys, IsOrdered};
 ghost use Rattle.std.specs.String.{string_cmp};
 ghost use Rattle.std.specs.List.{filter, list_any};
 ghost use Rattle.serde_json.specs.View.{members_view};
 ghost use Rattle.stage_options.specs.Rules.{is_within, is_between, has_size, is_either, fits};
-ghost use Rattle.stage_options.specs.Faults.{value_of, names_of, lesser, least, is_known, first_unknown, stands, is_missing, first_missing, is_wrong, is_barred, first_wrong, fault_by, IsFaultOf};
+ghost use Rattle.stage_options.specs.Faults.{value_of, names_of, lesser, least, is_known, first_unknown, stands, is_missing, first_missing, is_wrong, holds_one, is_barred, first_wrong, fault_by, IsFaultOf};
 ghost use Rattle.stage_options.specs.Seen.{allowed_view, rule_view, rules_view, given_view};
 
 use crate::rules::{Allowed, Rule};
@@ -46,6 +46,13 @@ fn is_either(one: &str, other: &str, text: &str) -> bool
     text == one || text == other
 }
 
+/// Whether there is such a value. It takes it, so that who asks has none to drop.
+fn is_there<T: Drop>(value: Option<T>) -> bool
+    ensures { result ≡ is_some value }
+{
+    value.is_some()
+}
+
 /// Whether an option may hold a value. Refused only where memory is wanting.
 fn fits(alloc: Global, allowed: Allowed, given: Given<'_>) -> Result<bool, AllocError>
     ensures { IfOk result (λ is. is ≡ fits (allowed_view allowed) (given_view given.entry)) }
@@ -64,12 +71,12 @@ fn fits(alloc: Global, allowed: Allowed, given: Given<'_>) -> Result<bool, Alloc
         Allowed::Target => given.text().is_some_and(|name| is_target(name)),
         Allowed::Bounds => given.bounds().is_some(),
         Allowed::Point => given.point().is_some(),
-        Allowed::Ranges => given.ranges(alloc)?.is_some(),
-        Allowed::Polygon => given.polygon(alloc)?.is_some(),
+        Allowed::Ranges => is_there(given.ranges(alloc)?),
+        Allowed::Polygon => is_there(given.polygon(alloc)?),
         Allowed::Groups => given.text().is_some_and(|text| groups_of(text).is_some()),
-        Allowed::Ferries => given.ferries(alloc)?.is_some(),
-        Allowed::Condition => given.condition(alloc)?.is_some(),
-        Allowed::Assignments => given.assignments(alloc)?.is_some(),
+        Allowed::Ferries => is_there(given.ferries(alloc)?),
+        Allowed::Condition => is_there(given.condition(alloc)?),
+        Allowed::Assignments => is_there(given.assignments(alloc)?),
     })
 }
 
@@ -114,7 +121,6 @@ fn is_missing(rule: &Rule, filename: Option<&str>, options: &Map<String, Value>)
 {
     match rule {
         Rule::Required(name, _) => !stands(filename, options, name),
-        Rule::Optional(_, _) => false,
         Rule::OneOf(name, _, before, behind) => {
             before.is_empty()
                 && !(stands(filename, options, name) || any_stands(filename, options, behind))
@@ -122,23 +128,53 @@ fn is_missing(rule: &Rule, filename: Option<&str>, options: &Map<String, Value>)
         Rule::AlongWith(name, _, other) => {
             stands(filename, options, other) && !stands(filename, options, name)
         }
+        Rule::Optional(_, _) | Rule::Apart(_, _, _, _, _) => false,
     }
 }
 
-/// Whether an option is there that may not be.
-fn is_barred(rule: &Rule, filename: Option<&str>, options: &Map<String, Value>) -> bool
-    ensures { result ≡ is_barred ((rule_view rule.now).presence) ((rule_view rule.now).name) (option_map (λ s. s.now) filename.entry) (members_view options.now.entries) }
+/// Whether an option is there with a value of this kind.
+fn holds_one(
+    alloc: Global,
+    allowed: Allowed,
+    filename: Option<&str>,
+    options: &Map<String, Value>,
+    name: &str,
+) -> Result<bool, AllocError>
+    ensures { IfOk result (λ is. is ≡ holds_one (allowed_view allowed)
+        (value_of name.now (option_map (λ s. s.now) filename.entry) (members_view options.now.entries))) }
+{
+    match value_of(filename, options, name) {
+        Some(value) => fits(alloc, allowed, value),
+        None => Ok(false),
+    }
+}
+
+/// Whether an option is there that may not be, or not with its value.
+fn is_barred(
+    alloc: Global,
+    rule: &Rule,
+    filename: Option<&str>,
+    options: &Map<String, Value>,
+) -> Result<bool, AllocError>
+    ensures { IfOk result (λ is. is ≡ is_barred ((rule_view rule.now).presence) ((rule_view rule.now).name)
+        (option_map (λ s. s.now) filename.entry) (members_view options.now.entries)) }
 {
     match rule {
-        Rule::Required(_, _) | Rule::Optional(_, _) => false,
-        Rule::OneOf(name, _, before, behind) => {
+        Rule::OneOf(name, _, before, behind) => Ok(
             stands(filename, options, name)
                 && any_stands(filename, options, before)
-                && !any_stands(filename, options, behind)
-        }
+                && !any_stands(filename, options, behind),
+        ),
         Rule::AlongWith(name, _, other) => {
-            stands(filename, options, name) && !stands(filename, options, other)
+            Ok(stands(filename, options, name) && !stands(filename, options, other))
         }
+        Rule::Apart(name, _, these, other, those) => {
+            Ok(
+                holds_one(alloc, *these, filename, options, name)?
+                    && holds_one(alloc, *those, filename, options, other)?,
+            )
+        }
+        Rule::Required(_, _) | Rule::Optional(_, _) => Ok(false),
     }
 }
 
@@ -181,7 +217,7 @@ fn first_wrong(
         ≡ first_wrong (rules_view table.now) (option_map (λ s. s.now) filename.entry) (members_view options.now.entries)) }
 {
     for rule in table {
-        if is_wrong(alloc, rule, filename, options)? || is_barred(rule, filename, options) {
+        if is_wrong(alloc, rule, filename, options)? || is_barred(alloc, rule, filename, options)? {
             return Ok(Some(rule.name()));
         }
     }
