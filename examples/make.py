@@ -19,8 +19,8 @@ DEFAULTS = (b"lasline", b"lasline 1", 0, 0)
 
 
 def header(minor, point_format, size, points, scale, offset, start, vlrs=0, evlrs=0, evlr_start=0, origin=EXAMPLES):
-    """The public header block of LAS 1.4, or of LAS 1.2 where minor is 2. All points are first returns. The origin is the system,
-    the software, the day and the year."""
+    """The public header block of LAS 1.4, or of LAS 1.1 or 1.2 where minor is 1 or 2. All points are first returns. The origin is the
+    system, the software, the day and the year."""
     length = 375 if minor == 4 else 227
     count = len(points)
     legacy = count if point_format < 6 else 0
@@ -162,12 +162,20 @@ def lies_in(point, corners):
     return odd
 
 
-def old():
-    """2 points in a file of LAS 1.2."""
+def small(minor):
+    """2 points in format 0, in a file of this minor version."""
     scale, offset = [Fraction(1, 100)] * 3, [Fraction(0)] * 3
     raw = [(100, 200, 300), (101, 201, 301)]
-    data = header(2, 0, 20, grid(raw, scale, offset), scale, offset, 227)
+    data = header(minor, 0, 20, grid(raw, scale, offset), scale, offset, 375 if minor == 4 else 227)
     return data + b"".join(struct.pack("<iiiHBBbBH", x, y, z, 0, 9, 2, 0, 0, 0) for x, y, z in raw)
+
+
+def back(points):
+    """The points of the coast in a file of LAS 1.2, which has no EVLRs."""
+    scale, offset = COAST_GRID
+    raw, start = steps(points, scale, offset), 227 + len(NOTE)
+    data = header(2, 3, 34, points, scale, offset, start, 1) + NOTE
+    return data + b"".join(record3(point, k) for k, point in enumerate(raw))
 
 
 def main():
@@ -271,10 +279,12 @@ def main():
         ),
         "whole": (0, report((reader, every)), "", {}),
         "named": (0, report((reader, 5), (writer, 5, 5)), "", {"coast.asc": text(coast_points)}),
-        "old": (3, "", "lasline: stage 0: version not read\n", {}),
+        "old": (0, report((reader, 2), (las_writer, 2, 2)), "", {"new.las": small(4)}),
+        "back": (0, report((reader, 5), (las_writer, 5, 5)), "", {"back.las": back(coast_points)}),
+        "older": (3, "", "lasline: stage 0: version not read\n", {}),
     }
 
-    files = {"hill.las": hill_data, "coast.las": coast_data, "old.las": old()}
+    files = {"hill.las": hill_data, "coast.las": coast_data, "old.las": small(2), "older.las": small(1)}
     for name, (code, printed, said, kept) in runs.items():
         for file, content in [("code", f"{code}\n"), ("printed", printed), ("said", said), *kept.items()]:
             files[f"expected/{name}/{file}"] = content if isinstance(content, bytes) else content.encode()

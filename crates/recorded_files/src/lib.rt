@@ -1,7 +1,7 @@
 //! What tests run over: a store of files that notes which calls are made on it, and in which order, and a small LAS file.
 #![tactic(auto)]
 
-ghost use Rattle.std.specs.Prelude.{◌≡◌, ◌++◌, ◌+◌, ◌-◌, ◌^◌, ◌≤◌, ◌⊎◌, List, [], ℕ, Some, None, codes, string_bytes, IfOk, OnOk, OnErr, IsErrOf};
+ghost use Rattle.std.specs.Prelude.{◌≡◌, ◌++◌, ◌+◌, ◌-◌, ◌^◌, ◌≤◌, ◌⊎◌, List, [], ℕ, Some, None, codes, decimal, length, string_bytes, IfOk, OnOk, OnErr, IsErrOf};
 ghost use Rattle.recorded_files.specs.Notes.{note_of};
 ghost use Rattle.file_devices.specs.Counts.{Rose, saturating};
 ghost use Rattle.file_devices.specs.Told.{IsAsTold};
@@ -11,11 +11,13 @@ ghost use Rattle.file_devices.specs.declared.devices.DeviceErr.TheVariants.{Abse
 mod sample;
 
 use file_devices::{DeviceErr, Files, MemFiles, MemIn, MemOut, Sink, Source};
+use itoa::Buffer;
 pub use sample::two_points;
 use std::alloc::AllocError;
 
 /// Files in memory, with the calls that were made on them as lines of text: `open NAME`, `create NAME`, `keep NAME`, `close`
-/// where a file that was read is given back, and `drop` where one that was written is. A call that was refused is noted too.
+/// where a file that was read is given back, and `drop N` where one that was written is, with the number of bytes that were
+/// appended to it. A call that was refused is noted too.
 #[derive(Drop)]
 pub struct RecordedFiles {
     files: MemFiles,
@@ -54,6 +56,17 @@ impl RecordedFiles {
         self.calls.push_str(call)?;
         self.calls.push_str(name)?;
         self.calls.push_str("\n")
+    }
+
+    // Notes that an output is given back that holds these bytes.
+    fn note_drop(&mut self, bytes: &[u8]) -> Result<(), AllocError>
+        ensures files { self.new.files ≡ self.old.files }
+        ensures noted { OnOk result (string_bytes self.new.calls
+            ≡ string_bytes self.old.calls ++ note_of (codes "drop ") (decimal (length bytes.now))) }
+    {
+        let mut buffer = Buffer::new();
+        let count = bytes.len() as u64;
+        self.note("drop ", buffer.format(count))
     }
 }
 
@@ -156,7 +169,7 @@ impl Files for RecordedFiles {
     }
 
     fn done_out(&mut self, out: MemOut) {
-        let _ = self.note("drop", "");
+        let _ = self.note_drop(out.bytes());
         self.files.done_out(out);
     }
 }

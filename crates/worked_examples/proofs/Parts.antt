@@ -13,8 +13,8 @@ use Rattle.ieee_words.specs.DecimalOfWord.{decimal_of_word, scale_of_word}
 use Rattle.las_header.specs.declared.form.Format.{Format}
 use Rattle.las_header.specs.declared.form.Format.TheVariants.{F0, F6}
 use Rattle.las_header.specs.declared.faults.Axis.TheVariants.{X}
-use Rattle.las_header.specs.declared.faults.HeaderFault.TheVariants.{NotLas, HeaderSize, Compressed, ScaleNotDecimal}
-use Rattle.las_header.specs.Headers.{record_format, format_in, scales_of, offsets_of, header_with, header_of}
+use Rattle.las_header.specs.declared.faults.HeaderFault.TheVariants.{NotLas, VersionNotRead, HeaderSize, Compressed, FormatNotRead, ScaleNotDecimal}
+use Rattle.las_header.specs.Headers.{block_of, record_format, scales_of, offsets_of, header_with, header_in}
 use Rattle.las_vlr.specs.declared.entry.VlrFault.TheVariants.{TooManyVlrs, VlrPastPoints, EvlrPastEnd}
 use Rattle.las_vlr.specs.Vlrs.{entries_from}
 use Rattle.limits_text.specs.Texts.{ranges_of, ranges_in}
@@ -44,7 +44,7 @@ use Rattle.stage_planner.specs.Plans.{end_of, plan_of}
 use Rattle.lasline_top.specs.Texts.{plan_text}
 use Rattle.lasline_top.specs.Words.{Queues, Run_file, Plan_file, Make_file, task_of}
 use Rattle.lasline_top.specs.Answer.{stages_in, ran, planned, printed, made, trial_text, done, answer}
-use Rattle.worked_examples.specs.Rows.{run_p, files, files_with, pipeline_alone, pipeline_text, head_of_1, head_of_0, tagged_head, reader_alone, writer_between, file_a, file_of_format_6, file_of_a_vlr, file_of_many_vlrs, file_of_a_far_evlr, file_compressed, file_of_neighbour, file_far, file_with_x, file_without_points, first_point, none_pass, only_read, all_and_first, twice, second_absent, two_points_twice}
+use Rattle.worked_examples.specs.Rows.{run_p, files, files_with, pipeline_alone, pipeline_text, head_of_1, head_of_0, tagged_head, reader_alone, writer_between, file_a, file_of_1_1, file_of_1_2, file_of_1_2_in_format_6, file_of_format_6, file_of_a_vlr, file_of_many_vlrs, file_of_a_far_evlr, file_compressed, file_of_neighbour, file_far, file_with_x, file_without_points, first_point, none_pass, only_read, all_and_first, twice, second_absent, two_points_twice}
 
 -- a reader, and stages behind the reader of the LAS file
 abbrev from_las : List StageSpec → List StageSpec
@@ -167,63 +167,79 @@ unfolding is_utf8 chars encode value punctuate lex content
 absent_is = refl
 
 pub two_read : las_file_of file_a ≡ Ok (record { read = read_of file_a F0; las = record { points = record zero_point { x = pos 1000000000; y = pos 2000000000; z = pos 3000000000; return_number = 1; number_of_returns = 1; classification = 2 } ∷ record zero_point { x = negsuc 9999999; y = pos 0; z = pos 50000000; return_number = 1; number_of_returns = 1; classification = 2 } ∷ []; fault = None } })
-unfolding header_of format_in record_format scales_of offsets_of header_with scale_of_word decimal_of_word entries_from point_of points_from
+unfolding block_of header_in record_format scales_of offsets_of header_with scale_of_word decimal_of_word entries_from point_of points_from
 two_read = refl
 
 pub none_read : las_file_of file_without_points ≡ Ok (record { read = read_of file_without_points F0; las = record { points = []; fault = None } })
-unfolding header_of format_in record_format scales_of offsets_of header_with scale_of_word decimal_of_word entries_from point_of points_from
+unfolding block_of header_in record_format scales_of offsets_of header_with scale_of_word decimal_of_word entries_from point_of points_from
 none_read = refl
 
 pub cut_at_1 : las_file_of (take 414 file_a) ≡ Ok (record { read = read_of (take 414 file_a) F0; las = record { points = record zero_point { x = pos 1000000000; y = pos 2000000000; z = pos 3000000000; return_number = 1; number_of_returns = 1; classification = 2 } ∷ []; fault = Some (Cut 1) } })
-unfolding header_of format_in record_format scales_of offsets_of header_with scale_of_word decimal_of_word entries_from point_of points_from
+unfolding block_of header_in record_format scales_of offsets_of header_with scale_of_word decimal_of_word entries_from point_of points_from
 cut_at_1 = refl
 
 pub cut_at_0 : las_file_of (take 394 file_a) ≡ Ok (record { read = read_of (take 394 file_a) F0; las = record { points = []; fault = Some (Cut 0) } })
-unfolding header_of format_in record_format scales_of offsets_of header_with scale_of_word decimal_of_word entries_from point_of points_from
+unfolding block_of header_in record_format scales_of offsets_of header_with scale_of_word decimal_of_word entries_from point_of points_from
 cut_at_0 = refl
 
 pub longer_read : las_file_of file_of_format_6 ≡ Ok (record { read = read_of file_of_format_6 F6; las = record { points = record zero_point { x = pos 1000000000; y = pos 2000000000; z = pos 3000000000 } ∷ record zero_point { x = negsuc 9999999; y = pos 0; z = pos 50000000 } ∷ []; fault = None } })
-unfolding header_of format_in record_format scales_of offsets_of header_with scale_of_word decimal_of_word entries_from point_of points_from
+unfolding block_of header_in record_format scales_of offsets_of header_with scale_of_word decimal_of_word entries_from point_of points_from
 longer_read = refl
 
+pub older_read : las_file_of file_of_1_2 ≡ Ok (record { read = read_of file_of_1_2 F0; las = record { points = record zero_point { x = pos 1000000000; y = pos 2000000000; z = pos 3000000000; return_number = 1; number_of_returns = 1; classification = 2 } ∷ record zero_point { x = negsuc 9999999; y = pos 0; z = pos 50000000; return_number = 1; number_of_returns = 1; classification = 2 } ∷ []; fault = None } })
+unfolding block_of header_in record_format scales_of offsets_of header_with scale_of_word decimal_of_word entries_from point_of points_from
+older_read = refl
+
+pub older_short : las_file_of (take 226 file_of_1_2) ≡ Err (In_header HeaderSize)
+unfolding block_of header_in
+older_short = refl
+
+pub other_version : las_file_of file_of_1_1 ≡ Err (In_header VersionNotRead)
+unfolding block_of header_in
+other_version = refl
+
+pub format_of_another : las_file_of file_of_1_2_in_format_6 ≡ Err (In_header FormatNotRead)
+unfolding block_of header_in record_format
+format_of_another = refl
+
 pub vlr_past_points : las_file_of file_of_a_vlr ≡ Err (In_list (VlrPastPoints 0))
-unfolding header_of format_in record_format scales_of offsets_of header_with scale_of_word decimal_of_word entries_from
+unfolding block_of header_in record_format scales_of offsets_of header_with scale_of_word decimal_of_word entries_from
 vlr_past_points = refl
 
 pub too_many_vlrs : las_file_of file_of_many_vlrs ≡ Err (In_list TooManyVlrs)
-unfolding header_of format_in record_format scales_of offsets_of header_with scale_of_word decimal_of_word entries_from
+unfolding block_of header_in record_format scales_of offsets_of header_with scale_of_word decimal_of_word entries_from
 too_many_vlrs = refl
 
 pub evlr_past_end : las_file_of file_of_a_far_evlr ≡ Err (In_list (EvlrPastEnd 0))
-unfolding header_of format_in record_format scales_of offsets_of header_with scale_of_word decimal_of_word entries_from
+unfolding block_of header_in record_format scales_of offsets_of header_with scale_of_word decimal_of_word entries_from
 evlr_past_end = refl
 
 pub compressed : las_file_of file_compressed ≡ Err (In_header Compressed)
-unfolding header_of format_in record_format
+unfolding block_of header_in record_format
 compressed = refl
 
 pub other_scale : las_file_of file_of_neighbour ≡ Err (In_header (ScaleNotDecimal X))
-unfolding header_of format_in record_format scales_of scale_of_word
+unfolding block_of header_in record_format scales_of scale_of_word
 other_scale = refl
 
 pub far_read : las_file_of file_far ≡ Ok (record { read = read_of file_far F0; las = record { points = record zero_point { x = pos 3147483646000000000; y = pos 0; z = pos 0 } ∷ []; fault = None } })
-unfolding header_of format_in record_format scales_of offsets_of header_with scale_of_word decimal_of_word entries_from point_of points_from
+unfolding block_of header_in record_format scales_of offsets_of header_with scale_of_word decimal_of_word entries_from point_of points_from
 far_read = refl
 
 pub short_header : las_file_of (take 374 file_a) ≡ Err (In_header HeaderSize)
-unfolding header_of format_in
+unfolding block_of header_in
 short_header = refl
 
 pub other_signature : las_file_of file_with_x ≡ Err (In_header NotLas)
-unfolding header_of format_in
+unfolding block_of header_in
 other_signature = refl
 
 pub short_signature : las_file_of (take 3 file_a) ≡ Err (In_header NotLas)
-unfolding header_of format_in
+unfolding block_of header_in
 short_signature = refl
 
 pub no_bytes : las_file_of [] ≡ Err (In_header NotLas)
-unfolding header_of format_in
+unfolding block_of header_in
 no_bytes = refl
 
 -- the words of the example ask for the run of its pipeline's file

@@ -54,6 +54,16 @@ file_of_format_6 = header_on (codes "LASF") 6 33 2 cent (replicate 8 0) ++ longe
 abbrev pub patched : ℕ → List ℕ → List ℕ → List ℕ
 patched at piece file = take at file ++ piece ++ drop (at + length piece) file
 
+-- the same points in a file of LAS 1.2, whose header block ends with the bounds, and such files of another version and of format 6
+abbrev pub file_of_1_2 : List ℕ
+file_of_1_2 = patched 94 (0xe3 ∷ 0 ∷ 0xe3 ∷ 0 ∷ 0 ∷ 0 ∷ []) (patched 25 (2 ∷ []) (take 227 file_a)) ++ records
+
+abbrev pub file_of_1_1 : List ℕ
+file_of_1_1 = patched 25 (1 ∷ []) file_of_1_2
+
+abbrev pub file_of_1_2_in_format_6 : List ℕ
+file_of_1_2_in_format_6 = patched 104 (6 ∷ []) file_of_1_2
+
 -- a header that counts one VLR, the most VLRs that it can, and an EVLR at the last place that it can name
 abbrev pub file_of_a_vlr : List ℕ
 file_of_a_vlr = patched 100 (1 ∷ 0 ∷ 0 ∷ 0 ∷ []) file_a

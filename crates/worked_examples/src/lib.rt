@@ -14,12 +14,13 @@ ghost use Rattle.lasline_top.specs.Answer.{answer, made, printed, stages_in, tri
 ghost use Rattle.run_report.specs.declared.refusal.Refusal.{Refusal};
 ghost use Rattle.run_report.specs.declared.refusal.Fault.{Fault};
 ghost use Rattle.run_report.specs.declared.refusal.Place.{Place};
-ghost use Rattle.worked_examples.specs.Rows.{run_p, run_p_in_pieces, head_of_1, head_of_0, file_a, file_of_format_6, file_of_a_vlr, file_of_many_vlrs, file_of_a_far_evlr, file_compressed, file_of_neighbour, file_far, file_with_x, file_without_points, files, files_with, tagged_head, reader_alone, writer_between, pipeline_alone, two_points, far_point, no_points, first_point, none_pass, only_read, all_and_first, twice, second_absent, two_points_twice};
+ghost use Rattle.worked_examples.specs.Rows.{run_p, run_p_in_pieces, head_of_1, head_of_0, file_a, file_of_1_1, file_of_1_2, file_of_1_2_in_format_6, file_of_format_6, file_of_a_vlr, file_of_many_vlrs, file_of_a_far_evlr, file_compressed, file_of_neighbour, file_far, file_with_x, file_without_points, files, files_with, tagged_head, reader_alone, writer_between, pipeline_alone, two_points, far_point, no_points, first_point, none_pass, only_read, all_and_first, twice, second_absent, two_points_twice};
 
-/// A file of two points becomes 49 bytes of text and a report of three lines, and so it does in longer records of another
-/// format. A point far from 0 keeps each digit, and a file of no points becomes the names of the columns.
+/// A file of two points becomes 49 bytes of text and a report of three lines, and so it does in LAS 1.2, and in longer records of
+/// another format. A point far from 0 keeps each digit, and a file of no points becomes the names of the columns.
 pub fn whole_files_become_text()
     ensures two_points { answer run_p (files file_a) ≡ Ok two_points }
+    ensures older_version { answer run_p (files file_of_1_2) ≡ Ok two_points }
     ensures longer_records { answer run_p (files file_of_format_6) ≡ Ok two_points }
     ensures far_point { answer run_p (files file_far) ≡ Ok far_point }
     ensures no_points { answer run_p (files file_without_points) ≡ Ok no_points }
@@ -62,6 +63,9 @@ pub fn files_are_refused()
     ensures too_many_vlrs { answer run_p (files file_of_many_vlrs) ≡ Err (Refusal.Data 0 (Fault.Vlr VlrFault.TooManyVlrs)) }
     ensures evlr_past_end { answer run_p (files file_of_a_far_evlr) ≡ Err (Refusal.Data 0 (Fault.Vlr (VlrFault.EvlrPastEnd 0))) }
     ensures header_cut_short { answer run_p (files (take 374 file_a)) ≡ Err (Refusal.Data 0 (Fault.Header HeaderFault.HeaderSize)) }
+    ensures older_header_cut_short { answer run_p (files (take 226 file_of_1_2)) ≡ Err (Refusal.Data 0 (Fault.Header HeaderFault.HeaderSize)) }
+    ensures another_version { answer run_p (files file_of_1_1) ≡ Err (Refusal.Data 0 (Fault.Header HeaderFault.VersionNotRead)) }
+    ensures format_of_another_version { answer run_p (files file_of_1_2_in_format_6) ≡ Err (Refusal.Data 0 (Fault.Header HeaderFault.FormatNotRead)) }
     ensures another_signature { answer run_p (files file_with_x) ≡ Err (Refusal.Data 0 (Fault.Header HeaderFault.NotLas)) }
     ensures signature_cut_short { answer run_p (files (take 3 file_a)) ≡ Err (Refusal.Data 0 (Fault.Header HeaderFault.NotLas)) }
     ensures no_bytes { answer run_p (files []) ≡ Err (Refusal.Data 0 (Fault.Header HeaderFault.NotLas)) }

@@ -1,5 +1,5 @@
 use Rattle.answer_model.specs.Values.{evaluated}
-use Rattle.worked_examples.proofs.Parts.{run_whole, absent_las, cut_at_1, cut_at_0, vlr_past_points, too_many_vlrs, evlr_past_end, compressed, other_scale, short_header, other_signature, short_signature, no_bytes}
+use Rattle.worked_examples.proofs.Parts.{run_whole, absent_las, cut_at_1, cut_at_0, vlr_past_points, too_many_vlrs, evlr_past_end, compressed, other_scale, short_header, older_short, other_version, format_of_another, other_signature, short_signature, no_bytes}
 use Rattle.worked_examples.proofs.files_are_refused.Goals as goal
 
 pub returns : goal.returns
@@ -13,6 +13,9 @@ returns c = record {
   too_many_vlrs = run_whole _ too_many_vlrs;
   evlr_past_end = run_whole _ evlr_past_end;
   header_cut_short = run_whole _ short_header;
+  older_header_cut_short = run_whole _ older_short;
+  another_version = run_whole _ other_version;
+  format_of_another_version = run_whole _ format_of_another;
   another_signature = run_whole _ other_signature;
   signature_cut_short = run_whole _ short_signature;
   no_bytes = run_whole _ no_bytes;
