@@ -5,8 +5,8 @@ use Rattle.std.proofs.lemmas.List.{append-nil, append_assoc}
 use Rattle.command_words.specs.Numbers.{IsNumber, number_in}
 use Rattle.command_words.specs.Options.{Choice, is_number, is_whole, AreOptions, none, more, number, whole, name_of, least_of, most_of, options_with}
 use Rattle.command_words.specs.Commands.{Command, help, IsCommand, is_run, is_plan, is_gen, is_trial, is_help, is_version, CanGoOn, is_name, most_count}
-use Rattle.command_words.specs.Machine.{Task, run_of, trials, State, start, behind, counted, options, setting, done, step, ended, command_for, first_word, second_word, option_word, if_so, is_free, setting_named, with_number, with_whole, filled}
-use Rattle.command_words.specs.declared.options.Given.{Given}
+use Rattle.command_words.specs.Machine.{Purpose, run_of, trials, State, start, behind, counted, options, setting, done, step, ended, command_for, first_word, second_word, option_word, if_so, is_free, setting_named, with_number, with_whole, filled}
+use Rattle.command_words.specs.declared.options.GivenOptions.{GivenOptions}
 use Rattle.command_words.specs.declared.options.Setting.{Setting}
 use Rattle.command_words.specs.declared.options.Setting.TheVariants.{Chunk, Queue, Workers, Patience}
 use Rattle.command_words.specs.declared.reading.Verb.{Verb}
@@ -22,7 +22,7 @@ word_for Gen = codes "gen"
 word_for Trial = codes "trial"
 
 -- the words before the options
-pub data Begins : Task → List (List ℕ) → Type 0 where
+pub data Begins : Purpose → List (List ℕ) → Type 0 where
   a_run : {file : List ℕ} → is_name file ≡ true → Begins (run_of file) (codes "run" ∷ file ∷ [])
   a_trial : {word : List ℕ} {n : ℕ} → IsNumber 0 most_count word n → Begins (trials n) (codes "trial" ∷ word ∷ [])
 
@@ -31,8 +31,8 @@ pub data Front : State → List (List ℕ) → Type 0 where
   at_start : Front start []
   at_verb : (v : Verb) → Front (behind v) (word_for v ∷ [])
   at_count : {word : List ℕ} {n : ℕ} → IsNumber 0 most_count word n → Front (counted n) (codes "gen" ∷ word ∷ [])
-  at_options : {task : Task} {g : Given} {first words : List (List ℕ)} {cs : List Choice} → Begins task first → AreOptions words cs → g ≡ given_by cs → Front (options task g) (first ++ words)
-  at_setting : {task : Task} {g : Given} {first words : List (List ℕ)} {cs : List Choice} (s : Setting) → Begins task first → AreOptions words cs → g ≡ given_by cs → is_free s g ≡ true
+  at_options : {task : Purpose} {g : GivenOptions} {first words : List (List ℕ)} {cs : List Choice} → Begins task first → AreOptions words cs → g ≡ given_by cs → Front (options task g) (first ++ words)
+  at_setting : {task : Purpose} {g : GivenOptions} {first words : List (List ℕ)} {cs : List Choice} (s : Setting) → Begins task first → AreOptions words cs → g ≡ given_by cs → is_free s g ≡ true
       → Front (setting task g s) (first ++ (words ++ name_of s ∷ []))
   at_end : {words : List (List ℕ)} {c : Command} → IsCommand words c → Front (done c) words
 
@@ -90,7 +90,7 @@ named_is word =
     (by_name P word (codes "--patience") _ _ (the_one (P (codes "--patience")) Patience refl)
     (no_name P word))))
 
-module _ {task : Task} {g : Given} {first words : List (List ℕ)} {cs : List Choice} (begins : Begins task first) (are : AreOptions words cs) (is : g ≡ given_by cs) where
+module _ {task : Purpose} {g : GivenOptions} {first words : List (List ℕ)} {cs : List Choice} (begins : Begins task first) (are : AreOptions words cs) (is : g ≡ given_by cs) where
   -- words behind the options
   regrouped : (t : State) (own : List (List ℕ)) → Front t (first ++ (words ++ own)) → Front t ((first ++ words) ++ own)
   regrouped t own h = subst (Front t) (sym (append_assoc first words own)) h
@@ -134,7 +134,7 @@ front_after s t before (word ∷ words) h e = go (step s word) refl e (λ u f e.
 
 -- ---- what a state says of the words
 
-with_options : {task : Task} {first words : List (List ℕ)} {cs : List Choice} → Begins task first → AreOptions words cs → IsCommand (first ++ words) (command_for task (options_with cs))
+with_options : {task : Purpose} {first words : List (List ℕ)} {cs : List Choice} → Begins task first → AreOptions words cs → IsCommand (first ++ words) (command_for task (options_with cs))
 with_options (a_run name) are = is_run name are
 with_options (a_trial i) are = is_trial i are
 

@@ -4,23 +4,23 @@ use Rattle.std.specs.List.{AllByRecursion}
 use Rattle.std.proofs.lemmas.List.Elements.{All-from_recursion, recursion_from_All}
 use Rattle.command_words.specs.Options.{Choice, number, whole, word_of, name_of, put, options_with}
 use Rattle.command_words.specs.Machine.{nothing_given, is_free, with_number, with_whole, filled}
-use Rattle.command_words.specs.declared.options.Given.{Given}
+use Rattle.command_words.specs.declared.options.GivenOptions.{GivenOptions}
 use Rattle.command_words.specs.declared.options.Setting.TheVariants.{Chunk, Queue, Workers, Patience}
 
-abbrev pub with_choice : Choice → Given → Given
+abbrev pub with_choice : Choice → GivenOptions → GivenOptions
 with_choice (number s n) g = with_number s n g
 with_choice whole g = with_whole g
 
-abbrev pub is_new : Choice → Given → Bool
+abbrev pub is_new : Choice → GivenOptions → Bool
 is_new (number s n) g = is_free s g
 is_new whole g = not g.whole
 
 -- what these options give
-abbrev pub given_by : List Choice → Given
+abbrev pub given_by : List Choice → GivenOptions
 given_by [] = nothing_given
 given_by (c ∷ cs) = with_choice c (given_by cs)
 
-filled_with : (c : Choice) (g : Given) → filled (with_choice c g) ≡ put c (filled g)
+filled_with : (c : Choice) (g : GivenOptions) → filled (with_choice c g) ≡ put c (filled g)
 filled_with (number Chunk n) g = refl
 filled_with (number Queue n) g = refl
 filled_with (number Workers n) g = refl
@@ -32,7 +32,7 @@ filled_is [] = refl
 filled_is (c ∷ cs) = filled_with c (given_by cs) ∙ ap (put c) (filled_is cs)
 
 -- an option of another name stays as new as it was
-still_new : (p c : Choice) (g : Given) → word_of p ≢ word_of c → is_new c (with_choice p g) ≡ is_new c g
+still_new : (p c : Choice) (g : GivenOptions) → word_of p ≢ word_of c → is_new c (with_choice p g) ≡ is_new c g
 still_new (number Chunk n) (number Chunk m) g h = absurd (h refl)
 still_new (number Queue n) (number Queue m) g h = absurd (h refl)
 still_new (number Workers n) (number Workers m) g h = absurd (h refl)
@@ -45,7 +45,7 @@ still_new whole (number Patience m) g h = refl
 still_new _ _ g h = refl
 
 -- what is new has another name
-other_name : (p c : Choice) (g : Given) → is_new c (with_choice p g) ≡ true → (word_of p ≢ word_of c) × (is_new c g ≡ true)
+other_name : (p c : Choice) (g : GivenOptions) → is_new c (with_choice p g) ≡ true → (word_of p ≢ word_of c) × (is_new c g ≡ true)
 other_name (number Chunk n) (number Chunk m) g h = absurd (true≢false (sym h))
 other_name (number Queue n) (number Queue m) g h = absurd (true≢false (sym h))
 other_name (number Workers n) (number Workers m) g h = absurd (true≢false (sym h))

@@ -4,13 +4,13 @@ use Rattle.command_words.specs.Numbers.{number_in}
 use Rattle.command_words.specs.Options.{least_of, most_of}
 use Rattle.command_words.specs.Commands.{Command, run, plan, gen, trial, help, version, command_in, is_name, most_count}
 use Rattle.command_words.specs.declared.options.RunOptions.{RunOptions}
-use Rattle.command_words.specs.declared.options.Given.{Given}
+use Rattle.command_words.specs.declared.options.GivenOptions.{GivenOptions}
 use Rattle.command_words.specs.declared.options.Setting.{Setting}
 use Rattle.command_words.specs.declared.options.Setting.TheVariants.{Chunk, Queue, Workers, Patience}
 use Rattle.command_words.specs.declared.reading.Verb.{Verb}
 use Rattle.command_words.specs.declared.reading.Verb.TheVariants.{Run, Plan, Gen, Trial}
-use Rattle.command_words.specs.declared.reading.Task.{Task as Started}
-use Rattle.command_words.specs.declared.reading.Task.TheVariants as started
+use Rattle.command_words.specs.declared.reading.Purpose.{Purpose as Started}
+use Rattle.command_words.specs.declared.reading.Purpose.TheVariants as started
 use Rattle.command_words.specs.declared.reading.State.{State as Reached}
 use Rattle.command_words.specs.declared.reading.State.TheVariants as reached
 
@@ -23,47 +23,47 @@ setting_named word = if bytes_eq word (codes "--chunk") then Some Chunk
     else (if bytes_eq word (codes "--patience") then Some Patience
     else None)))
 
-abbrev pub nothing_given : Given
+abbrev pub nothing_given : GivenOptions
 nothing_given = record { chunk = None; queue = None; workers = None; patience = None; whole = false }
 
 -- it wasn't given
-abbrev pub is_free : Setting → Given → Bool
+abbrev pub is_free : Setting → GivenOptions → Bool
 is_free Chunk g = is_none g.chunk
 is_free Queue g = is_none g.queue
 is_free Workers g = is_none g.workers
 is_free Patience g = is_none g.patience
 
-abbrev pub with_number : Setting → ℕ → Given → Given
+abbrev pub with_number : Setting → ℕ → GivenOptions → GivenOptions
 with_number Chunk n g = record g { chunk = Some n }
 with_number Queue n g = record g { queue = Some n }
 with_number Workers n g = record g { workers = Some n }
 with_number Patience n g = record g { patience = Some n }
 
-abbrev pub with_whole : Given → Given
+abbrev pub with_whole : GivenOptions → GivenOptions
 with_whole g = record g { whole = true }
 
 -- usual values for what wasn't given
-abbrev pub filled : Given → RunOptions
+abbrev pub filled : GivenOptions → RunOptions
 filled g = record { chunk = unwrap_or g.chunk 64; queue = unwrap_or g.queue 8; workers = unwrap_or g.workers 1; patience = unwrap_or g.patience 1000; whole = g.whole }
 
 -- ---- the states
 
 -- what the options are for
-pub data Task : Type 0 where
-  run_of : List ℕ → Task
-  trials : ℕ → Task
+pub data Purpose : Type 0 where
+  run_of : List ℕ → Purpose
+  trials : ℕ → Purpose
 
 -- what was read so far
 pub data State : Type 0 where
   start : State
   behind : Verb → State
   counted : ℕ → State
-  options : Task → Given → State
-  setting : Task → Given → Setting → State
+  options : Purpose → GivenOptions → State
+  setting : Purpose → GivenOptions → Setting → State
   done : Command → State
 
 -- a state without where its words lie in memory
-abbrev pub task_in : Started → Task
+abbrev pub task_in : Started → Purpose
 task_in (started.Run file) = run_of file.now
 task_in (started.Trial count) = trials count
 
@@ -75,7 +75,7 @@ state_in (reached.Options task given) = options (task_in task) given
 state_in (reached.Number task given s) = setting (task_in task) given s
 state_in (reached.Done command) = done (command_in command)
 
-abbrev pub command_for : Task → RunOptions → Command
+abbrev pub command_for : Purpose → RunOptions → Command
 command_for (run_of file) o = run file o
 command_for (trials count) o = trial count o
 
@@ -99,7 +99,7 @@ second_word Plan word = if_so (is_name word) (done (plan word))
 second_word Gen word = option_map counted (number_in 0 most_count word)
 second_word Trial word = option_map (λ n. options (trials n) nothing_given) (number_in 0 most_count word)
 
-abbrev pub option_word : Task → Given → List ℕ → Option State
+abbrev pub option_word : Purpose → GivenOptions → List ℕ → Option State
 option_word task given word = if bytes_eq word (codes "--whole") then if_so (not given.whole) (options task (with_whole given))
     else option_and_then (λ s. if_so (is_free s given) (setting task given s)) (setting_named word)
 

@@ -35,7 +35,7 @@ pub(crate) enum Setting {
 
 /// The options that were given so far.
 #[derive(Clone, Copy)]
-pub(crate) struct Given {
+pub(crate) struct GivenOptions {
     pub(crate) chunk: Option<u32>,
     pub(crate) queue: Option<u32>,
     pub(crate) workers: Option<u32>,
@@ -70,12 +70,12 @@ impl Setting {
     }
 }
 
-impl Given {
+impl GivenOptions {
     /// No options.
-    pub(crate) fn none() -> Given
+    pub(crate) fn none() -> GivenOptions
         ensures { result ≡ nothing_given }
     {
-        Given {
+        GivenOptions {
             chunk: None,
             queue: None,
             workers: None,
@@ -97,7 +97,7 @@ impl Given {
     }
 
     /// The same with one option more.
-    pub(crate) fn with_number(mut self, setting: Setting, number: u32) -> Given
+    pub(crate) fn with_number(mut self, setting: Setting, number: u32) -> GivenOptions
         ensures { result ≡ with_number setting number self }
     {
         match setting {
@@ -110,7 +110,7 @@ impl Given {
     }
 
     /// The same with `--whole`.
-    pub(crate) fn with_whole(mut self) -> Given
+    pub(crate) fn with_whole(mut self) -> GivenOptions
         ensures { result ≡ with_whole self }
     {
         self.whole = true;

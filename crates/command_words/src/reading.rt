@@ -5,7 +5,7 @@ ghost use Rattle.command_words.specs.Commands.{is_name, command_in};
 ghost use Rattle.command_words.specs.Machine.{state_in, task_in, counted, command_for, first_word, second_word, option_word, step, ended};
 
 use crate::command::Command;
-use crate::options::{Given, RunOptions, Setting, number_in};
+use crate::options::{GivenOptions, RunOptions, Setting, number_in};
 
 /// The greatest number that `gen` and `trial` take.
 const MOST_COUNT: u32 = 10_000_000;
@@ -21,7 +21,7 @@ pub(crate) enum Verb {
 
 /// What the options are for.
 #[derive(Clone, Copy)]
-pub(crate) enum Task<'a> {
+pub(crate) enum Purpose<'a> {
     Run(&'a str),
     Trial(u32),
 }
@@ -39,10 +39,10 @@ pub(crate) enum State<'a> {
     Counted(u32),
 
     /// A task, and options.
-    Options(Task<'a>, Given),
+    Options(Purpose<'a>, GivenOptions),
 
     /// The same, and the name of one option more.
-    Number(Task<'a>, Given, Setting),
+    Number(Purpose<'a>, GivenOptions, Setting),
 
     /// A command that nothing may follow.
     Done(Command<'a>),
@@ -76,7 +76,7 @@ fn second_word<'a>(verb: Verb, word: &'a str) -> Option<State<'a>>
     match verb {
         Verb::Run => {
             if is_name(word) {
-                Some(State::Options(Task::Run(word), Given::none()))
+                Some(State::Options(Purpose::Run(word), GivenOptions::none()))
             } else {
                 None
             }
@@ -94,12 +94,12 @@ fn second_word<'a>(verb: Verb, word: &'a str) -> Option<State<'a>>
         }
         Verb::Trial => {
             let count = number_in(0, MOST_COUNT, word)?;
-            Some(State::Options(Task::Trial(count), Given::none()))
+            Some(State::Options(Purpose::Trial(count), GivenOptions::none()))
         }
     }
 }
 
-fn option_word<'a>(task: Task<'a>, given: Given, word: &str) -> Option<State<'a>>
+fn option_word<'a>(task: Purpose<'a>, given: GivenOptions, word: &str) -> Option<State<'a>>
     ensures { option_map state_in result ≡ option_word (task_in task.entry) given word.now }
 {
     if word == "--whole" {
@@ -156,11 +156,11 @@ impl<'a> State<'a> {
     }
 }
 
-fn command_for(task: Task<'_>, options: RunOptions) -> Command<'_>
+fn command_for(task: Purpose<'_>, options: RunOptions) -> Command<'_>
     ensures { command_in result ≡ command_for (task_in task.entry) options }
 {
     match task {
-        Task::Run(file) => Command::Run { file, options },
-        Task::Trial(count) => Command::Trial { count, options },
+        Purpose::Run(file) => Command::Run { file, options },
+        Purpose::Trial(count) => Command::Trial { count, options },
     }
 }

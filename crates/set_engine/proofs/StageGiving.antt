@@ -26,7 +26,7 @@ use Rattle.stage_meanings.specs.Filters.{before_stop}
 use Rattle.stage_options.specs.Roles.{Role, target_of}
 use Rattle.set_engine.specs.Fits.{IsFor, IsWriting, HasFile}
 use Rattle.set_engine.specs.Given.{IsGiven, IsGivenBy, fault_of}
-use Rattle.set_engine.specs.declared.given.Given.{Given}
+use Rattle.set_engine.specs.declared.output.StageOutput.{StageOutput}
 use Rattle.set_engine.specs.declared.stop.Stop.{Stop}
 
 -- ---- writers
@@ -60,7 +60,7 @@ writer-given bytes role row las taken v w start same sound holds =
     }
 
 -- so it is with what it gave, and where it stopped
-pub writer-gave : {S K : Type 0} (sources : S → Option (List ℕ)) (sinks : K → Option (List ℕ)) (taken : Flow Point) (work : StageWork S K) (v w : WriterStage K) (r : Result Given Stop) → work ≡ Writer v → writes_of w ≡ writes_of v
+pub writer-gave : {S K : Type 0} (sources : S → Option (List ℕ)) (sinks : K → Option (List ℕ)) (taken : Flow Point) (work : StageWork S K) (v w : WriterStage K) (r : Result StageOutput Stop) → work ≡ Writer v → writes_of w ≡ writes_of v
     → IfOk r (λ given. count_of v.file ≡ 0 → given.fault ≡ filtered_stop (writing_filter (writes_of v)) taken) → IfOk r (λ given. given.fault ≡ None → given.views ≡ taken)
     → IfOk r (λ given. given.fault ≡ None → holds_chosen sinks v [] ≡ true → holds_chosen sinks w (points taken) ≡ true)
     → IfOk r (λ given. (role : Role) (row : Row) (las : Las) → IsFor sinks role row work → HasFile sources las work → IsGivenBy {S = S} sinks role row las taken (Writer w) given)
@@ -94,7 +94,7 @@ pub leaf-writing : {S K : Type 0} (v w : StageWork S K) → is_leaf v ≡ true �
 leaf-writing v w a b = (leaf-writes w b).0 ∙ sym ((leaf-writes v a).0)
 
 module _ {S K : Type 0} (sources : S → Option (List ℕ)) (sinks : K → Option (List ℕ)) (role : Role) (row : Row) (las : Las) (taken : Flow Point) where
-  leaf-given : (v w : StageWork S K) (given : Given) → IsFor sinks role row v → HasFile sources las v → is_leaf v ≡ true → is_leaf w ≡ true
+  leaf-given : (v w : StageWork S K) (given : StageOutput) → IsFor sinks role row v → HasFile sources las v → is_leaf v ≡ true → is_leaf w ≡ true
       → (tells_of sources v ≡ true → told_of sources v ≡ flow_marks given.views) → (tells_of sources v ≡ true → told_fault_of sources v ≡ option_map stage.Point given.fault) → IsGivenBy sinks role row las taken w given
   leaf-given (Reader r) w given start file a b gives says =
       let t = file r refl in
@@ -116,7 +116,7 @@ module _ {S K : Type 0} (sources : S → Option (List ℕ)) (sinks : K → Optio
   leaf-given (Writer x) w given start file a b gives says = absurd (true≢false (sym a))
 
 -- so it is with what it gave
-pub leaf-gave : {S K : Type 0} (sources : S → Option (List ℕ)) (sinks : K → Option (List ℕ)) (taken : Flow Point) (v w : StageWork S K) (r : Result Given Stop) → is_leaf v ≡ true → is_leaf w ≡ true
+pub leaf-gave : {S K : Type 0} (sources : S → Option (List ℕ)) (sinks : K → Option (List ℕ)) (taken : Flow Point) (v w : StageWork S K) (r : Result StageOutput Stop) → is_leaf v ≡ true → is_leaf w ≡ true
     → IfOk r (λ given. tells_of sources v ≡ true → told_of sources v ≡ flow_marks given.views)
     → IfOk r (λ given. tells_of sources v ≡ true → told_fault_of sources v ≡ option_map stage.Point given.fault)
     → IfOk r (λ given. (role : Role) (row : Row) (las : Las) → IsFor sinks role row v → HasFile sources las v → IsGivenBy sinks role row las taken w given)

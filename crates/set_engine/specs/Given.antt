@@ -15,7 +15,7 @@ use Rattle.stage_kinds.specs.declared.file_form.Writing.{Writing}
 use Rattle.stage_kinds.specs.declared.stage_work.StageWork.{StageWork}
 use Rattle.stage_options.specs.Roles.{Role, is_reading, target_of}
 use Rattle.stage_options.specs.declared.stage.StageSpec.{StageSpec}
-use Rattle.set_engine.specs.declared.given.Given.{Given}
+use Rattle.set_engine.specs.declared.output.StageOutput.{StageOutput}
 
 -- the fault of a stage on the flow that it takes: of a reader that of its file
 abbrev pub fault_of : Role → Row → Las → Flow Point → Option PointFault
@@ -28,7 +28,7 @@ pub record IsGiven {S K : Type 0} (bytes : K → Option (List ℕ)) (role : Role
   pub held : (x : Writing) → writing_of w ≡ Some x → HoldsAll bytes x (points taken) w
 
 -- it says its fault, and without one it gave its value
-pub record IsGivenBy {S K : Type 0} (bytes : K → Option (List ℕ)) (role : Role) (row : Row) (las : Las) (taken : Flow Point) (w : StageWork S K) (given : Given) : Type 0 where
+pub record IsGivenBy {S K : Type 0} (bytes : K → Option (List ℕ)) (role : Role) (row : Row) (las : Las) (taken : Flow Point) (w : StageWork S K) (given : StageOutput) : Type 0 where
   pub fault : given.fault ≡ fault_of role row las taken
   pub sound : given.fault ≡ None → IsGiven bytes role row las taken w given.views
 

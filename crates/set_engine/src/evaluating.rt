@@ -8,8 +8,8 @@ ghost use Rattle.stage_kinds.specs.Held.{faults_of};
 ghost use Rattle.stage_options.specs.Shapes.{shapes};
 ghost use Rattle.set_engine.specs.Given.{count_for, first_at};
 
-use crate::given::Given;
 use crate::inputs::take_joined;
+use crate::output::StageOutput;
 use crate::stages::stage_views;
 use cloud_points::PointFault;
 use file_devices::{FileSink, Source};
@@ -78,7 +78,7 @@ pub fn evaluate_stages<S: Source, K: FileSink>(
             return Err(Refusal::Memory);
         };
         match stage_views(alloc, &mut works[i], taken) {
-            Ok(Given { views, fault }) => {
+            Ok(StageOutput { views, fault }) => {
                 report.push(stage_count(i as u32, &stages[i], &views, works[i].written()));
                 values.push_reserved(views);
                 found = first_at(found, i as u32, fault);

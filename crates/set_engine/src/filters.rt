@@ -5,7 +5,7 @@ ghost use Rattle.set_filters.specs.Kinds as plain_kinds;
 ghost use Rattle.stage_meanings.specs.Filtering.{filtered, filtered_stop};
 ghost use Rattle.stream_filters.specs.Kinds.{filtering_of};
 
-use crate::given::Given;
+use crate::output::StageOutput;
 use expr_eval::Bound;
 use set_filters::{Filtered, filter_views};
 use stage_options::BoundFilter;
@@ -52,11 +52,15 @@ fn parts_of(filter: Filter) -> (BoundFilter, Option<Bound>)
 }
 
 /// What a filter makes of whole views, up to the first point that can't be judged.
-pub(crate) fn filter_all(alloc: Global, filter: Filter, views: Views) -> Result<Given, AllocError>
+pub(crate) fn filter_all(
+    alloc: Global,
+    filter: Filter,
+    views: Views,
+) -> Result<StageOutput, AllocError>
     ensures value { IfOk result (λ given. given.views ≡ filtered (filtering_of filter) views) }
     ensures fault { IfOk result (λ given. given.fault ≡ filtered_stop (filtering_of filter) views) }
 {
     let (filter, only) = parts_of(filter);
     let Filtered { views, fault } = filter_views(alloc, &filter, &only, views)?;
-    Ok(Given { views, fault })
+    Ok(StageOutput { views, fault })
 }

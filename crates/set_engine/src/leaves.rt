@@ -7,7 +7,7 @@ ghost use Rattle.file_devices.specs.Counts.{Rose};
 ghost use Rattle.file_devices.specs.declared.devices.Op.{Op};
 ghost use Rattle.set_engine.specs.Stops.{HasFailed, IsStopFor};
 
-use crate::given::Given;
+use crate::output::StageOutput;
 use crate::stop::Stop;
 use cloud_points::{MOST_POINTS, Make, PointFault, Spread, StageFault, Work};
 use std::alloc::Global;
@@ -26,7 +26,7 @@ fn point_fault(fault: Option<StageFault>) -> Result<Option<PointFault>, Stop>
 }
 
 /// All that a leaf gives, as whole views, and the fault at its end.
-pub(crate) fn leaf_views<W: Work>(alloc: Global, leaf: &mut W) -> Result<Given, Stop>
+pub(crate) fn leaf_views<W: Work>(alloc: Global, leaf: &mut W) -> Result<StageOutput, Stop>
     requires { W.leaf leaf.old ≡ true }
     ensures ok { IfOk result (λ given. W.tells leaf.old ≡ true → W.told leaf.old ≡ flow_marks given.views) }
     ensures fault { IfOk result (λ given. W.tells leaf.old ≡ true → W.told_fault leaf.old ≡ option_map stage.Point given.fault) }
@@ -48,7 +48,7 @@ pub(crate) fn leaf_views<W: Work>(alloc: Global, leaf: &mut W) -> Result<Given, 
                 if cut {
                     views.set_cut();
                 }
-                return Ok(Given { views, fault });
+                return Ok(StageOutput { views, fault });
             }
         }
     }

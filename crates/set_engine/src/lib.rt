@@ -3,9 +3,9 @@
 
 mod evaluating;
 mod filters;
-mod given;
 mod inputs;
 mod leaves;
+mod output;
 mod stages;
 mod stop;
 mod writers;

@@ -11,8 +11,8 @@ ghost use Rattle.stage_kinds.specs.Held.{faults_of, op_of};
 ghost use Rattle.stage_options.specs.Roles.{Role};
 
 use crate::filters::filter_all;
-use crate::given::Given;
 use crate::leaves::leaf_views;
+use crate::output::StageOutput;
 use crate::stop::Stop;
 use crate::writers::written_views;
 use file_devices::{FileSink, Source};
@@ -28,7 +28,7 @@ pub(crate) fn stage_views<S: Source, K: FileSink>(
     alloc: Global,
     work: &mut StageWork<S, K>,
     taken: Views,
-) -> Result<Given, Stop>
+) -> Result<StageOutput, Stop>
     ensures ok { IfOk result (λ given. (role : Role) (row : Row) (las : Las) → IsFor K.bytes role row work.old → HasFile S.bytes las work.old
         → IsGivenBy K.bytes role row las taken work.new given) }
     ensures failed { IfErr result (HasFailed (op_of work.old) (Rose (faults_of S.faults K.faults work.old) (faults_of S.faults K.faults work.new))) }
@@ -37,7 +37,7 @@ pub(crate) fn stage_views<S: Source, K: FileSink>(
     match work {
         StageWork::Reader(_) | StageWork::Views(_) => leaf_views(alloc, work),
         StageWork::Filter(filter) => Ok(filter_all(alloc, replace(filter, Filter::Merge), taken)?),
-        StageWork::Collector(collector) => Ok(Given {
+        StageWork::Collector(collector) => Ok(StageOutput {
             views: gather(alloc, taken, collector.gathering())?,
             fault: None,
         }),

@@ -11,7 +11,7 @@ ghost use Rattle.stage_kinds.specs.Files.{chosen, count_of, sink_of};
 ghost use Rattle.stage_kinds.specs.Stages.{first_stop, holds_chosen, only_of, writes_of, writing_filter};
 ghost use Rattle.stage_meanings.specs.Filtering.{filtered_stop};
 
-use crate::given::Given;
+use crate::output::StageOutput;
 use crate::stop::Stop;
 use cloud_points::Point;
 use file_devices::{FileSink, Op};
@@ -110,7 +110,7 @@ pub(crate) fn written_views<K: FileSink>(
     alloc: Global,
     writer: &mut WriterStage<K>,
     views: Views,
-) -> Result<Given, Stop>
+) -> Result<StageOutput, Stop>
     ensures fault { IfOk result (λ given. count_of writer.old.file ≡ 0
         → given.fault ≡ filtered_stop (writing_filter (writes_of writer.old)) views) }
     ensures all { IfOk result (λ given. given.fault ≡ None → given.views ≡ views) }
@@ -121,8 +121,8 @@ pub(crate) fn written_views<K: FileSink>(
     ensures later { K.faults (sink_of writer.old.file) ≤ K.faults (sink_of writer.new.file) }
 {
     match write_all(writer, &views) {
-        Ok(()) => Ok(Given { views, fault: None }),
-        Err(WriteErr::Refused(number, reason)) => Ok(Given {
+        Ok(()) => Ok(StageOutput { views, fault: None }),
+        Err(WriteErr::Refused(number, reason)) => Ok(StageOutput {
             views: before_point(alloc, &views, number)?,
             fault: Some(reason.at(number)),
         }),
