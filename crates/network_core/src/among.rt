@@ -16,23 +16,6 @@ use chunk_queue::PlainQueue;
 use cloud_points::Work;
 use std::alloc::{AllocError, Global};
 
-/// So many empty queues.
-pub(crate) fn queues(
-    alloc: Global,
-    count: usize,
-    capacity: usize,
-) -> Result<Vec<PlainQueue>, AllocError>
-    requires some { 0 < capacity }
-    requires most { capacity ≤ 64 }
-    ensures { IfOk result (λ v. v.items ≡ replicate count (buffer [] capacity)) }
-{
-    let mut edges = Vec::with_capacity(alloc, count)?;
-    for _ in 0..count {
-        edges.push(PlainQueue::new(alloc, capacity)?)?;
-    }
-    Ok(edges)
-}
-
 /// A turn of node `at`, which reads the queue above its current child and gives to the one above itself. None is above
 /// the root.
 pub(crate) fn turn_among<W: Work>(

@@ -6,11 +6,13 @@ mod lists;
 mod net;
 mod node;
 mod parts;
+mod queues;
 mod steps;
 mod turned;
 
 pub use lists::{InsList, NodeList};
 pub use net::Net;
 pub use node::Node;
+pub use queues::Queues;
 pub use steps::Steps;
 pub use turned::{Turned, Why};

@@ -3,9 +3,10 @@
 ghost use Rattle.std.specs.Prelude.{◌≡◌};
 ghost use Rattle.network_core.specs.Wires.{IsWired, IsChild};
 
-use crate::among::{queues, turn_among};
+use crate::among::turn_among;
 use crate::lists::{InsList, NodeList};
 use crate::node::Node;
+use crate::queues::Queues;
 use crate::turned::Turned;
 use chunk_queue::PlainQueue;
 use cloud_points::Work;
@@ -54,17 +55,31 @@ impl<W: Work> Net<W> {
         ensures refused { IfErr result (λ e. e.0 ≡ nodes) }
     {
         let count = nodes.nodes.as_slice().len();
-        match queues(alloc, count - 1, capacity) {
-            Ok(edges) => {
-                let NodeList { nodes } = nodes;
-                Ok(Net {
-                    nodes,
-                    ins,
-                    edges,
-                    capacity,
-                })
-            }
+        match Queues::new(alloc, count - 1, capacity) {
+            Ok(queues) => Ok(Net::over(nodes, ins, queues)),
             Err(error) => Err((nodes, error)),
+        }
+    }
+
+    /// A net of these nodes over these queues, one for each node but the root. `ins` has the numbers of each node's children
+    /// in the order of its inputs, and the last node is the root. It takes no memory.
+    pub fn over(nodes: NodeList<W>, ins: InsList, queues: Queues) -> Net<W>
+        requires some { 0 < length nodes }
+        requires most { length nodes < 2 ^ 32 }
+        requires fresh { (k : ℕ) (n : code.Node W) → slice_get nodes k ≡ Some n
+            → IsFresh (shown W.Work (children ins k) n) }
+        requires forest { IsForest ins (length nodes - 1) }
+        requires queues { length queues.edges.items + 1 ≡ length nodes }
+        ensures nodes { (nodes_of result ≡ nodes) × (ins_of result ≡ ins) × (capacity_of result ≡ queues.capacity) }
+        ensures new { IsNewNet W.Work result }
+    {
+        let NodeList { nodes } = nodes;
+        let Queues { edges, capacity } = queues;
+        Net {
+            nodes,
+            ins,
+            edges,
+            capacity,
         }
     }
 

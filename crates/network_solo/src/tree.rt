@@ -1,6 +1,6 @@
 //! Trees of nodes that are run to their end.
 
-ghost use Rattle.std.specs.Prelude.{◌≡◌, ◌<◌, ◌≤◌, ◌-◌, ◌^◌, ℕ, Some, IfOk, IfErr, length, slice_get};
+ghost use Rattle.std.specs.Prelude.{◌≡◌, ◌<◌, ◌+◌, ◌-◌, ◌^◌, ℕ, Some, length, slice_get};
 ghost use Rattle.network_theory.specs.Forest.{IsForest, children};
 ghost use Rattle.network_theory.specs.Opening.{IsFresh};
 ghost use Rattle.network_core.specs.declared.node.Node as node_type;
@@ -11,8 +11,7 @@ ghost use Rattle.network_solo.specs.Trees.{IsRanTree};
 
 use crate::solo::Solo;
 use cloud_points::Work;
-use network_core::{InsList, Net, NodeList, Steps};
-use std::alloc::Global;
+use network_core::{InsList, Net, NodeList, Queues, Steps};
 use std::marker::Brand;
 use std::sync::ledger::{Blank, Ledger};
 
@@ -31,28 +30,18 @@ fn ran<W: Work, L: Ledger>(net: Net<W>, blank: Blank) -> Net<W>
     solo.into_net()
 }
 
-/// Lets new nodes take turns until all are done, over queues that have room for `capacity` items each, and hands the nodes
-/// back. `ins` has the numbers of each node's children in the order of its inputs, and the last node is the root. Where memory
-/// is wanting no node takes a turn.
-pub fn run_tree<W: Work>(
-    alloc: Global,
-    nodes: NodeList<W>,
-    ins: InsList,
-    capacity: usize,
-) -> Result<NodeList<W>, NodeList<W>>
+/// Lets new nodes take turns until all are done, over these queues, one for each node but the root, and hands the nodes back.
+/// `ins` has the numbers of each node's children in the order of its inputs, and the last node is the root. It takes no memory.
+pub fn run_tree<W: Work>(nodes: NodeList<W>, ins: InsList, queues: Queues) -> NodeList<W>
     requires some { 0 < length nodes }
     requires most { length nodes < 2 ^ 32 }
     requires fresh { (k : ℕ) (n : node_type.Node W) → slice_get nodes k ≡ Some n
         → IsFresh (shown W.Work (children ins k) n) }
     requires forest { IsForest ins (length nodes - 1) }
-    requires room { 0 < capacity }
-    requires small { capacity ≤ 64 }
-    ensures ran { IfOk result (λ ended. IsRanTree W.Work ins nodes ended) }
-    ensures over { IfOk result (λ ended. IsRanOver W.Work ins capacity nodes ended) }
-    ensures refused { IfErr result (λ back. back ≡ nodes) }
+    requires queues { length queues.edges.items + 1 ≡ length nodes }
+    ensures ran { IsRanTree W.Work ins nodes result }
+    ensures over { IsRanOver W.Work ins queues.capacity nodes result }
 {
-    match Net::new(alloc, nodes, ins, capacity) {
-        Ok(net) => Ok(ran::<W, Brand>(net, Blank::new(1)).into_nodes()),
-        Err((nodes, _)) => Err(nodes),
-    }
+    let net = Net::over(nodes, ins, queues);
+    ran::<W, Brand>(net, Blank::new(1)).into_nodes()
 }

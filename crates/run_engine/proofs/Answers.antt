@@ -1,6 +1,7 @@
 -- What a run comes to, by its steps.
 use Rattle.std.proofs.Common.{◌≡◌, ◌⊎◌, ℕ, ◌+◌, ◌≤◌, suc, ◌<◌, true, List, [], ◌∷◌, length, slice_get, Option, Some, None, Result, Ok, Err, IsOk, IsOkAnd, refl, ap, sym, subst, ◌∙◌, inl, inr, arith}
-use Rattle.std.proofs.lemmas.Option.{slice_get_within}
+use Rattle.std.specs.Prelude.{option_map}
+use Rattle.std.proofs.lemmas.Option.{same_Some, slice_get_within}
 use Rattle.file_devices.specs.Counts.{Rose, saturating}
 use Rattle.file_devices.specs.Named.{Names}
 use Rattle.file_devices.specs.declared.devices.Op.{Op}
@@ -10,30 +11,39 @@ use Rattle.file_devices.specs.declared.devices.Sink as sink
 use Rattle.network_core.proofs.Opened.{some_at}
 use Rattle.run_report.specs.declared.report.StageCount.{StageCount}
 use Rattle.stage_kinds.specs.declared.file_form.StageForm.{StageForm}
+use Rattle.stage_kinds.specs.declared.file_form.StageForm.TheVariants as form
+use Rattle.stage_kinds.specs.declared.file_form.Writing.{Writing}
+use Rattle.stage_kinds.specs.Files.{finishing_op}
 use Rattle.cloud_points.specs.declared.faults.PointFault.{PointFault}
 use Rattle.stage_kinds.specs.declared.stage_work.StageWork.{StageWork}
 use Rattle.stage_kinds.specs.declared.held.Held.{Held}
 use Rattle.stage_kinds.specs.declared.held.Held.TheVariants.{Nothing, Source, Sink}
 use Rattle.stage_kinds.specs.Held.{op_of, held_by, op_on}
 use Rattle.stage_options.specs.Roles.{Role, Reads, Filters, Gathers, Writes, is_writing}
+use Rattle.stage_options.specs.declared.options.Options.{Options}
+use Rattle.stage_options.specs.declared.options.Options.TheVariants.{WritersLas, WritersText}
 use Rattle.stage_options.specs.declared.stage.StageSpec.{StageSpec}
 use Rattle.run_report.specs.Reports.{report_of}
 use Rattle.run_report.specs.declared.refusal.Refusal.{Refusal}
 use Rattle.run_report.specs.declared.refusal.Refusal.TheVariants as of
 use Rattle.run_report.specs.declared.refusal.Place.TheVariants as at
 use Rattle.run_report.specs.declared.refusal.Fault.TheVariants as fault
-use Rattle.answer_model.specs.Values.{Opened, role_at, unbound_at, unless_fault, evaluated, least_fault, outputs_of, counts_of}
+use Rattle.answer_model.specs.Rows.{Setting}
+use Rattle.answer_model.specs.Values.{Opened, options_at, role_at, setting_at, unbound_at, unless_fault, evaluated, least_fault, outputs_of, counts_of}
 use Rattle.answer_model.specs.Runs.{Run, AreRead, holds, unread_at, unless_unread, unless_unbound, run_with, run_over, run_of, opened_in}
 use Rattle.answer_model.proofs.Least.{least-nowhere}
 use Rattle.stage_forms.specs.Below.{Tells}
-use Rattle.stage_runs.specs.Works.{op_for}
+use Rattle.stage_runs.specs.Works.{form_for, op_for}
+use Rattle.stage_runs.proofs.Works.{writes-form}
 use Rattle.las_reader.specs.declared.reader.LasReader.{LasReader}
 use Rattle.std.proofs.lemmas.List.Sums.{sum_by-cons}
-use Rattle.run_engine.specs.Begun.{AreBegun, there, all_held}
+use Rattle.run_engine.specs.Begun.{there, all_held}
 use Rattle.run_engine.specs.Keeping.{AreFor, kept_first, BrokeOff}
-use Rattle.run_engine.specs.Cause.{CanBegin, IsCause, IsEarly, IsLeft, IsRun, WerePut, WerePutBefore, AtRole}
+use Rattle.run_engine.specs.Cause.{CanBegin, IsCause, IsEarly, IsLeft, IsRun, WerePut, WerePutBefore, AtRole, patches}
+use Rattle.run_engine.specs.Jobs.{AreReady}
 use Rattle.set_engine.specs.Evaluated.{AreTold, IsUnevaluated}
-use Rattle.run_engine.specs.Turns.{AreLater, AreDone, IsUnfinished, IsRunCause}
+use Rattle.run_engine.specs.Turns.{AreLater, CameToEnd, AreDone, IsUnfinished}
+use Rattle.run_engine.proofs.Finishing.{finishing-writes}
 use Rattle.run_engine.proofs.Puts.{outputs_below, were-put, before-below}
 
 -- an early refusal leaves the files as they were
@@ -106,6 +116,31 @@ at-finishing earlier all right (Writes name) o a r is named = elim named [
   | inr e ↦ subst (AtRole earlier all right (Writes name)) (sym e) r
 ]
 
+-- nothing is patched while the stages take turns
+never-patched : (role : Role) → op_for role ≡ Some op.Patch → ⊥
+never-patched (Reads name) e = cc
+never-patched Filters e = cc
+never-patched Gathers e = cc
+never-patched (Writes name) e = cc
+
+-- what writes while they do is a writer
+writing-role : (role : Role) → op_for role ≡ Some op.Write → is_writing role ≡ true
+writing-role (Reads name) e = cc
+writing-role Filters e = cc
+writing-role Gathers e = cc
+writing-role (Writes name) e = refl
+
+-- by what a writer made of this ends its file
+abbrev last_op : StageForm → Op
+last_op (form.Writes x) = finishing_op x.form
+last_op _ = op.Read
+
+-- a writer whose file ends by a patch writes LAS
+patched-las : (o : Options) (setting : Setting) (x : Writing) → form_for o setting ≡ form.Writes x → finishing_op x.form ≡ op.Patch → patches o ≡ true
+patched-las (WritersLas o) setting x is e = refl
+patched-las (WritersText o) setting x is e = let no : op.Write ≡ op.Patch = ap last_op is ∙ e in cc
+patched-las o setting x is e = let no : op.Read ≡ op.Patch = ap last_op is ∙ e in cc
+
 -- a count that rose in a device rose in that of the files, once the device is given back
 rose-given : (before after files end : ℕ) → Rose before after → saturating files after ≤ end → Rose files end
 rose-given before after files end rose back = omega (arith, rose, back)
@@ -127,6 +162,7 @@ module _ {S K : Type 0} (s : source.Ghosts S) (faults : StageWork S K → ℕ) (
       inside = inside;
       come = at-turns (AreRead m stages i) (CanBegin m stages) (IsOk (run_of m stages)) (role_at stages i) o
           (λ j lt. (come m e).0 j (omega (arith, lt, inside))) (come m e) (sym (fit i c.before c.was) ∙ c.does);
+      patched = λ p. absurd (never-patched (role_at stages i) (sym (fit i c.before c.was) ∙ c.does ∙ ap (λ x. Some x) p));
     }),
   )
   turns-to-cause (of.Device at.PipelineFile o) c = absurd c
@@ -135,25 +171,39 @@ module _ {S K : Type 0} (s : source.Ghosts S) (faults : StageWork S K → ℕ) (
   turns-to-cause (of.Pipeline f) c = absurd c
   turns-to-cause (of.Usage k) c = absurd c
 
-  unfinished-to-cause : (r : Refusal) → IsUnfinished faults old new r → ((opened : Opened) → AreTold s old opened → least_fault stages opened ≡ None) → IsCause (Rose start end) map stages r
-  unfinished-to-cause (of.Device (at.Stage i) o) c sound = inr (
+-- a writer whose file couldn't be finished is the cause, where the stages came to their end
+module _ {S K : Type 0} (k : sink.Ghosts K) (faults : StageWork S K → ℕ) (map : Option Names) (stages : List StageSpec) (old new : List (StageWork S K)) (start mid end : ℕ)
+    (few : length old ≡ length stages) (fit : AreFor stages old)
+    (come : (m : Names) → map ≡ Some m → CanBegin m stages)
+    (counts : List StageCount) (came : (m : Names) → map ≡ Some m → CameToEnd k.bytes stages (opened_in m stages) old counts)
+    (low : start ≤ mid) (back : (i : ℕ) (w : StageWork S K) → slice_get new i ≡ Some w → saturating mid (faults w) ≤ end) where
+  pub unfinished-to-cause : (r : Refusal) → IsUnfinished faults old new r → IsCause (Rose start end) map stages r
+  unfinished-to-cause (of.Device (at.Stage i) o) c = inr (
     (let a = rose-given (faults c.before) (faults c.after) mid end c.rose (back i c.after c.is) in omega (arith, a, low)),
     λ m e. record {
       inside = (let a = slice_get_within old i c.before c.was in omega (arith, a, few));
       come = at-finishing (AreRead m stages i) (CanBegin m stages) (IsOk (run_of m stages)) (role_at stages i) o (come m e)
-          (subst IsOk (sym (run-right m stages (come m e) (sound (opened_in m stages) (tells m e)))) refl) (sym (fit i c.before c.was) ∙ c.writes) c.named;
+          (subst IsOk (sym (run-right m stages (come m e) (came m e).sound)) refl) does named.1;
+      patched = λ p.
+          let setting = setting_at stages (opened_in m stages) i in
+          let (x, is) = writes-form (options_at stages i) setting (writing-role (role_at stages i) does) in
+          let holds = (came m e).held i c.before c.was x is in
+          patched-las (options_at stages i) setting x is (same_Some (finishing_op x.form) o (ap (option_map (λ (y : Writing). finishing_op y.form)) (sym holds.is) ∙ c.named) ∙ p);
     },
   )
-  unfinished-to-cause (of.Device at.PipelineFile o) c sound = absurd c
-  unfinished-to-cause (of.Device at.Generated o) c sound = absurd c
-  unfinished-to-cause (of.Device at.Out o) c sound = absurd c
-  unfinished-to-cause (of.Data i f) c sound = absurd c
-  unfinished-to-cause of.Memory c sound = absurd c
-  unfinished-to-cause (of.Pipeline f) c sound = absurd c
-  unfinished-to-cause (of.Usage k) c sound = absurd c
+    where
+      named : (op_of c.before ≡ Some op.Write) × ((o ≡ op.Write) ⊎ (o ≡ op.Patch))
+      named = finishing-writes c.before o c.named
 
-  pub run-to-cause : (r : Refusal) → IsRunCause s faults stages old new r → IsCause (Rose start end) map stages r
-  run-to-cause r c = elim c [ inl t ↦ turns-to-cause r t | inr u ↦ unfinished-to-cause r u.0 u.1 ]
+      does : op_for (role_at stages i) ≡ Some op.Write
+      does = sym (fit i c.before c.was) ∙ named.0
+  unfinished-to-cause (of.Device at.PipelineFile o) c = absurd c
+  unfinished-to-cause (of.Device at.Generated o) c = absurd c
+  unfinished-to-cause (of.Device at.Out o) c = absurd c
+  unfinished-to-cause (of.Data i f) c = absurd c
+  unfinished-to-cause of.Memory c = absurd c
+  unfinished-to-cause (of.Pipeline f) c = absurd c
+  unfinished-to-cause (of.Usage k) c = absurd c
 
 -- no device fails in a keeping while stages take turns
 op-early : {S K : Type 0} (i : ℕ) (h : Held S K) (o : Op) → op_on h ≡ Some o → IsEarly (of.Device (at.Stage i) o)
@@ -182,8 +232,8 @@ named-early i o named = elim named [
   | inr e ↦ subst (λ x. IsEarly (of.Device (at.Stage i) x)) (sym e) tt
 ]
 
-unfinished-early : {S K : Type 0} (faults : StageWork S K → ℕ) (old new : List (StageWork S K)) (r : Refusal) → IsUnfinished faults old new r → IsEarly r
-unfinished-early faults old new (of.Device (at.Stage i) o) c = named-early i o c.named
+pub unfinished-early : {S K : Type 0} (faults : StageWork S K → ℕ) (old new : List (StageWork S K)) (r : Refusal) → IsUnfinished faults old new r → IsEarly r
+unfinished-early faults old new (of.Device (at.Stage i) o) c = named-early i o (finishing-writes c.before o c.named).1
 unfinished-early faults old new (of.Device at.PipelineFile o) c = tt
 unfinished-early faults old new (of.Device at.Generated o) c = tt
 unfinished-early faults old new (of.Device at.Out o) c = absurd c
@@ -191,9 +241,6 @@ unfinished-early faults old new of.Memory c = tt
 unfinished-early faults old new (of.Data i f) c = tt
 unfinished-early faults old new (of.Pipeline f) c = tt
 unfinished-early faults old new (of.Usage k) c = tt
-
-pub run-early : {S K : Type 0} (s : source.Ghosts S) (faults : StageWork S K → ℕ) (stages : List StageSpec) (old new : List (StageWork S K)) (r : Refusal) → IsRunCause s faults stages old new r → IsEarly r
-run-early s faults stages old new r c = elim c [ inl t ↦ turns-early s faults stages old new r t | inr u ↦ unfinished-early faults old new r u.0 ]
 
 module _ {S K : Type 0} (bytes : K → Option (List ℕ)) (stages : List StageSpec) (works : List (StageWork S K)) (few : length works ≡ length stages) where
   -- a file that wasn't kept is the cause, where the answer is right
@@ -205,6 +252,7 @@ module _ {S K : Type 0} (bytes : K → Option (List ℕ)) (stages : List StageSp
       λ m e. record {
         inside = (let a = broke.inside in omega (arith, a, few));
         come = at-keeping (AreRead m stages broke.stage) (CanBegin m stages) (IsOk (run_of m stages)) (role_at stages broke.stage) broke.writes (right m e);
+        patched = λ p. cc;
       },
     ))
   ]
@@ -243,28 +291,22 @@ pub same-held : {S K : Type 0} (faults : StageWork S K → ℕ) (old new : List 
 same-held faults old new later = held-same old new later.count (λ i v w e f. ap there (later.op i v w e f))
 
 -- a run whose stages came to their end
-module _ {S K : Type 0} (s : source.Ghosts S) (k : sink.Ghosts K) (map : Option Names) (stages : List StageSpec) (works done : List (StageWork S K)) (few : length works ≡ length stages)
-    (readers : List (Option (LasReader S))) (forms : List StageForm) (begun : AreBegun s k map stages readers forms works) (come : (m : Names) → map ≡ Some m → CanBegin m stages) (faults : StageWork S K → ℕ) (later : AreLater faults works done) where
-  pub works-tell : (m : Names) → map ≡ Some m → AreTold s works (opened_in m stages)
-  works-tell m e i w r a b = tells-there s m stages i r ((begun i w a).tells m e r b)
-
-  pub starts-fit : (i : ℕ) (w : StageWork S K) → slice_get works i ≡ Some w → op_of w ≡ op_for (role_at stages i)
-  starts-fit i w e = (begun i w e).device
-
+module _ {S K : Type 0} (s : source.Ghosts S) (k : sink.Ghosts K) (map : Option Names) (stages : List StageSpec) (works done : List (StageWork S K)) (ready : AreReady s k map stages works)
+    (faults : StageWork S K → ℕ) (later : AreLater faults works done) where
   pub fit : AreFor stages done
   fit i w e =
       let v = some_at works i (let a = slice_get_within done i w e in let b = later.count in omega (arith, a, b)) in
-      later.op i v.0 w v.1 e ∙ starts-fit i v.0 v.1
+      later.op i v.0 w v.1 e ∙ ready.devices i v.0 v.1
 
-  size : length done ≡ length stages
-  size = later.count ∙ few
+  pub size : length done ≡ length stages
+  size = later.count ∙ ready.count
 
   module _ (counts : List StageCount) (came : (opened : Opened) → AreTold s works opened → AreDone k.bytes stages opened done counts) where
     at-end : (m : Names) → map ≡ Some m → AreDone k.bytes stages (opened_in m stages) done counts
-    at-end m e = came (opened_in m stages) (works-tell m e)
+    at-end m e = came (opened_in m stages) (ready.tell m e)
 
     right : (m : Names) → map ≡ Some m → run_of m stages ≡ Ok (right_run stages (opened_in m stages))
-    right m e = run-right m stages (come m e) (at-end m e).sound
+    right m e = run-right m stages (ready.come m e) (at-end m e).sound
 
     first-kept : (m : Names) → map ≡ Some m → (n : ℕ) → n ≤ length done → (new : Option Names) → new ≡ kept_first k.bytes n map stages done → WerePut map (outputs_below stages (opened_in m stages) n) new
     first-kept m e n le new is = were-put stages (opened_in m stages) k.bytes done (at-end m e).told n map new le is

@@ -22,9 +22,9 @@ pub uncreated-cause : (rose : Type 0) (map : Option Names) (stages : List StageS
     → is_writing (role_at stages i) ≡ true → IsUncreated rose i refusal → IsCause rose map stages refusal
 uncreated-cause rose map stages i of.Memory lt come writes why = tt
 uncreated-cause rose map stages i (of.Device (at.Stage j) op.Create) lt come writes why = subst (λ k. IsCause rose map stages (of.Device (at.Stage k) op.Create)) (sym why.0)
-    (inr (why.1, λ m e. record { inside = lt; come = (at-writer (AreRead m stages i) (CanBegin m stages) (IsOk (run_of m stages)) (role_at stages i) writes (come m e)).0 }))
+    (inr (why.1, λ m e. record { inside = lt; come = (at-writer (AreRead m stages i) (CanBegin m stages) (IsOk (run_of m stages)) (role_at stages i) writes (come m e)).0; patched = λ p. cc }))
 uncreated-cause rose map stages i (of.Device (at.Stage j) op.Write) lt come writes why = subst (λ k. IsCause rose map stages (of.Device (at.Stage k) op.Write)) (sym why.0)
-    (inr (why.1, λ m e. record { inside = lt; come = (at-writer (AreRead m stages i) (CanBegin m stages) (IsOk (run_of m stages)) (role_at stages i) writes (come m e)).1 }))
+    (inr (why.1, λ m e. record { inside = lt; come = (at-writer (AreRead m stages i) (CanBegin m stages) (IsOk (run_of m stages)) (role_at stages i) writes (come m e)).1; patched = λ p. cc }))
 uncreated-cause rose map stages i (of.Device (at.Stage j) op.Open) lt come writes why = absurd why
 uncreated-cause rose map stages i (of.Device (at.Stage j) op.Read) lt come writes why = absurd why
 uncreated-cause rose map stages i (of.Device (at.Stage j) op.Patch) lt come writes why = absurd why

@@ -20,7 +20,8 @@ use Rattle.answer_model.specs.Values.{evaluated}
 use Rattle.stage_runs.specs.Works.{AreAtStart}
 use Rattle.run_engine.specs.Begun.{AreOpened, AreBegun, AreForms, AreNamesBound, IsUnbound, reader_of}
 use Rattle.run_engine.specs.Cause.{CanBegin, IsCause, IsEarly}
-use Rattle.run_engine.proofs.Answers.{all-read}
+use Rattle.run_engine.specs.Jobs.{AreReady}
+use Rattle.run_engine.proofs.Answers.{all-read, tells-there}
 use Rattle.run_engine.proofs.Opening.{are-read, have-readers}
 
 is-reader : {S K : Type 0} (w : StageWork S K) (r : LasReader S) → reader_of w ≡ Some r → w ≡ Reader r
@@ -68,3 +69,15 @@ pub can-begin : {S : Type 0} (s : source.Ghosts S) (map : Option Names) (stages 
     → AreNamesBound stages readers (length stages) → (m : Names) → map ≡ Some m → CanBegin m stages
 can-begin s map stages readers count are bound m e =
     (are-read s map stages readers (length stages) (sym count) are m e, λ i lt. bound (opened_in m stages) (have-readers s map stages readers are m e) i lt)
+
+-- works at their start over opened readers whose names are bound are ready
+pub are-ready : {S K : Type 0} (s : source.Ghosts S) (k : sink.Ghosts K) (map : Option Names) (stages : List StageSpec) (readers : List (Option (LasReader S))) (forms : List StageForm) (works : List (StageWork S K))
+    → length works ≡ length stages → length readers ≡ length stages → length forms ≡ length stages → AreForms stages readers forms → AreOpened s map stages readers
+    → AreNamesBound stages readers (length stages) → AreBegun s k map stages readers forms works → AreReady s k map stages works
+are-ready s k map stages readers forms works a b c are opened bound begun = record {
+  count = a;
+  starts = are-at-start s k map stages readers forms works a b c are begun;
+  devices = λ i w e. (begun i w e).device;
+  tell = λ m e i w r at is. tells-there s m stages i r ((begun i w at).tells m e r is);
+  come = can-begin s map stages readers b opened bound;
+}

@@ -11,6 +11,7 @@ use Rattle.std.proofs.lemmas.Option.{none-some}
 use Rattle.stage_kinds.specs.declared.stage_work.StageWork.TheVariants.{Reader, Filter, Collector, Views, Writer}
 use Rattle.std.specs.Prelude.{option_map}
 use Rattle.stage_kinds.specs.declared.file_form.FileForm.{FileForm}
+use Rattle.stage_kinds.specs.declared.file_form.Writing.{Writing}
 use Rattle.stage_kinds.specs.declared.file_form.FileForm.TheVariants as file
 use Rattle.stage_kinds.specs.Files.{file_form, finishing_op}
 use Rattle.stage_kinds.specs.Stages.{writing_of}
@@ -45,13 +46,12 @@ module _ {S K : Type 0} (bytes : K → Option (List ℕ)) (faults : StageWork S 
     | inr p ↦ (let ne = p.1 in before x a b (omega (arith, lt, ne)) e (sym (slice_get-set_other now i x w ne) ∙ f))
   ]
 
-  pub unfinished-here : (o : Op) → slice_get old i ≡ Some v → op_of v ≡ Some Write → (o ≡ Write) ⊎ (o ≡ Patch) → Rose (faults v) (faults w) → UnfinishedAt faults old (slice_set now i w) i o
-  unfinished-here o was writes named rose = record {
+  pub unfinished-here : (o : Op) → slice_get old i ≡ Some v → option_map (λ (x : Writing). finishing_op x.form) (writing_of v) ≡ Some o → Rose (faults v) (faults w) → UnfinishedAt faults old (slice_set now i w) i o
+  unfinished-here o was named rose = record {
     before = v;
     after = w;
     was = was;
     is = slice_get-set_same now i w inside;
-    writes = writes;
     named = named;
     rose = rose;
   }
@@ -60,7 +60,7 @@ module _ {S K : Type 0} (bytes : K → Option (List ℕ)) (faults : StageWork S 
   left-more k lt before x le = slice_get-set_other now i x w (λ e. absurd (omega (arith, lt, le, e))) ∙ before x (omega (arith, lt, le))
 
 -- a work whose file is finished by some operation writes, and that is an appending or a patch
-pub finishing-writes : {S K : Type 0} (w : StageWork S K) (o : Op) → option_map (λ x. finishing_op x.form) (writing_of w) ≡ Some o → (op_of w ≡ Some Write) × ((o ≡ Write) ⊎ (o ≡ Patch))
+pub finishing-writes : {S K : Type 0} (w : StageWork S K) (o : Op) → option_map (λ (x : Writing). finishing_op x.form) (writing_of w) ≡ Some o → (op_of w ≡ Some Write) × ((o ≡ Write) ⊎ (o ≡ Patch))
 finishing-writes (Reader r) o e = absurd (none-some o e)
 finishing-writes (Filter f) o e = absurd (none-some o e)
 finishing-writes (Collector c) o e = absurd (none-some o e)

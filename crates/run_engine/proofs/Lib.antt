@@ -16,3 +16,4 @@ pub mod Answers
 pub mod Bound
 pub mod Binding
 pub mod Plainly
+pub mod Jobs

@@ -75,6 +75,7 @@ unopened-cause rose map stages i refusal lt read why = go (role_at stages i) ref
         λ m e. record {
           inside = lt;
           come = subst (λ x. AtRole (AreRead m stages i) (CanBegin m stages) (IsOk (run_of m stages)) x o) (sym is) (at-reader (AreRead m stages i) (CanBegin m stages) (IsOk (run_of m stages)) name o (read m e) f.1);
+          patched = λ p. absurd (subst (AtRole ⊤ ⊥ ⊥ (Reads name)) p f.1);
         },
       )
     ])

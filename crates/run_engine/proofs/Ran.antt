@@ -35,7 +35,7 @@ use Rattle.stage_kinds.specs.Stages.{HoldsAll}
 use Rattle.stage_runs.specs.Ran.{EndsAsStage, AreRanStages}
 use Rattle.run_engine.specs.Outcomes.{device_op, point_fault, HasFirst, NoFault, node_count, AreCounted, IsOutcome}
 use Rattle.set_engine.specs.Evaluated.{AreTold, FailedAt, IsUnevaluated}
-use Rattle.run_engine.specs.Turns.{AreLater, AreFinished, CameToEnd, AreDone, IsUnfinished}
+use Rattle.run_engine.specs.Turns.{AreLater, AreFinished, CameToEnd, AreDone}
 use Rattle.run_engine.proofs.Lists.{length-mapped}
 use Rattle.set_engine.proofs.Lists.{same-lists, range-at}
 use Rattle.run_engine.proofs.Opening.{stage-is}
@@ -212,23 +212,3 @@ module _ {S K : Type 0} (faults : StageWork S K → ℕ) (old now new : List (St
         subst (λ bs. IsAsTold (told_by bytes w) (Some bs)) (row.bytes (chosen x.only ps) ∙ ap ((row_at stages opened i).bytes) (row.chooses ps))
         (finished i v.0 w v.1 e x ps (c.held i v.0 v.1 x is));
   }
-
-  pub unfinished-on : (r : Refusal) → IsUnfinished faults now new r → IsUnfinished faults old new r
-  unfinished-on (of.Device (at.Stage i) o) f =
-      let v = some_at old i (let a = slice_get_within now i f.before f.was in let b = first.count in omega (arith, a, b)) in
-      record {
-        before = v.0;
-        after = f.after;
-        was = v.1;
-        is = f.is;
-        writes = sym (first.op i v.0 f.before v.1 f.was) ∙ f.writes;
-        named = f.named;
-        rose = (let a = first.later i v.0 f.before v.1 f.was in let b = f.rose in omega (arith, a, b));
-      }
-  unfinished-on (of.Device at.PipelineFile o) u = absurd u
-  unfinished-on (of.Device at.Generated o) u = absurd u
-  unfinished-on (of.Device at.Out o) u = absurd u
-  unfinished-on (of.Data i f) u = absurd u
-  unfinished-on of.Memory u = absurd u
-  unfinished-on (of.Pipeline f) u = absurd u
-  unfinished-on (of.Usage n) u = absurd u

@@ -1,5 +1,5 @@
 -- Why a step was refused, and what it leaves.
-use Rattle.std.specs.Prelude.{◌≡◌, ◌⊎◌, ℕ, ◌+◌, ◌<◌, ◌≤◌, nat_lt, List, length, Option, Some, Result, Err, IsOk, IsOkAnd, ⊤}
+use Rattle.std.specs.Prelude.{◌≡◌, ◌⊎◌, ℕ, ◌+◌, ◌<◌, ◌≤◌, nat_lt, Bool, true, false, List, length, Option, Some, Result, Err, IsOk, IsOkAnd, ⊤}
 use Rattle.std.specs.List.{filter}
 use Rattle.file_devices.specs.Told.{IsAsTold}
 use Rattle.file_devices.specs.Named.{Names}
@@ -10,6 +10,8 @@ use Rattle.las_reader.specs.declared.opening.OpenErr.{OpenErr}
 use Rattle.las_reader.specs.declared.opening.OpenErr.TheVariants as opening
 use Rattle.stage_options.specs.Roles.{Role, Reads, Writes}
 use Rattle.stage_options.specs.declared.stage.StageSpec.{StageSpec}
+use Rattle.stage_options.specs.declared.options.Options.{Options}
+use Rattle.stage_options.specs.declared.options.Options.TheVariants.{WritersLas}
 use Rattle.run_report.specs.Reports.{report_of}
 use Rattle.run_report.specs.declared.report.StageCount.{StageCount}
 use Rattle.run_report.specs.declared.refusal.Fault.TheVariants as fault
@@ -17,7 +19,7 @@ use Rattle.run_report.specs.declared.refusal.Refusal.{Refusal}
 use Rattle.run_report.specs.declared.refusal.Refusal.TheVariants as of
 use Rattle.run_report.specs.declared.refusal.Place.{Place}
 use Rattle.run_report.specs.declared.refusal.Place.TheVariants as at
-use Rattle.answer_model.specs.Values.{Output, role_at}
+use Rattle.answer_model.specs.Values.{Output, options_at, role_at}
 use Rattle.answer_model.specs.Runs.{Run, AreRead, AreBound, put_all, run_of, unread}
 
 -- ---- causes
@@ -39,6 +41,11 @@ AtRole earlier all right (Writes name) op.Patch = right
 AtRole earlier all right (Writes name) op.Keep = right
 AtRole earlier all right role o = ⊥
 
+-- a stage with these options ends its file by a patch of its header
+abbrev pub patches : Options → Bool
+patches (WritersLas o) = true
+patches _ = false
+
 -- all files can be read, and all names of dimensions are bound
 abbrev pub CanBegin : Names → List StageSpec → Type 0
 CanBegin m stages = AreRead m stages (length stages) × AreBound m stages
@@ -47,6 +54,7 @@ CanBegin m stages = AreRead m stages (length stages) × AreBound m stages
 pub record MayFail (m : Names) (stages : List StageSpec) (i : ℕ) (o : Op) : Type 0 where
   pub inside : i < length stages
   pub come : AtRole (AreRead m stages i) (CanBegin m stages) (IsOk (run_of m stages)) (role_at stages i) o
+  pub patched : o ≡ op.Patch → patches (options_at stages i) ≡ true
 
 -- why a run was refused: the answer is that refusal, memory was wanting, or a device of its stages failed, so that the count of
 -- faults rose. Of files that aren't told only the last is known

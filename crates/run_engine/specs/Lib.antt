@@ -4,3 +4,4 @@ pub mod Begun
 pub mod Turns
 pub mod Outcomes
 pub mod Keeping
+pub mod Jobs

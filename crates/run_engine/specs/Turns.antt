@@ -1,16 +1,14 @@
 -- What turns, and the finishing of writers, make of the works of a tree's stages.
-use Rattle.std.specs.Prelude.{◌≡◌, ◌⊎◌, ℕ, ◌≤◌, true, List, length, slice_get, Option, Some, None}
+use Rattle.std.specs.Prelude.{◌≡◌, ℕ, ◌≤◌, true, List, length, slice_get, option_map, Option, Some, None}
 use Rattle.file_devices.specs.Counts.{Rose}
 use Rattle.file_devices.specs.Told.{IsAsTold}
 use Rattle.file_devices.specs.declared.devices.Op.{Op}
-use Rattle.file_devices.specs.declared.devices.Op.TheVariants.{Write, Patch}
-use Rattle.file_devices.specs.declared.devices.Source as source
 use Rattle.cloud_points.specs.declared.point.Point.{Point}
 use Rattle.cloud_points.specs.Flows.{points}
 use Rattle.stage_kinds.specs.declared.stage_work.StageWork.{StageWork}
 use Rattle.stage_kinds.specs.declared.file_form.StageForm.TheVariants.{Writes}
 use Rattle.stage_kinds.specs.declared.file_form.Writing.{Writing}
-use Rattle.stage_kinds.specs.Files.{chosen, file_bytes}
+use Rattle.stage_kinds.specs.Files.{chosen, file_bytes, finishing_op}
 use Rattle.stage_kinds.specs.Held.{op_of, told_by}
 use Rattle.stage_options.specs.Roles.{is_writing}
 use Rattle.stage_options.specs.declared.stage.StageSpec.{StageSpec}
@@ -19,8 +17,7 @@ use Rattle.run_report.specs.declared.refusal.Place.TheVariants as at
 use Rattle.run_report.specs.declared.refusal.Refusal.{Refusal}
 use Rattle.run_report.specs.declared.refusal.Refusal.TheVariants as of
 use Rattle.answer_model.specs.Values.{Opened, options_at, role_at, row_at, setting_at, stage_input, written_at, least_fault, counts_of}
-use Rattle.stage_kinds.specs.Stages.{HoldsAll}
-use Rattle.set_engine.specs.Evaluated.{AreTold, IsUnevaluated}
+use Rattle.stage_kinds.specs.Stages.{HoldsAll, writing_of}
 use Rattle.stage_runs.specs.Works.{form_for}
 
 -- the same works later: each holds the device that it held, whose count of faults didn't fall
@@ -42,8 +39,7 @@ pub record UnfinishedAt {S K : Type 0} (faults : StageWork S K → ℕ) (old new
   pub after : StageWork S K
   pub was : slice_get old i ≡ Some before
   pub is : slice_get new i ≡ Some after
-  pub writes : op_of before ≡ Some Write
-  pub named : (o ≡ Write) ⊎ (o ≡ Patch)
+  pub named : option_map (λ (x : Writing). finishing_op x.form) (writing_of before) ≡ Some o
   pub rose : Rose (faults before) (faults after)
 
 -- the stages came to their end over these files: none has a fault, they gave on so much, and writers hold what they took
@@ -64,8 +60,3 @@ pub record AreDone {S K : Type 0} (bytes : K → Option (List ℕ)) (stages : Li
 abbrev pub IsUnfinished : {S K : Type 0} → (StageWork S K → ℕ) → List (StageWork S K) → List (StageWork S K) → Refusal → Type 0
 IsUnfinished faults old new (of.Device (at.Stage i) o) = UnfinishedAt faults old new i o
 IsUnfinished faults old new refusal = ⊥
-
--- why the stages didn't come to their end, or else a writer to the end of its file
-abbrev pub IsRunCause : {S K : Type 0} → source.Ghosts S → (StageWork S K → ℕ) → List StageSpec → List (StageWork S K) → List (StageWork S K) → Refusal → Type 0
-IsRunCause s faults stages old new refusal = IsUnevaluated s faults stages old new refusal
-    ⊎ (IsUnfinished faults old new refusal × ((opened : Opened) → AreTold s old opened → least_fault stages opened ≡ None))

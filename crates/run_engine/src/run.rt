@@ -9,14 +9,8 @@ ghost use Rattle.stage_options.specs.Shapes.{shapes};
 ghost use Rattle.answer_model.specs.Runs.{run_of};
 ghost use Rattle.run_engine.specs.Cause.{IsCause, IsRun, IsLeft};
 
-use crate::begin::begin_works;
-use crate::bind::bind_stages;
 use crate::engine::Engine;
-use crate::evaluate::evaluate;
-use crate::finish::Ran;
-use crate::keep::keep_works;
-use crate::open::open_readers;
-use crate::release::{give_back, release_works};
+use crate::preparing::prepare;
 use file_devices::Files;
 use run_report::{Refusal, Report};
 use stage_options::StageSpec;
@@ -46,30 +40,10 @@ pub fn run_pipeline<F: Files>(
     ensures lent { F.lent files.new ≡ F.lent files.old }
     ensures later { F.faults files.old ≤ F.faults files.new }
 {
-    let readers = match open_readers(alloc, files, stages) {
-        Ok(readers) => readers,
+    let mut job = match prepare(alloc, files, stages, engine) {
+        Ok(job) => job,
         Err(refusal) => return Err(refusal),
     };
-    let forms = match bind_stages(alloc, stages, readers.as_slice()) {
-        Ok(forms) => forms,
-        Err(refusal) => {
-            give_back(files, readers);
-            return Err(refusal);
-        }
-    };
-    let works = match begin_works(alloc, files, readers, forms, stages) {
-        Ok(works) => works,
-        Err(refusal) => return Err(refusal),
-    };
-    let Ran { works, outcome } = evaluate(alloc, works, stages, engine);
-    match outcome {
-        Ok(report) => match keep_works(files, works, stages) {
-            Ok(()) => Ok(report),
-            Err(refusal) => Err(refusal),
-        },
-        Err(refusal) => {
-            release_works(files, works);
-            Err(refusal)
-        }
-    }
+    let _enough = job.run_solo(alloc, stages);
+    job.close(files, stages)
 }

@@ -1,5 +1,5 @@
 -- The net of a part streams the values of its stages.
-use Rattle.std.proofs.Common.{◌≡◌, ◌≢◌, ◌⊎◌, ℕ, zero, suc, ◌-◌, ◌<◌, ◌≤◌, ◌==◌, ◌&&◌, not, if◌then◌else◌, Bool, true, false, true≢false, List, [], ◌∷◌, map, length, Option, Some, None, is_some, refl, ap, sym, subst, ◌∙◌, inl, inr, arith}
+use Rattle.std.proofs.Common.{◌≡◌, ◌≢◌, ◌⊎◌, ℕ, zero, suc, ◌<◌, ◌≤◌, ◌==◌, ◌&&◌, not, if◌then◌else◌, Bool, true, false, true≢false, List, [], ◌∷◌, map, length, Option, Some, None, is_some, refl, ap, sym, subst, ◌∙◌, inl, inr, arith}
 use Rattle.std.specs.Prelude.{slice_get}
 use Rattle.std.proofs.lemmas.Bool.Decides.{eqb_tells}
 use Rattle.std.proofs.lemmas.Option.{none-some, slice_get_within}
@@ -23,7 +23,6 @@ use Rattle.stage_kinds.specs.Held.{op_of}
 use Rattle.stage_kinds.specs.Reads.{tells_of, told_of, told_fault_of}
 use Rattle.stage_kinds.specs.Stages.{is_leaf, is_short, state_of, collector_work, holds_of}
 use Rattle.stage_kinds.proofs.Gathering.{collector-gives, collector-holds}
-use Rattle.view_works.specs.declared.collector.Collector.{Collector as Collects}
 use Rattle.view_works.specs.Collecting.{held as held_of}
 use Rattle.whole_filters.specs.declared.gathering.Gathering.{Gathering}
 use Rattle.stage_options.specs.Roles.{is_gathering}

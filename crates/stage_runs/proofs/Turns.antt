@@ -63,7 +63,7 @@ module _ {S K : Type 0} (s : source.Ghosts S) (k : sink.Ghosts K) (stages : List
   abbrev part : ℕ → ℕ → List (List ℕ)
   part home root = part_ins gathers ins homes home root
 
-  same-part : (home root : ℕ) → part home root ≡ part_ins (gathers_of stages) (ins_of stages) homes home root
+  pub same-part : (home root : ℕ) → part home root ≡ part_ins (gathers_of stages) (ins_of stages) homes home root
   same-part home root = ap (λ gs. part_ins gs ins homes home root) gathers_is ∙ ap (λ xss. part_ins (gathers_of stages) xss homes home root) ins_is
 
   pub gathers-here : (i : ℕ) → gathers_at gathers i ≡ is_gathering (role_at stages i)

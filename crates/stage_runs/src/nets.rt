@@ -1,6 +1,6 @@
 //! Nets of nodes that take turns until all are done.
 
-ghost use Rattle.std.specs.Prelude.{◌≡◌, [], ◌∷◌, ◌-◌, ◌<◌, ◌≤◌, ◌^◌, ℕ, true, false, length, slice_get, Some, None, IfOk};
+ghost use Rattle.std.specs.Prelude.{◌≡◌, [], ◌∷◌, ◌+◌, ◌-◌, ◌<◌, ◌≤◌, ◌^◌, ℕ, true, false, length, slice_get, Some, None, IfOk};
 ghost use Rattle.cloud_points.specs.Flows.{empty_flow};
 ghost use Rattle.network_core.specs.declared.node.Node as node_type;
 ghost use Rattle.network_core.specs.Shown.{shown};
@@ -15,7 +15,7 @@ ghost use Rattle.stage_runs.specs.Works.{as_works};
 ghost use Rattle.stage_runs.specs.Parts.{AreLater, AreStandIns, Gives, IsLater, IsNewLeaf};
 
 use file_devices::{FileSink, Source};
-use network_core::{InsList, Node, NodeList};
+use network_core::{InsList, Node, NodeList, Queues};
 use network_solo::run_tree;
 use stage_kinds::StageWork;
 use std::alloc::{AllocError, Global};
@@ -62,7 +62,7 @@ fn any_short<S: Source, K: FileSink>(nodes: &[Node<StageWork<S, K>>]) -> bool
     false
 }
 
-/// The nodes of a net, and whether they took turns until all were done, with memory enough at each.
+/// The nodes of a net that took turns until all were done, and whether each had memory enough.
 pub(crate) struct Ran<S, K: FileSink> {
     pub(crate) nodes: Vec<Node<StageWork<S, K>>>,
     pub(crate) enough: bool,
@@ -79,35 +79,25 @@ pub(crate) fn let_go<S: Source, K: FileSink>(nodes: Vec<Node<StageWork<S, K>>>)
     nodes.destroy_empty();
 }
 
-/// Lets the new nodes of a net take turns until all are done, over queues of `queue` items. The last one is the root.
+/// Lets the new nodes of a net take turns until all are done, over these queues. The last one is the root.
 pub(crate) fn run_net<S: Source, K: FileSink>(
-    alloc: Global,
     nodes: Vec<Node<StageWork<S, K>>>,
     ins: InsList,
-    queue: usize,
+    queues: Queues,
 ) -> Ran<S, K>
     requires some { 0 < length nodes.items }
     requires most { length nodes.items < 2 ^ 32 }
     requires fresh { (i : ℕ) (n : node_type.Node (work_type.StageWork S K)) → slice_get nodes.items i ≡ Some n → IsFresh (shown (as_works S.Source K.Sink) (children ins i) n) }
     requires forest { IsForest ins (length nodes.items - 1) }
-    requires room { 0 < queue }
-    requires small { queue ≤ 64 }
+    requires queues { length queues.edges.items + 1 ≡ length nodes.items }
     ensures later { AreLater S.Source K.Sink nodes.items result.nodes.items }
-    ensures ran { result.enough ≡ true → IsRanTree (as_works S.Source K.Sink) ins nodes.items result.nodes.items }
-    ensures over { result.enough ≡ true → IsRanOver (as_works S.Source K.Sink) ins queue nodes.items result.nodes.items }
+    ensures ran { IsRanTree (as_works S.Source K.Sink) ins nodes.items result.nodes.items }
+    ensures over { IsRanOver (as_works S.Source K.Sink) ins queues.capacity nodes.items result.nodes.items }
     ensures enough { result.enough ≡ true → (i : ℕ) (n : node_type.Node (work_type.StageWork S K)) → slice_get result.nodes.items i ≡ Some n → is_short n.work ≡ false }
 {
-    match run_tree(alloc, NodeList::new(nodes), ins, queue) {
-        Ok(nodes) => {
-            let nodes = nodes.into_vec();
-            let enough = !any_short(&nodes);
-            Ran { nodes, enough }
-        }
-        Err(nodes) => Ran {
-            nodes: nodes.into_vec(),
-            enough: false,
-        },
-    }
+    let nodes = run_tree(NodeList::new(nodes), ins, queues).into_vec();
+    let enough = !any_short(&nodes);
+    Ran { nodes, enough }
 }
 
 /// A node that took turns alone until it was done, and whether there was memory enough.
@@ -138,8 +128,12 @@ pub(crate) fn run_alone<S: Source, K: FileSink>(
     let Ok(mut nodes) = Vec::with_capacity(alloc, 1) else {
         return Alone { node, enough };
     };
+    let Ok(queues) = Queues::new(alloc, 0, queue) else {
+        nodes.destroy_empty();
+        return Alone { node, enough };
+    };
     nodes.push_reserved(node);
-    let Ran { mut nodes, enough } = run_net(alloc, nodes, InsList::new(ins), queue);
+    let Ran { mut nodes, enough } = run_net(nodes, InsList::new(ins), queues);
     let Some(node) = nodes.pop() else {
         unreachable!()
     };

@@ -10,31 +10,18 @@ ghost use Rattle.stage_kinds.specs.declared.stage_work.StageWork as work_type;
 ghost use Rattle.stage_parts.specs.Parts.{is_of, part_ins};
 ghost use Rattle.stage_runs.specs.Works.{as_works};
 ghost use Rattle.stage_runs.specs.Parts.{IsExchanged, is_own, IsNewLeaf, IsCollecting, IsRenewed, IsPartRun, IsLeafRun, IsGatheredAt, AreSameOrLater};
+ghost use Rattle.stage_runs.specs.Rooms.{IsRoom};
 
-use crate::nets::{Alone, Ran, let_go, run_alone, run_net, stand_in, stand_ins};
+use crate::nets::{Alone, Ran, let_go, run_alone, run_net, stand_in};
 use crate::plan::Plan;
+use crate::rooms::PartRoom;
+use crate::sizes::Sizes;
 use cloud_points::Work;
 use file_devices::{FileSink, Source};
 use network_core::Node;
 use stage_kinds::StageWork;
-use stage_parts::part_ins;
 use std::alloc::{AllocError, Global};
 use std::mem;
-
-/// How much the nodes of a net hold.
-#[derive(Clone, Copy)]
-pub(crate) struct Sizes {
-    /// How many points a leaf makes at once: 1 to 64.
-    pub(crate) chunk: usize,
-
-    /// How many items wait between two nodes: 1 to 64.
-    pub(crate) queue: usize,
-
-    pub ghost some: { 0 < chunk },
-    pub ghost most: { chunk ≤ 64 },
-    pub ghost room: { 0 < queue },
-    pub ghost small: { queue ≤ 64 },
-}
 
 /// Exchanges the nodes of a part for those that stand at their places in its net, whose last one is the root.
 fn exchange<T>(nodes: &mut [T], net: &mut [T], homes: &[u32], home: u32)
@@ -71,20 +58,20 @@ fn renew_root<W: Work>(net: &mut Vec<Node<W>>, inputs: u32, chunk: usize)
     }
 }
 
-/// Lets the nodes of the part of a home take turns until all are done. Each node stays at its place. Refuses where memory is wanting.
+/// Lets the nodes of the part of a home take turns until all are done, in its memory. Each node stays at its place. Refuses where memory
+/// is wanting.
 pub(crate) fn run_part<S: Source, K: FileSink>(
-    alloc: Global,
     nodes: &mut [Node<StageWork<S, K>>],
     plan: &Plan,
+    room: PartRoom<S, K>,
     home: u32,
     root: usize,
     sizes: Sizes,
 ) -> Result<(), AllocError>
     requires root { root < length nodes.old }
     requires few { length nodes.old ≤ 64 }
-    requires ins { length plan.now.ins ≡ length nodes.old }
-    requires gathers { length plan.now.gathers.items ≡ length nodes.old }
     requires homes { length plan.now.homes.items ≡ length nodes.old }
+    requires room { IsRoom S.Source K.Sink (part_ins plan.now.gathers.items plan.now.ins plan.now.homes.items home root) root sizes.queue room }
     requires forest { IsForest (part_ins plan.now.gathers.items plan.now.ins plan.now.homes.items home root) root }
     requires fresh { (i : ℕ) (n : node_type.Node (work_type.StageWork S K)) → i < root → is_of plan.now.homes.items home i ≡ true → slice_get nodes.old i ≡ Some n
         → IsFresh (shown (as_works S.Source K.Sink) (children (part_ins plan.now.gathers.items plan.now.ins plan.now.homes.items home root) i) n) }
@@ -93,22 +80,18 @@ pub(crate) fn run_part<S: Source, K: FileSink>(
     ensures later { AreSameOrLater S.Source K.Sink nodes.old nodes.new }
     ensures run { OnOk result (IsPartRun S.Source K.Sink sizes.queue (part_ins plan.now.gathers.items plan.now.ins plan.now.homes.items home root) plan.now.homes.items home root nodes.old nodes.new) }
 {
+    let PartRoom {
+        ins,
+        mut net,
+        queues,
+    } = room;
     let homes = plan.homes.as_slice();
-    let part = part_ins(
-        alloc,
-        &plan.ins,
-        plan.gathers.as_slice(),
-        homes,
-        home,
-        root as u32,
-    )?;
-    let mut net = stand_ins(alloc, root + 1, sizes.chunk)?;
     lend(nodes, &mut net, homes, home);
-    renew_root(&mut net, part.children(root).len() as u32, sizes.chunk);
+    renew_root(&mut net, ins.children(root).len() as u32, sizes.chunk);
     let Ran {
         nodes: mut net,
         enough,
-    } = run_net(alloc, net, part, sizes.queue);
+    } = run_net(net, ins, queues);
     lend(nodes, &mut net, homes, home);
     let_go(net);
     if enough { Ok(()) } else { Err(AllocError) }

@@ -3,7 +3,7 @@ use Rattle.std.proofs.lemmas.Option.{slice_get_read, slice_get_within}
 use Rattle.stage_kinds.specs.Held.{faults_of}
 use Rattle.run_engine.specs.Turns.{IsFinished}
 use Rattle.run_engine.proofs.Outcomes.{same_some}
-use Rattle.run_engine.proofs.Finishing.{later-more, finished-more, left-more, unfinished-here, finishing-writes}
+use Rattle.run_engine.proofs.Finishing.{later-more, finished-more, left-more, unfinished-here}
 use Rattle.run_engine.proofs.finish.finish.Goals as goal
 
 pub loop-i-preserved : goal.loop-i-preserved
@@ -38,9 +38,8 @@ returns-in-Err-clause-err g c =
     let v = c.index_mut.result.now in
     let here = slice_get_read c.loop-i.works.items (length c.loop-i.works.items) c.loop-i.i v refl lt c.index_mut.ensures.value in
     let was = sym (now.left c.loop-i.i (omega arith)) ∙ here in
-    let does = finishing-writes v c.in-Err.op c.in-Err.ensures.named in
     unfinished-here g.K.Sink.bytes (faults_of g.S.Source.faults g.K.Sink.faults) c.args.works.items c.loop-i.works.items c.loop-i.i v c.finish.new.self now.later here c.finish.ensures.op c.finish.ensures.cause.later
-    c.in-Err.op was does.0 does.1 c.in-Err.ensures.cause.failed
+    c.in-Err.op was c.in-Err.ensures.named c.in-Err.ensures.cause.failed
 
 pub returns-clause-finished : goal.returns-clause-finished
 returns-clause-finished g c = λ x v w e f.

@@ -11,7 +11,7 @@ use Rattle.set_engine.specs.Evaluated.{IsUnevaluated}
 use Rattle.run_engine.specs.Turns.{AreLater, CameToEnd}
 use Rattle.run_engine.proofs.Results.{if-ok3, if-err, ok-same}
 use Rattle.run_engine.proofs.Ran.{later, came, turns-cause, no-fault-device}
-use Rattle.run_engine.proofs.turns.turn_works.Goals.{in-Ok-ran, in-Err}
+use Rattle.run_engine.proofs.turns.turn_works.Goals.{in-Ok, in-Err}
 use Rattle.run_engine.proofs.turns.turn_works.Goals as goal
 
 pub returns-clause-later : goal.returns-clause-later
@@ -41,8 +41,8 @@ returns-clause-ok g c =
     let back = slice-back old new c.nodes_over-nodes.result.len lasted.count c.nodes_over-nodes.result.ok.0 in
     let is-works = c.works_in-works.ensures ∙ ap (map work_of) back in
     elim c.match-ran.branch [
-      | in-Ok-ran w ↦ (
-          let ran = subst (λ xs. AreRanStages s k stages xs new) c.as_mut_slice.ensures.value w.in-Ok-ran.ensures.ran in
+      | in-Ok w ↦ (
+          let ran = subst (λ xs. AreRanStages s k stages xs new) c.as_mut_slice.ensures.value w.in-Ok.ensures.ran in
           let nodes = w.deref.ensures.value ∙ back in
           let out = w.outcome-outcome.ensures in
           ok-same _ c.match-ran.outcome w.outcome-outcome.result w.outcome-is (if-ok3 w.outcome-outcome.result out.sound out.count out.counted (λ report sound count counted opened tell.
@@ -67,8 +67,8 @@ returns-clause-err g c =
     let is-works = c.works_in-works.ensures ∙ ap (map work_of) back in
     let P = IsUnevaluated s (faults_of s.faults k.faults) stages works c.works_in-works.result.items in
     elim c.match-ran.branch [
-      | in-Ok-ran w ↦ (
-          let ran = subst (λ xs. AreRanStages s k stages xs new) c.as_mut_slice.ensures.value w.in-Ok-ran.ensures.ran in
+      | in-Ok w ↦ (
+          let ran = subst (λ xs. AreRanStages s k stages xs new) c.as_mut_slice.ensures.value w.in-Ok.ensures.ran in
           subst (λ o. IfErr o P) (sym w.outcome-is) (if-err w.outcome-outcome.result w.outcome-outcome.ensures.err (λ refusal out.
           subst (λ ws. IsUnevaluated s (faults_of s.faults k.faults) stages works ws refusal) (sym is-works)
           (turns-cause s k stages old new works made.works made.new lasted ran refusal (subst (λ (ns : List (Node _)). IsOutcome ns refusal) (w.deref.ensures.value ∙ back) out)))))
@@ -102,5 +102,5 @@ works_in-works-requires-clause-room g c =
     let left = ap (λ (ns : List (Node _)). length ns) back in
     let stay = lasted.count in
     let many = made.new.count in
-    let room = c.in-Ok-with_capacity.ensures.capacity in
+    let room = c.requires.room.works_room in
     omega (arith, left, stay, many, room)

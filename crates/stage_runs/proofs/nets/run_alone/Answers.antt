@@ -13,7 +13,7 @@ use Rattle.stage_runs.proofs.nets.run_alone.Goals as goal
 pub run_net-nodes-requires-clause-fresh : goal.run_net-nodes-requires-clause-fresh
 run_net-nodes-requires-clause-fresh g c =
     let one : c.push_reserved-2.new.self.items ≡ c.args.node ∷ [] = c.push_reserved-2.ensures.items ∙ ap (λ (xs : List (Node _)). xs ++ c.args.node ∷ []) c.in-Ok-with_capacity.ensures.items in
-    let ins : c.new-2.result ≡ [] ∷ [] = c.new-2.ensures ∙ ap (map (λ v. v.items)) (c.push_reserved.ensures.items ∙ ap (λ xs. xs ++ c.new.result ∷ []) c.in-Ok.ensures.items) ∙ ap (λ xs. xs ∷ []) c.new.ensures.items in
+    let ins : c.new-3.result ≡ [] ∷ [] = c.new-3.ensures ∙ ap (map (λ v. v.items)) (c.push_reserved.ensures.items ∙ ap (λ xs. xs ++ c.new.result ∷ []) c.in-Ok.ensures.items) ∙ ap (λ xs. xs ∷ []) c.new.ensures.items in
     subst (λ xss. (i : ℕ) (n : Node _) → slice_get c.push_reserved-2.new.self.items i ≡ Some n → IsFresh (shown (as_works g.S.Source g.K.Sink) (children xss i) n)) (sym ins)
     (subst (λ (ns : List (Node _)). (i : ℕ) (n : Node _) → slice_get ns i ≡ Some n → IsFresh (shown (as_works g.S.Source g.K.Sink) (children ([] ∷ []) i) n)) (sym one)
     (alone-fresh g.S.Source g.K.Sink c.args.node c.requires.leaf))
@@ -21,13 +21,13 @@ run_net-nodes-requires-clause-fresh g c =
 pub run_net-nodes-requires-clause-forest : goal.run_net-nodes-requires-clause-forest
 run_net-nodes-requires-clause-forest g c =
     let one : c.push_reserved-2.new.self.items ≡ c.args.node ∷ [] = c.push_reserved-2.ensures.items ∙ ap (λ (xs : List (Node _)). xs ++ c.args.node ∷ []) c.in-Ok-with_capacity.ensures.items in
-    let ins : c.new-2.result ≡ [] ∷ [] = c.new-2.ensures ∙ ap (map (λ v. v.items)) (c.push_reserved.ensures.items ∙ ap (λ xs. xs ++ c.new.result ∷ []) c.in-Ok.ensures.items) ∙ ap (λ xs. xs ∷ []) c.new.ensures.items in
+    let ins : c.new-3.result ≡ [] ∷ [] = c.new-3.ensures ∙ ap (map (λ v. v.items)) (c.push_reserved.ensures.items ∙ ap (λ xs. xs ++ c.new.result ∷ []) c.in-Ok.ensures.items) ∙ ap (λ xs. xs ∷ []) c.new.ensures.items in
     subst (λ xss. IsForest xss (length c.push_reserved-2.new.self.items - 1)) (sym ins) (subst (λ (ns : List (Node _)). IsForest ([] ∷ []) (length ns - 1)) (sym one) alone-forest)
 
 pub returns-clause-later : goal.returns-clause-later
 returns-clause-later g c =
     let one : c.push_reserved-2.new.self.items ≡ c.args.node ∷ [] = c.push_reserved-2.ensures.items ∙ ap (λ (xs : List (Node _)). xs ++ c.args.node ∷ []) c.in-Ok-with_capacity.ensures.items in
-    let ins : c.new-2.result ≡ [] ∷ [] = c.new-2.ensures ∙ ap (map (λ v. v.items)) (c.push_reserved.ensures.items ∙ ap (λ xs. xs ++ c.new.result ∷ []) c.in-Ok.ensures.items) ∙ ap (λ xs. xs ∷ []) c.new.ensures.items in
+    let ins : c.new-3.result ≡ [] ∷ [] = c.new-3.ensures ∙ ap (map (λ v. v.items)) (c.push_reserved.ensures.items ∙ ap (λ xs. xs ++ c.new.result ∷ []) c.in-Ok.ensures.items) ∙ ap (λ xs. xs ∷ []) c.new.ensures.items in
     let size = ap (λ (ns : List (Node _)). length ns) one in
     let back : c.run_net-nodes.result.nodes.items ≡ c.in-Some.node ∷ [] = only-one c.pop.new.self.items c.run_net-nodes.result.nodes.items c.in-Some.node c.in-Some.ensures.items (c.run_net-nodes.ensures.later.count ∙ size) in
     let later = subst (λ (ns : List (Node _)). AreLater g.S.Source g.K.Sink (c.args.node ∷ []) ns) back (subst (λ (ns : List (Node _)). AreLater g.S.Source g.K.Sink ns c.run_net-nodes.result.nodes.items) one c.run_net-nodes.ensures.later) in
@@ -36,27 +36,28 @@ returns-clause-later g c =
 pub returns-clause-ran : goal.returns-clause-ran
 returns-clause-ran g c = λ enough.
     let one : c.push_reserved-2.new.self.items ≡ c.args.node ∷ [] = c.push_reserved-2.ensures.items ∙ ap (λ (xs : List (Node _)). xs ++ c.args.node ∷ []) c.in-Ok-with_capacity.ensures.items in
-    let ins : c.new-2.result ≡ [] ∷ [] = c.new-2.ensures ∙ ap (map (λ v. v.items)) (c.push_reserved.ensures.items ∙ ap (λ xs. xs ++ c.new.result ∷ []) c.in-Ok.ensures.items) ∙ ap (λ xs. xs ∷ []) c.new.ensures.items in
+    let ins : c.new-3.result ≡ [] ∷ [] = c.new-3.ensures ∙ ap (map (λ v. v.items)) (c.push_reserved.ensures.items ∙ ap (λ xs. xs ++ c.new.result ∷ []) c.in-Ok.ensures.items) ∙ ap (λ xs. xs ∷ []) c.new.ensures.items in
     let size = ap (λ (ns : List (Node _)). length ns) one in
     let back : c.run_net-nodes.result.nodes.items ≡ c.in-Some.node ∷ [] = only-one c.pop.new.self.items c.run_net-nodes.result.nodes.items c.in-Some.node c.in-Some.ensures.items (c.run_net-nodes.ensures.later.count ∙ size) in
     subst (λ (ns : List (Node _)). IsRanTree (as_works g.S.Source g.K.Sink) ([] ∷ []) (c.args.node ∷ []) ns) back
     (subst (λ (ns : List (Node _)). IsRanTree (as_works g.S.Source g.K.Sink) ([] ∷ []) ns c.run_net-nodes.result.nodes.items) one
-    (subst (λ xss. IsRanTree (as_works g.S.Source g.K.Sink) xss c.push_reserved-2.new.self.items c.run_net-nodes.result.nodes.items) ins (c.run_net-nodes.ensures.ran enough)))
+    (subst (λ xss. IsRanTree (as_works g.S.Source g.K.Sink) xss c.push_reserved-2.new.self.items c.run_net-nodes.result.nodes.items) ins c.run_net-nodes.ensures.ran))
 
 pub returns-clause-over : goal.returns-clause-over
 returns-clause-over g c = λ enough.
     let one : c.push_reserved-2.new.self.items ≡ c.args.node ∷ [] = c.push_reserved-2.ensures.items ∙ ap (λ (xs : List (Node _)). xs ++ c.args.node ∷ []) c.in-Ok-with_capacity.ensures.items in
-    let ins : c.new-2.result ≡ [] ∷ [] = c.new-2.ensures ∙ ap (map (λ v. v.items)) (c.push_reserved.ensures.items ∙ ap (λ xs. xs ++ c.new.result ∷ []) c.in-Ok.ensures.items) ∙ ap (λ xs. xs ∷ []) c.new.ensures.items in
+    let ins : c.new-3.result ≡ [] ∷ [] = c.new-3.ensures ∙ ap (map (λ v. v.items)) (c.push_reserved.ensures.items ∙ ap (λ xs. xs ++ c.new.result ∷ []) c.in-Ok.ensures.items) ∙ ap (λ xs. xs ∷ []) c.new.ensures.items in
     let size = ap (λ (ns : List (Node _)). length ns) one in
     let back : c.run_net-nodes.result.nodes.items ≡ c.in-Some.node ∷ [] = only-one c.pop.new.self.items c.run_net-nodes.result.nodes.items c.in-Some.node c.in-Some.ensures.items (c.run_net-nodes.ensures.later.count ∙ size) in
-    subst (λ (ns : List (Node _)). IsRanOver (as_works g.S.Source g.K.Sink) ([] ∷ []) c.args.queue (c.args.node ∷ []) ns) back
-    (subst (λ (ns : List (Node _)). IsRanOver (as_works g.S.Source g.K.Sink) ([] ∷ []) c.args.queue ns c.run_net-nodes.result.nodes.items) one
-    (subst (λ xss. IsRanOver (as_works g.S.Source g.K.Sink) xss c.args.queue c.push_reserved-2.new.self.items c.run_net-nodes.result.nodes.items) ins (c.run_net-nodes.ensures.over enough)))
+    subst (λ n. IsRanOver (as_works g.S.Source g.K.Sink) ([] ∷ []) n (c.args.node ∷ []) (c.in-Some.node ∷ [])) c.in-Ok-new.ensures.room
+    (subst (λ (ns : List (Node _)). IsRanOver (as_works g.S.Source g.K.Sink) ([] ∷ []) c.in-Ok-new.queues.capacity (c.args.node ∷ []) ns) back
+    (subst (λ (ns : List (Node _)). IsRanOver (as_works g.S.Source g.K.Sink) ([] ∷ []) c.in-Ok-new.queues.capacity ns c.run_net-nodes.result.nodes.items) one
+    (subst (λ xss. IsRanOver (as_works g.S.Source g.K.Sink) xss c.in-Ok-new.queues.capacity c.push_reserved-2.new.self.items c.run_net-nodes.result.nodes.items) ins c.run_net-nodes.ensures.over)))
 
 pub returns-clause-enough : goal.returns-clause-enough
 returns-clause-enough g c = λ enough.
     let one : c.push_reserved-2.new.self.items ≡ c.args.node ∷ [] = c.push_reserved-2.ensures.items ∙ ap (λ (xs : List (Node _)). xs ++ c.args.node ∷ []) c.in-Ok-with_capacity.ensures.items in
-    let ins : c.new-2.result ≡ [] ∷ [] = c.new-2.ensures ∙ ap (map (λ v. v.items)) (c.push_reserved.ensures.items ∙ ap (λ xs. xs ++ c.new.result ∷ []) c.in-Ok.ensures.items) ∙ ap (λ xs. xs ∷ []) c.new.ensures.items in
+    let ins : c.new-3.result ≡ [] ∷ [] = c.new-3.ensures ∙ ap (map (λ v. v.items)) (c.push_reserved.ensures.items ∙ ap (λ xs. xs ++ c.new.result ∷ []) c.in-Ok.ensures.items) ∙ ap (λ xs. xs ∷ []) c.new.ensures.items in
     let size = ap (λ (ns : List (Node _)). length ns) one in
     let back : c.run_net-nodes.result.nodes.items ≡ c.in-Some.node ∷ [] = only-one c.pop.new.self.items c.run_net-nodes.result.nodes.items c.in-Some.node c.in-Some.ensures.items (c.run_net-nodes.ensures.later.count ∙ size) in
     c.run_net-nodes.ensures.enough enough 0 c.in-Some.node (ap (λ (ns : List (Node _)). slice_get ns 0) back)

@@ -1,4 +1,4 @@
-use Rattle.std.proofs.Common.{◌≡◌, ◌<◌, ◌≤◌, sym, subst, arith}
+use Rattle.std.proofs.Common.{sym, subst, arith}
 use Rattle.stage_runs.specs.Parts.{AreStandIns}
 use Rattle.stage_runs.proofs.Later.{none-stand-in, one-stands-in}
 use Rattle.stage_runs.proofs.nets.stand_ins.Goals as goal

@@ -1,4 +1,4 @@
-use Rattle.std.proofs.Common.{◌≡◌, ◌≤◌, vec_len}
+use Rattle.std.proofs.Common.{◌≤◌}
 use Rattle.std.specs.Prelude.{vec_capacity}
 use Rattle.stage_runs.specs.Parts.{AreStandIns}
 use Rattle.stage_runs.proofs.nets.stand_ins.Given as goal

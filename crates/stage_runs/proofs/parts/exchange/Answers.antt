@@ -1,4 +1,4 @@
-use Rattle.std.proofs.Common.{◌≡◌, ◌-◌, ◌+◌, ◌<◌, true, length, subst, sym, arith}
+use Rattle.std.proofs.Common.{◌≡◌, ◌-◌, ◌+◌, true, length, subst, sym, arith}
 use Rattle.stage_runs.specs.Parts.{IsExchanged, is_own}
 use Rattle.stage_runs.proofs.Exchanged.{swapped, other-more, at-root, at-home, at-neither}
 use Rattle.stage_runs.proofs.parts.exchange.Goals as goal

@@ -1,4 +1,4 @@
-use Rattle.std.proofs.Common.{◌≡◌, ◌-◌, length}
+use Rattle.std.proofs.Common.{◌-◌, length}
 use Rattle.stage_runs.specs.Parts.{IsExchanged, is_own}
 use Rattle.stage_runs.proofs.parts.exchange.Given as goal
 

@@ -1,9 +1,9 @@
-use Rattle.std.proofs.Common.{◌≡◌, ℕ, List, [], get_or, slice_set, None, refl, ap, sym, subst, ◌∙◌}
+use Rattle.std.proofs.Common.{◌≡◌, ℕ, List, [], get_or, slice_set, refl, ap, sym, subst, ◌∙◌}
 use Rattle.network_core.specs.declared.node.Node.{Node}
 use Rattle.stage_kinds.specs.Gathers.{IsGathered}
 use Rattle.stage_kinds.specs.Held.{op_of, held_by}
 use Rattle.stage_runs.specs.Parts.{IsGatheredAt, AreSameOrLater}
-use Rattle.stage_runs.proofs.Gathered.{collecting-op, gathered-leaf, new-leaf, here, stand-in-op, emptied-later, made-later, made-there}
+use Rattle.stage_runs.proofs.Gathered.{gathered-leaf, new-leaf, here, stand-in-op, emptied-later, made-later, made-there}
 use Rattle.stage_runs.proofs.parts.gather_at.Goals as goal
 
 -- the work that was taken is that of the node

@@ -1,4 +1,4 @@
-use Rattle.std.proofs.Common.{◌-◌, length, sym, subst, ◌∙◌}
+use Rattle.std.proofs.Common.{◌-◌, length, sym, subst}
 use Rattle.stage_runs.specs.Parts.{IsExchanged, is_own}
 use Rattle.stage_runs.proofs.Lending.{slice-back}
 use Rattle.stage_runs.proofs.parts.lend.Goals as goal

@@ -1,4 +1,4 @@
-use Rattle.std.proofs.Common.{◌≡◌, ℕ, List, [], ◌∷◌, get_or, slice_set, refl, ap, sym, subst, ◌∙◌}
+use Rattle.std.proofs.Common.{[], ◌∷◌, get_or, slice_set, ap, sym, subst, ◌∙◌}
 use Rattle.network_core.specs.declared.node.Node.{Node}
 use Rattle.network_solo.specs.Runs.{IsRanOver}
 use Rattle.network_solo.specs.Trees.{IsRanTree}

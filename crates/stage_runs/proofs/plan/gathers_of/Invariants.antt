@@ -1,4 +1,4 @@
-use Rattle.std.proofs.Common.{◌≡◌, ◌≤◌, ◌+◌, ◌++◌, drop, length, vec_len}
+use Rattle.std.proofs.Common.{◌≡◌, ◌≤◌, ◌++◌, drop, length, vec_len}
 use Rattle.std.specs.Prelude.{vec_capacity}
 use Rattle.stage_runs.specs.Parts.{gathers_of}
 use Rattle.stage_runs.proofs.plan.gathers_of.Given as goal

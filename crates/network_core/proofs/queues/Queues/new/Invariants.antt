@@ -1,6 +1,6 @@
 use Rattle.std.proofs.Common.{◌≡◌, [], replicate}
 use Rattle.circular_buffer.specs.Buffer.{buffer}
-use Rattle.network_core.proofs.among.queues.Given as goal
+use Rattle.network_core.proofs.queues.Queues.new.Given as goal
 
 abbrev pub invariant-loop : goal.invariant-loop
 invariant-loop l = l.edges.items ≡ replicate l.counter (buffer [] l.capacity)

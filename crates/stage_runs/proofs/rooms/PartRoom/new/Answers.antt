@@ -1,0 +1,15 @@
+use Rattle.std.proofs.Common.{ap, ◌∙◌}
+use Rattle.stage_parts.specs.Parts.{part_ins}
+use Rattle.stage_runs.proofs.rooms.PartRoom.new.Goals as goal
+
+pub returns : goal.returns
+returns g c =
+    let plan = c.args.plan.now in
+    record {
+      ins = c.in_ok-ins.ensures
+          ∙ ap (λ gs. part_ins gs plan.ins c.as_slice-homes.result.now c.args.home c.args.root) c.as_slice-gathers.ensures.value
+          ∙ ap (λ hs. part_ins plan.gathers.items plan.ins hs c.args.home c.args.root) c.as_slice-homes.ensures.value;
+      net = c.in_ok-net.ensures;
+      queues = c.in_ok-queues.ensures.count;
+      capacity = c.in_ok-queues.ensures.room;
+    }
