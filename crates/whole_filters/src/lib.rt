@@ -5,6 +5,7 @@ mod gathering;
 mod grouping;
 mod laws;
 mod ordering;
+mod places;
 mod rows;
 mod tailing;
 mod views;

@@ -14,7 +14,7 @@ use std::alloc::{AllocError, Global};
 /// key stay in their order, downwards too. Of cut views nothing is left but that they are cut.
 ///
 /// It is refused for want of memory alone; each view then has its points in some order. Beside the views it takes room for
-/// the points of the longest one, and gives it back.
+/// the keys and places of the points of the longest one, and gives it back.
 pub fn sort(alloc: Global, views: &mut Views, dim: Dim, down: bool) -> Result<(), AllocError>
     requires { views.old.cut ≡ false → views.old.open_view ≡ [] }
     ensures ok { OnOk result (views.new ≡ whole_set (sorted (λ p. key_of p dim) down) views.old) }

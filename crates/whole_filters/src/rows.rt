@@ -1,13 +1,12 @@
 //! The points of one held view.
 
 ghost use Rattle.std.specs.Prelude.{◌≡◌, ◌-◌, ◌++◌, ◌∷◌, [], drop, length, OnOk, OnErr};
-ghost use Rattle.std.specs.Ordering.{is_lt};
 ghost use Rattle.cloud_points.specs.Points.{key_of};
 ghost use Rattle.whole_filters.specs.Whole.{before, sorted_by};
 
+use crate::places::put_in_order;
 use cloud_points::{Dim, Point};
 use std::alloc::{AllocError, Global};
-use std::cmp::Ordering;
 use std::marker::Model;
 
 /// A growing list of points.
@@ -71,7 +70,8 @@ impl Rows {
         ensures ok { OnOk result (self.new ≡ sorted_by (before (λ p. key_of p dim) down) self.old) }
         ensures refused { OnErr result (self.new ≡ self.old) }
     {
-        self.points.sort_by(|a, b| order(a, b, dim, down))
+        let alloc = *self.points.allocator();
+        put_in_order(alloc, self.points.as_mut_slice(), dim, down)
     }
 
     /// Keeps the last `count` points, and all where there are no more.
@@ -90,14 +90,4 @@ impl Rows {
     {
         self.points.as_slice()
     }
-}
-
-// How two points stand by their keys, upwards or downwards.
-fn order(a: &Point, b: &Point, dim: Dim, down: bool) -> Ordering
-    ensures { is_lt result ≡ before (λ p. key_of p dim) down a.now b.now }
-{
-    if down {
-        return b.key(dim).cmp(&a.key(dim));
-    }
-    a.key(dim).cmp(&b.key(dim))
 }

@@ -1,0 +1,88 @@
+-- A sort of entries stands for a sort of their points.
+use Rattle.std.proofs.Common.{◌≡◌, ℕ, ◌<◌, Bool, true, false, cond, List, [], ◌∷◌, length, get_or, map, refl, ap, sym, ◌∙◌, subst, arith}
+use Rattle.std.specs.Prelude.{ℤ, int_lt, pos, ◌-ℤ◌}
+use Rattle.std.specs.Cmp.{IsStrictWeakOrder}
+use Rattle.std.specs.List.{range_with_len}
+use Rattle.std.specs.List.Sorted.{IsPermutation}
+use Rattle.std.proofs.lemmas.List.{same_lists, get_or-map, get_or_default, length-map, map-id}
+use Rattle.std.proofs.lemmas.List.FromFn.{fill_by_all}
+use Rattle.std.proofs.lemmas.List.Sorted.{IsPermutation-map}
+use Rattle.std.proofs.lemmas.Int.{ints}
+use Rattle.cloud_points.specs.Points.{key_of}
+use Rattle.cloud_points.specs.declared.dims.Dim.{Dim}
+use Rattle.cloud_points.specs.declared.point.Point.{Point}
+use Rattle.whole_filters.specs.Whole.{before, insert_by, sorted_by}
+use Rattle.whole_filters.specs.Places.{AreKeyed, middle_of, short_key}
+use Rattle.whole_filters.specs.declared.places.Entry.{Entry}
+use Rattle.whole_filters.proofs.Sorting.{Each, each_at, each-insert, before-order}
+
+map-map : {A B C : Type 0} (f : B → C) (g : A → B) (xs : List A) → map f (map g xs) ≡ map (λ x. f (g x)) xs
+map-map f g [] = refl
+map-map f g (x ∷ xs) = ap (λ z. f (g x) ∷ z) (map-map f g xs)
+
+module _ {E P : Type 0} (f : E → P) (lt : E → E → Bool) (order : IsStrictWeakOrder lt) (less : P → P → Bool) (Q : E → Type 0) (agree : (a b : E) → Q a → Q b → less (f a) (f b) ≡ lt a b) where
+  insert_by-map : (e : E) (es : List E) → Q e → Each Q es → insert_by less (f e) (map f es) ≡ map f (insert_by lt e es)
+  insert_by-map e [] q qs = refl
+  insert_by-map e (x ∷ xs) q qs =
+      ap (λ b. cond b (f x ∷ insert_by less (f e) (map f xs)) (f e ∷ f x ∷ map f xs)) (agree x e qs.0 q) ∙ go (lt x e) (insert_by-map e xs q qs.1)
+    where
+      go : (b : Bool) → insert_by less (f e) (map f xs) ≡ map f (insert_by lt e xs) → cond b (f x ∷ insert_by less (f e) (map f xs)) (f e ∷ f x ∷ map f xs) ≡ map f (cond b (x ∷ insert_by lt e xs) (e ∷ x ∷ xs))
+      go true ih = ap (λ z. f x ∷ z) ih
+      go false ih = refl
+
+  each-sorted : (es : List E) → Each Q es → Each Q (sorted_by lt es)
+  each-sorted [] qs = tt
+  each-sorted (e ∷ es) qs = each-insert lt order Q e (sorted_by lt es) qs.0 (each-sorted es qs.1)
+
+  sorted_by-map : (es : List E) → Each Q es → sorted_by less (map f es) ≡ map f (sorted_by lt es)
+  sorted_by-map [] qs = refl
+  sorted_by-map (e ∷ es) qs = ap (insert_by less (f e)) (sorted_by-map es qs.1) ∙ insert_by-map e (sorted_by lt es) qs.0 (each-sorted es qs.1)
+
+-- numbers stand as they do once the same is taken from each
+shifted : (m : ℕ) (a b : ℤ) → int_lt (a -ℤ pos m) (b -ℤ pos m) ≡ int_lt a b
+shifted m a b = grind (arith, ints)
+
+none : Entry
+none = record { key = pos 0; place = 0 }
+
+module _ (dim : Dim) (points : List Point) (es : List Entry) (keyed : AreKeyed dim points (length points) es) where
+  places_are : map (λ (e : Entry). e.place) es ≡ range_with_len 0 (length points)
+  places_are = fill_by_all (λ k. k) (map (λ (e : Entry). e.place) es) (length points) 0 (length-map es (λ (e : Entry). e.place) ∙ keyed.each)
+      (λ k l. get_or-map (λ (e : Entry). e.place) es k none 0 (omega (arith, keyed.each, l)) ∙ keyed.place k none l)
+      ∙ map-id (range_with_len 0 (length points))
+
+  -- a list with the same entries names each place once
+  pub each_place : (sorted : List Entry) → IsPermutation es sorted → IsPermutation (range_with_len 0 (length points)) (map (λ (e : Entry). e.place) sorted)
+  each_place sorted moved = subst (λ z. IsPermutation z (map (λ (e : Entry). e.place) sorted)) places_are (IsPermutation-map (λ (e : Entry). e.place) es sorted moved)
+
+  module _ (down : Bool) (d : Point) where
+    abbrev point_of : Entry → Point
+    point_of e = get_or points e.place d
+
+    abbrev KeyOf : Entry → Type 0
+    KeyOf e = e.key ≡ short_key dim (key_of (point_of e) dim)
+
+    points_are : map point_of es ≡ points
+    points_are = same_lists _ _ (length-map es point_of ∙ keyed.each)
+        (λ k e l. let in_es : k < length es = omega (arith, length-map es point_of, l) in let in_points : k < length points = omega (arith, keyed.each, in_es) in
+        get_or-map point_of es k none e in_es ∙ ap (λ z. get_or points z d) (keyed.place k none in_points) ∙ get_or_default points k d e in_points)
+
+    keys_are : Each KeyOf es
+    keys_are = each_at KeyOf es (λ k e l. let in_points : k < length points = omega (arith, keyed.each, l) in
+        keyed.key k d e in_points ∙ ap (λ z. short_key dim (key_of (get_or points z d) dim)) (sym (keyed.place k e in_points)))
+
+    same_test : (a b : Entry) → KeyOf a → KeyOf b → int_lt (key_of (point_of a) dim) (key_of (point_of b) dim) ≡ int_lt a.key b.key
+    same_test a b p q = sym (shifted (middle_of dim) (key_of (point_of a) dim) (key_of (point_of b) dim))
+        ∙ ap (λ z. int_lt z (short_key dim (key_of (point_of b) dim))) (sym p) ∙ ap (λ z. int_lt a.key z) (sym q)
+
+    agree : (a b : Entry) → KeyOf a → KeyOf b → before (λ (p : Point). key_of p dim) down (point_of a) (point_of b) ≡ before (λ (e : Entry). e.key) down a b
+    agree a b p q = ap (λ z. cond down z (int_lt (key_of (point_of a) dim) (key_of (point_of b) dim))) (same_test b a q p)
+        ∙ ap (λ z. cond down (int_lt b.key a.key) z) (same_test a b p q)
+
+    -- and in the order of the keys, the points in that order
+    pub places_in_order : (sorted : List Entry) → sorted ≡ sorted_by (before (λ (e : Entry). e.key) down) es
+        → map (λ k. get_or points k d) (map (λ (e : Entry). e.place) sorted) ≡ sorted_by (before (λ (p : Point). key_of p dim) down) points
+    places_in_order sorted e =
+        map-map (λ k. get_or points k d) (λ (x : Entry). x.place) sorted ∙ ap (map point_of) e
+        ∙ sym (sorted_by-map point_of (before (λ (x : Entry). x.key) down) (before-order (λ (x : Entry). x.key) down) (before (λ (p : Point). key_of p dim) down) KeyOf agree es keys_are)
+        ∙ ap (sorted_by (before (λ (p : Point). key_of p dim) down)) points_are

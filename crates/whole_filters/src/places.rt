@@ -1,0 +1,130 @@
+//! The order of the points of a view: their keys and places are sorted, and each point then moves to its place.
+
+ghost use Rattle.std.specs.Prelude.{◌≡◌, IfOk, OnOk, OnErr, List, ℕ, length, map, get_or};
+ghost use Rattle.std.specs.Ordering.{is_lt};
+ghost use Rattle.std.specs.List.{range_with_len};
+ghost use Rattle.std.specs.List.Sorted.{IsPermutation};
+ghost use Rattle.cloud_points.specs.Points.{key_of};
+ghost use Rattle.cloud_points.specs.declared.point.Point.{Point};
+ghost use Rattle.whole_filters.specs.Whole.{before, sorted_by};
+ghost use Rattle.whole_filters.specs.Places.{AreKeyed, AreInverse, short_key};
+
+use cloud_points::{Dim, Point};
+use std::alloc::{AllocError, Global};
+use std::cmp::Ordering;
+
+/// The middle of the keys of times, which are 64 bits without a sign.
+const MIDDLE: i128 = 1 << 63;
+
+/// The key of a point in 64 bits, and the place where the point stands.
+#[derive(Clone, Copy)]
+struct Entry {
+    key: i64,
+    place: usize,
+}
+
+const _: () = prove!(size_of::<Entry>() == 16);
+
+/// Orders points by their keys, upwards or downwards; those of one key stay in their order. It is refused for want of
+/// memory alone. Beside the points it takes room for their keys and places, and gives it back.
+pub fn put_in_order(
+    alloc: Global,
+    points: &mut [Point],
+    dim: Dim,
+    down: bool,
+) -> Result<(), AllocError>
+    ensures ok { OnOk result (points.new ≡ sorted_by (before (λ p. key_of p dim) down) points.old) }
+    ensures refused { OnErr result (points.new ≡ points.old) }
+{
+    let mut sources = order_of(alloc, points, dim, down)?;
+    let mut targets = inverse_of(alloc, sources.as_slice())?;
+    arrange(points, sources.as_mut_slice(), targets.as_mut_slice());
+    Ok(())
+}
+
+// The places at which the points stand, in the order of their keys.
+fn order_of(alloc: Global, points: &[Point], dim: Dim, down: bool) -> Result<Vec<usize>, AllocError>
+    ensures each_once { IfOk result (λ places. IsPermutation (range_with_len 0 (length points.now)) places.items) }
+    ensures in_order { IfOk result (λ places. (d : Point) → map (λ k. get_or points.now k d) places.items
+        ≡ sorted_by (before (λ p. key_of p dim) down) points.now) }
+{
+    let mut entries = keyed(alloc, points, dim)?;
+    entries.sort_by(|a, b| order(a, b, down))?;
+    places_of(alloc, entries.as_slice())
+}
+
+// The keys of points, with the places where they stand.
+fn keyed(alloc: Global, points: &[Point], dim: Dim) -> Result<Vec<Entry>, AllocError>
+    ensures { IfOk result (λ entries. AreKeyed dim points.now (length points.now) entries.items) }
+{
+    let mut entries = Vec::with_capacity(alloc, points.len())?;
+    for place in 0..points.len() {
+        entries.push(Entry {
+            key: short_key(&points[place], dim),
+            place,
+        })?;
+    }
+    Ok(entries)
+}
+
+// The key of a point in 64 bits, in the order of its whole key.
+fn short_key(p: &Point, dim: Dim) -> i64
+    ensures { result ≡ short_key dim (key_of p.now dim) }
+{
+    // A read of one field tells the proof how large the others are.
+    let _first = p.extra[0];
+    match dim {
+        Dim::GpsTime => (p.key(dim) - MIDDLE) as i64,
+        Dim::Extra(place) => p.extra[place.min(7) as usize],
+        _ => p.key(dim) as i64,
+    }
+}
+
+// How two entries stand by their keys, upwards or downwards.
+fn order(a: &Entry, b: &Entry, down: bool) -> Ordering
+    ensures { is_lt result ≡ before (λ e. e.key) down a.now b.now }
+{
+    if down {
+        return b.key.cmp(&a.key);
+    }
+    a.key.cmp(&b.key)
+}
+
+fn places_of(alloc: Global, entries: &[Entry]) -> Result<Vec<usize>, AllocError>
+    ensures { IfOk result (λ places. places.items ≡ map (λ e. e.place) entries.now) }
+{
+    let mut places = Vec::with_capacity(alloc, entries.len())?;
+    for entry in entries {
+        places.push(entry.place)?;
+    }
+    Ok(places)
+}
+
+// At each place, which of the places names it.
+fn inverse_of(alloc: Global, places: &[usize]) -> Result<Vec<usize>, AllocError>
+    requires { IsPermutation (range_with_len 0 (length places.now)) places.now }
+    ensures { IfOk result (λ inverse. AreInverse 0 places.now inverse.items) }
+{
+    let mut inverse = vec![in alloc; 0; places.len()]?;
+    for k in 0..places.len() {
+        inverse[places[k]] = k;
+    }
+    Ok(inverse)
+}
+
+// Moves each point to its place. The sources say where the points stand that go to each place, and the targets where the
+// point at each place goes.
+fn arrange(points: &mut [Point], sources: &mut [usize], targets: &mut [usize])
+    requires inverse { AreInverse 0 sources.old targets.old }
+    requires each_point { length sources.old ≡ length points.old }
+    ensures { (d : Point) → points.new ≡ map (λ k. get_or points.old k d) sources.old }
+{
+    for place in 0..points.len() {
+        let source = sources[place];
+        let target = targets[place];
+        points.swap(place, source);
+        // The point that stood here stands at the source now.
+        sources[target] = source;
+        targets[source] = target;
+    }
+}
