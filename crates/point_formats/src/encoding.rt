@@ -119,6 +119,7 @@ fn new_flags(p: &Point) -> Result<u8, EncodeFault>
 }
 
 /// The record of format 0, with which those of formats 1 to 3 begin.
+#[inline(always)]
 fn old_record(p: &Point, grid: &Grid) -> Result<[u8; 20], EncodeFault>
     requires near { IsNear grid.now }
     ensures { result ≡ encoded F0 grid.now p.now }
@@ -141,6 +142,7 @@ fn old_record(p: &Point, grid: &Grid) -> Result<[u8; 20], EncodeFault>
 }
 
 /// The record of format 6, with which those of formats 7 and 8 begin.
+#[inline(always)]
 fn new_record(p: &Point, grid: &Grid) -> Result<[u8; 30], EncodeFault>
     requires near { IsNear grid.now }
     ensures { result ≡ encoded F6 grid.now p.now }
