@@ -12,7 +12,7 @@ use Rattle.cloud_points.specs.Points.{key_of}
 use Rattle.cloud_points.specs.declared.dims.Dim.{Dim}
 use Rattle.cloud_points.specs.declared.point.Point.{Point}
 use Rattle.whole_filters.specs.Whole.{before, insert_by, sorted_by}
-use Rattle.whole_filters.specs.Places.{AreKeyed, middle_of, short_key}
+use Rattle.whole_filters.specs.Places.{AreKeyed, middle_of, short_key, turned}
 use Rattle.whole_filters.specs.declared.places.Entry.{Entry}
 use Rattle.whole_filters.proofs.Sorting.{Each, each_at, each-insert, before-order}
 
@@ -38,14 +38,21 @@ module _ {E P : Type 0} (f : E → P) (lt : E → E → Bool) (order : IsStrictW
   sorted_by-map [] qs = refl
   sorted_by-map (e ∷ es) qs = ap (insert_by less (f e)) (sorted_by-map es qs.1) ∙ insert_by-map e (sorted_by lt es) qs.0 (each-sorted es qs.1)
 
--- numbers stand as they do once the same is taken from each
-shifted : (m : ℕ) (a b : ℤ) → int_lt (a -ℤ pos m) (b -ℤ pos m) ≡ int_lt a b
-shifted m a b = grind (arith, ints)
+-- numbers stand as they do once the same is taken from each, and the other way round once they are turned
+moved : (m : ℕ) (a b : ℤ) → int_lt (a -ℤ pos m) (b -ℤ pos m) ≡ int_lt a b
+moved m a b = grind (arith, ints)
+
+turned_round : (a b : ℤ) → int_lt (turned true a) (turned true b) ≡ int_lt b a
+turned_round a b = grind (arith, ints)
+
+shifted : (down : Bool) (m : ℕ) (a b : ℤ) → int_lt (turned down (a -ℤ pos m)) (turned down (b -ℤ pos m)) ≡ cond down (int_lt b a) (int_lt a b)
+shifted true m a b = turned_round (a -ℤ pos m) (b -ℤ pos m) ∙ moved m b a
+shifted false m a b = moved m a b
 
 none : Entry
 none = record { key = pos 0; place = 0 }
 
-module _ (dim : Dim) (points : List Point) (es : List Entry) (keyed : AreKeyed dim points (length points) es) where
+module _ (dim : Dim) (down : Bool) (points : List Point) (es : List Entry) (keyed : AreKeyed dim down points (length points) es) where
   places_are : map (λ (e : Entry). e.place) es ≡ range_with_len 0 (length points)
   places_are = fill_by_all (λ k. k) (map (λ (e : Entry). e.place) es) (length points) 0 (length-map es (λ (e : Entry). e.place) ∙ keyed.each)
       (λ k l. get_or-map (λ (e : Entry). e.place) es k none 0 (omega (arith, keyed.each, l)) ∙ keyed.place k none l)
@@ -55,12 +62,12 @@ module _ (dim : Dim) (points : List Point) (es : List Entry) (keyed : AreKeyed d
   pub each_place : (sorted : List Entry) → IsPermutation es sorted → IsPermutation (range_with_len 0 (length points)) (map (λ (e : Entry). e.place) sorted)
   each_place sorted moved = subst (λ z. IsPermutation z (map (λ (e : Entry). e.place) sorted)) places_are (IsPermutation-map (λ (e : Entry). e.place) es sorted moved)
 
-  module _ (down : Bool) (d : Point) where
+  module _ (d : Point) where
     abbrev point_of : Entry → Point
     point_of e = get_or points e.place d
 
     abbrev KeyOf : Entry → Type 0
-    KeyOf e = e.key ≡ short_key dim (key_of (point_of e) dim)
+    KeyOf e = e.key ≡ turned down (short_key dim (key_of (point_of e) dim))
 
     points_are : map point_of es ≡ points
     points_are = same_lists _ _ (length-map es point_of ∙ keyed.each)
@@ -69,20 +76,16 @@ module _ (dim : Dim) (points : List Point) (es : List Entry) (keyed : AreKeyed d
 
     keys_are : Each KeyOf es
     keys_are = each_at KeyOf es (λ k e l. let in_points : k < length points = omega (arith, keyed.each, l) in
-        keyed.key k d e in_points ∙ ap (λ z. short_key dim (key_of (get_or points z d) dim)) (sym (keyed.place k e in_points)))
+        keyed.key k d e in_points ∙ ap (λ z. turned down (short_key dim (key_of (get_or points z d) dim))) (sym (keyed.place k e in_points)))
 
-    same_test : (a b : Entry) → KeyOf a → KeyOf b → int_lt (key_of (point_of a) dim) (key_of (point_of b) dim) ≡ int_lt a.key b.key
-    same_test a b p q = sym (shifted (middle_of dim) (key_of (point_of a) dim) (key_of (point_of b) dim))
-        ∙ ap (λ z. int_lt z (short_key dim (key_of (point_of b) dim))) (sym p) ∙ ap (λ z. int_lt a.key z) (sym q)
-
-    agree : (a b : Entry) → KeyOf a → KeyOf b → before (λ (p : Point). key_of p dim) down (point_of a) (point_of b) ≡ before (λ (e : Entry). e.key) down a b
-    agree a b p q = ap (λ z. cond down z (int_lt (key_of (point_of a) dim) (key_of (point_of b) dim))) (same_test b a q p)
-        ∙ ap (λ z. cond down (int_lt b.key a.key) z) (same_test a b p q)
+    agree : (a b : Entry) → KeyOf a → KeyOf b → before (λ (p : Point). key_of p dim) down (point_of a) (point_of b) ≡ before (λ (e : Entry). e.key) false a b
+    agree a b p q = sym (shifted down (middle_of dim) (key_of (point_of a) dim) (key_of (point_of b) dim))
+        ∙ ap (λ z. int_lt z (turned down (short_key dim (key_of (point_of b) dim)))) (sym p) ∙ ap (λ z. int_lt a.key z) (sym q)
 
     -- and in the order of the keys, the points in that order
-    pub places_in_order : (sorted : List Entry) → sorted ≡ sorted_by (before (λ (e : Entry). e.key) down) es
+    pub places_in_order : (sorted : List Entry) → sorted ≡ sorted_by (before (λ (e : Entry). e.key) false) es
         → map (λ k. get_or points k d) (map (λ (e : Entry). e.place) sorted) ≡ sorted_by (before (λ (p : Point). key_of p dim) down) points
     places_in_order sorted e =
         map-map (λ k. get_or points k d) (λ (x : Entry). x.place) sorted ∙ ap (map point_of) e
-        ∙ sym (sorted_by-map point_of (before (λ (x : Entry). x.key) down) (before-order (λ (x : Entry). x.key) down) (before (λ (p : Point). key_of p dim) down) KeyOf agree es keys_are)
+        ∙ sym (sorted_by-map point_of (before (λ (x : Entry). x.key) false) (before-order (λ (x : Entry). x.key) false) (before (λ (p : Point). key_of p dim) down) KeyOf agree es keys_are)
         ∙ ap (sorted_by (before (λ (p : Point). key_of p dim) down)) points_are

@@ -1,5 +1,5 @@
 -- Where points stand, and where they go.
-use Rattle.std.specs.Prelude.{ℤ, pos, ◌-ℤ◌, ◌^◌, ◌≡◌, ℕ, ◌<◌, ◌≤◌, List, length, get_or, slice_index}
+use Rattle.std.specs.Prelude.{ℤ, pos, neg_ℤ, ◌-ℤ◌, ◌^◌, ◌≡◌, ℕ, ◌<◌, ◌≤◌, Bool, true, false, List, length, get_or, slice_index}
 use Rattle.cloud_points.specs.Points.{key_of}
 use Rattle.cloud_points.specs.declared.dims.Dim.{Dim}
 use Rattle.cloud_points.specs.declared.dims.Dim.TheVariants.{GpsTime}
@@ -15,10 +15,15 @@ middle_of dim = 0
 abbrev pub short_key : Dim → ℤ → ℤ
 short_key dim key = key -ℤ pos (middle_of dim)
 
+-- downwards the greatest key comes first
+abbrev pub turned : Bool → ℤ → ℤ
+turned true key = neg_ℤ (pos 1) -ℤ key
+turned false key = key
+
 -- the entries of the first n points: the key of each, with its place
-pub record AreKeyed (dim : Dim) (points : List Point) (n : ℕ) (entries : List Entry) : Type 0 where
+pub record AreKeyed (dim : Dim) (down : Bool) (points : List Point) (n : ℕ) (entries : List Entry) : Type 0 where
   pub each : length entries ≡ n
-  pub key : (k : ℕ) (d : Point) (e : Entry) → k < n → (get_or entries k e).key ≡ short_key dim (key_of (get_or points k d) dim)
+  pub key : (k : ℕ) (d : Point) (e : Entry) → k < n → (get_or entries k e).key ≡ turned down (short_key dim (key_of (get_or points k d) dim))
   pub place : (k : ℕ) (e : Entry) → k < n → (get_or entries k e).place ≡ k
 
 -- from a place on, the places in xs stand from there on, and ys tells at which place each is in xs

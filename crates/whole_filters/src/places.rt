@@ -1,13 +1,13 @@
 //! The order of the points of a view: their keys and places are sorted, and each point then moves to its place.
 
-ghost use Rattle.std.specs.Prelude.{◌≡◌, IfOk, OnOk, OnErr, List, ℕ, length, map, get_or};
+ghost use Rattle.std.specs.Prelude.{◌≡◌, false, IfOk, OnOk, OnErr, List, ℕ, length, map, get_or};
 ghost use Rattle.std.specs.Ordering.{is_lt};
 ghost use Rattle.std.specs.List.{range_with_len};
 ghost use Rattle.std.specs.List.Sorted.{IsPermutation};
 ghost use Rattle.cloud_points.specs.Points.{key_of};
 ghost use Rattle.cloud_points.specs.declared.point.Point.{Point};
 ghost use Rattle.whole_filters.specs.Whole.{before, sorted_by};
-ghost use Rattle.whole_filters.specs.Places.{AreKeyed, AreInverse, short_key};
+ghost use Rattle.whole_filters.specs.Places.{AreKeyed, AreInverse, short_key, turned};
 
 use cloud_points::{Dim, Point};
 use std::alloc::{AllocError, Global};
@@ -16,7 +16,7 @@ use std::cmp::Ordering;
 /// The middle of the keys of times, which are 64 bits without a sign.
 const MIDDLE: i128 = 1 << 63;
 
-/// The key of a point in 64 bits, and the place where the point stands.
+/// The key of a point in 64 bits, turned round where the order is downwards, and the place where the point stands.
 #[derive(Clone, Copy)]
 struct Entry {
     key: i64,
@@ -48,21 +48,18 @@ fn order_of(alloc: Global, points: &[Point], dim: Dim, down: bool) -> Result<Vec
     ensures in_order { IfOk result (λ places. (d : Point) → map (λ k. get_or points.now k d) places.items
         ≡ sorted_by (before (λ p. key_of p dim) down) points.now) }
 {
-    let mut entries = keyed(alloc, points, dim)?;
-    entries.sort_by(|a, b| order(a, b, down))?;
+    let mut entries = keyed(alloc, points, dim, down)?;
+    entries.sort_by(|a, b| order(a, b))?;
     places_of(alloc, entries.as_slice())
 }
 
 // The keys of points, with the places where they stand.
-fn keyed(alloc: Global, points: &[Point], dim: Dim) -> Result<Vec<Entry>, AllocError>
-    ensures { IfOk result (λ entries. AreKeyed dim points.now (length points.now) entries.items) }
+fn keyed(alloc: Global, points: &[Point], dim: Dim, down: bool) -> Result<Vec<Entry>, AllocError>
+    ensures { IfOk result (λ entries. AreKeyed dim down points.now (length points.now) entries.items) }
 {
     let mut entries = Vec::with_capacity(alloc, points.len())?;
     for place in 0..points.len() {
-        entries.push(Entry {
-            key: short_key(&points[place], dim),
-            place,
-        })?;
+        entries.push(entry_of(&points[place], place, dim, down))?;
     }
     Ok(entries)
 }
@@ -80,13 +77,28 @@ fn short_key(p: &Point, dim: Dim) -> i64
     }
 }
 
-// How two entries stand by their keys, upwards or downwards.
-fn order(a: &Entry, b: &Entry, down: bool) -> Ordering
-    ensures { is_lt result ≡ before (λ e. e.key) down a.now b.now }
+// Downwards the greatest key comes first, so that entries need one order alone.
+fn turned(key: i64, down: bool) -> i64
+    ensures { result ≡ turned down key }
 {
-    if down {
-        return b.key.cmp(&a.key);
+    if down { -1 - key } else { key }
+}
+
+// The entry of the point at a place.
+fn entry_of(p: &Point, place: usize, dim: Dim, down: bool) -> Entry
+    ensures key { result.key ≡ turned down (short_key dim (key_of p.now dim)) }
+    ensures place { result.place ≡ place }
+{
+    Entry {
+        key: turned(short_key(p, dim), down),
+        place,
     }
+}
+
+// How two entries stand by their keys.
+fn order(a: &Entry, b: &Entry) -> Ordering
+    ensures { is_lt result ≡ before (λ e. e.key) false a.now b.now }
+{
     a.key.cmp(&b.key)
 }
 
