@@ -33,6 +33,11 @@ abbrev pub IsShort : {S K : Type 0} → Step S K → Type 0
 IsShort (Ran outcome) = WantsMemory outcome
 IsShort _ = ⊥
 
+-- a run whose stages came to this refusal
+abbrev pub CameTo : {S K : Type 0} → Refusal → Step S K → Type 0
+CameTo refusal (Ran (Err why)) = why ≡ refusal
+CameTo refusal _ = ⊥
+
 module _ {S K : Type 0} (s : source.Ghosts S) (k : sink.Ghosts K) where
   -- the memory for the turns of these stages
   pub record IsTurnRoom (stages : List StageSpec) (room : TurnRoom S K) : Type 0 where

@@ -1,9 +1,10 @@
 //! The run of a tree, step by step.
 
-ghost use Rattle.std.specs.Prelude.{◌≡◌, ◌≤◌, ◌+◌, ℕ, length, Option, Some, None, IsOkAnd, IfOk, IfErr, OnOk, OnErr};
+ghost use Rattle.std.specs.Prelude.{◌≡◌, ◌≤◌, ◌+◌, ℕ, length, Option, Some, None, Err, IsOkAnd, IfOk, IfErr, OnOk, OnErr};
 ghost use Rattle.file_devices.specs.Counts.{Rose};
 ghost use Rattle.file_devices.specs.Named.{Names};
 ghost use Rattle.pipeline_json.specs.Trees.{IsTree};
+ghost use Rattle.run_report.specs.declared.refusal.Refusal.{Refusal as Refused};
 ghost use Rattle.stage_options.specs.Kinds.{HaveOwnOptions};
 ghost use Rattle.stage_options.specs.Shapes.{shapes};
 ghost use Rattle.stage_kinds.specs.Held.{faults_of};
@@ -13,7 +14,7 @@ ghost use Rattle.stage_runs.specs.Works.{AreAtStart};
 ghost use Rattle.set_engine.specs.Evaluated.{AreTold, IsUnevaluated};
 ghost use Rattle.run_engine.specs.Begun.{all_held};
 ghost use Rattle.run_engine.specs.Cause.{IsCause, IsRun, IsLeft};
-ghost use Rattle.run_engine.specs.Jobs.{IsReady, IsWaiting, IsShort, WantsMemory, HasRun};
+ghost use Rattle.run_engine.specs.Jobs.{IsReady, IsWaiting, IsShort, WantsMemory, CameTo, HasRun};
 ghost use Rattle.run_engine.specs.Turns.{AreLater, CameToEnd};
 
 use crate::finish::{Ran, finish};
@@ -112,9 +113,10 @@ impl<S: Source, K: FileSink> Job<S, K> {
     /// Ends the run: where the stages came to their end all writers finish their files, which are then kept under their names, in the
     /// order of the stages. Answers what each stage gave on. Every object that was handed out is given back.
     ///
-    /// `Data` comes only where the files have that fault, `Device` only where the device failed, `Memory` where there was none. After a
-    /// refusal the files are as before; only where the keeping of a file failed or found no memory are those of the writers before it
-    /// kept, and that one may be. Files that don't tell what they have don't tell it after the run.
+    /// Where the stages came to a refusal it answers just that, and keeps nothing. Else `Data` comes only where the files have that
+    /// fault, `Device` only where the device failed, `Memory` where there was none. After a refusal the files are as before; only where
+    /// the keeping of a file failed or found no memory are those of the writers before it kept, and that one may be. Files that don't
+    /// tell what they have don't tell it after the run.
     pub fn close<F: Files<In = S, Out = K>>(
         self,
         files: &mut F,
@@ -126,6 +128,8 @@ impl<S: Source, K: FileSink> Job<S, K> {
             → IsOkAnd (run_of m stages.now) (IsRun (F.map files.old) (F.map files.new) report.items)) }
         ensures err { IfErr result (IsCause (Rose (F.faults files.old) (F.faults files.new)) (F.map files.old) stages.now) }
         ensures left { IfErr result (λ refusal. (m : Names) → F.map files.old ≡ Some m → IsLeft refusal (F.map files.old) (F.map files.new) (run_of m stages.now)) }
+        ensures refused { (refusal : Refused) → CameTo refusal self.step
+            → (result ≡ Err refusal) × (F.map files.new ≡ F.map files.old) }
         ensures untold { F.map files.old ≡ None → F.map files.new ≡ None }
         ensures lent { (others : ℕ) → F.lent files.old ≡ others + all_held self.works.items → F.lent files.new ≡ others }
         ensures later { F.faults files.old ≤ F.faults files.new }

@@ -1,11 +1,12 @@
 use Rattle.std.proofs.Common.{◌+◌, length, refl, ap, sym, subst, ◌∙◌, arith}
+use Rattle.std.specs.Prelude.{Err}
 use Rattle.file_devices.specs.Counts.{Rose}
 use Rattle.stage_kinds.specs.Held.{faults_of}
 use Rattle.answer_model.specs.Values.{Opened}
 use Rattle.answer_model.specs.Runs.{run_of, opened_in}
 use Rattle.set_engine.specs.Evaluated.{AreTold}
 use Rattle.run_engine.specs.declared.job.Step.TheVariants.{Ran}
-use Rattle.run_engine.specs.Jobs.{HaveCome}
+use Rattle.run_engine.specs.Jobs.{HaveCome, CameTo}
 use Rattle.run_engine.specs.Turns.{AreDone, IsUnfinished}
 use Rattle.run_engine.proofs.Keeping.{untold-kept, untold-broke}
 use Rattle.run_engine.proofs.Results.{on-ok, err-of}
@@ -207,3 +208,24 @@ returns-in-Err-keep_works-clause-lent g c =
     let works = c.args.self.works.items in
     let done = c.finish-works.result.works.items in
     λ others h. c.keep_works.ensures.lent others (h ∙ ap (λ n. others + n) (sym (same-held faults works done c.finish-works.ensures.later)))
+
+pub returns-in-Ran-Err-clause-refused : goal.returns-in-Ran-Err-clause-refused
+returns-in-Ran-Err-clause-refused g c = λ refusal came.
+    let met = subst (CameTo {S = g.row.S.Denot} {K = g.row.K.Denot} refusal) c.in-Ran-Err.is came in
+    let same = subst (λ r. CameTo {S = g.row.S.Denot} {K = g.row.K.Denot} refusal (Ran r)) c.in-Ran-Err.field-0-is met in
+    (ap Err same, c.release_works.ensures.map)
+
+pub returns-in-Err-clause-refused : goal.returns-in-Err-clause-refused
+returns-in-Err-clause-refused g c = λ refusal came.
+    let met = subst (CameTo {S = g.row.S.Denot} {K = g.row.K.Denot} refusal) c.in-Ran-Ok.is came in
+    absurd (subst (λ r. CameTo {S = g.row.S.Denot} {K = g.row.K.Denot} refusal (Ran r)) c.in-Ran-Ok.field-0-is met)
+
+pub returns-in-Ok-clause-refused : goal.returns-in-Ok-clause-refused
+returns-in-Ok-clause-refused g c = λ refusal came.
+    let met = subst (CameTo {S = g.row.S.Denot} {K = g.row.K.Denot} refusal) c.in-Ran-Ok.is came in
+    absurd (subst (λ r. CameTo {S = g.row.S.Denot} {K = g.row.K.Denot} refusal (Ran r)) c.in-Ran-Ok.field-0-is met)
+
+pub returns-in-Err-keep_works-clause-refused : goal.returns-in-Err-keep_works-clause-refused
+returns-in-Err-keep_works-clause-refused g c = λ refusal came.
+    let met = subst (CameTo {S = g.row.S.Denot} {K = g.row.K.Denot} refusal) c.in-Ran-Ok.is came in
+    absurd (subst (λ r. CameTo {S = g.row.S.Denot} {K = g.row.K.Denot} refusal (Ran r)) c.in-Ran-Ok.field-0-is met)
