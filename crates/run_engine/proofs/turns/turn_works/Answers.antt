@@ -79,8 +79,6 @@ pub outcome-outcome-requires-clause-fit : goal.outcome-outcome-requires-clause-f
 outcome-outcome-requires-clause-fit g c =
     let s = g.S.Source in
     let k = g.K.Sink in
-    let stages = c.args.stages.now in
-    let works = c.args.works.items in
     let made = c.nodes_over-nodes.ensures in
     let old = c.nodes_over-nodes.result.items in
     let new = c.run_stages-ran.new.nodes in

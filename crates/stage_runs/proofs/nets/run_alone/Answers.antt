@@ -27,7 +27,6 @@ run_net-nodes-requires-clause-forest g c =
 pub returns-clause-later : goal.returns-clause-later
 returns-clause-later g c =
     let one : c.push_reserved-2.new.self.items ≡ c.args.node ∷ [] = c.push_reserved-2.ensures.items ∙ ap (λ (xs : List (Node _)). xs ++ c.args.node ∷ []) c.in-Ok-with_capacity.ensures.items in
-    let ins : c.new-3.result ≡ [] ∷ [] = c.new-3.ensures ∙ ap (map (λ v. v.items)) (c.push_reserved.ensures.items ∙ ap (λ xs. xs ++ c.new.result ∷ []) c.in-Ok.ensures.items) ∙ ap (λ xs. xs ∷ []) c.new.ensures.items in
     let size = ap (λ (ns : List (Node _)). length ns) one in
     let back : c.run_net-nodes.result.nodes.items ≡ c.in-Some.node ∷ [] = only-one c.pop.new.self.items c.run_net-nodes.result.nodes.items c.in-Some.node c.in-Some.ensures.items (c.run_net-nodes.ensures.later.count ∙ size) in
     let later = subst (λ (ns : List (Node _)). AreLater g.S.Source g.K.Sink (c.args.node ∷ []) ns) back (subst (λ (ns : List (Node _)). AreLater g.S.Source g.K.Sink ns c.run_net-nodes.result.nodes.items) one c.run_net-nodes.ensures.later) in
@@ -57,7 +56,6 @@ returns-clause-over g c = λ enough.
 pub returns-clause-enough : goal.returns-clause-enough
 returns-clause-enough g c = λ enough.
     let one : c.push_reserved-2.new.self.items ≡ c.args.node ∷ [] = c.push_reserved-2.ensures.items ∙ ap (λ (xs : List (Node _)). xs ++ c.args.node ∷ []) c.in-Ok-with_capacity.ensures.items in
-    let ins : c.new-3.result ≡ [] ∷ [] = c.new-3.ensures ∙ ap (map (λ v. v.items)) (c.push_reserved.ensures.items ∙ ap (λ xs. xs ++ c.new.result ∷ []) c.in-Ok.ensures.items) ∙ ap (λ xs. xs ∷ []) c.new.ensures.items in
     let size = ap (λ (ns : List (Node _)). length ns) one in
     let back : c.run_net-nodes.result.nodes.items ≡ c.in-Some.node ∷ [] = only-one c.pop.new.self.items c.run_net-nodes.result.nodes.items c.in-Some.node c.in-Some.ensures.items (c.run_net-nodes.ensures.later.count ∙ size) in
     c.run_net-nodes.ensures.enough enough 0 c.in-Some.node (ap (λ (ns : List (Node _)). slice_get ns 0) back)

@@ -24,30 +24,22 @@ lend-requires-clause-homes g c =
 
 pub children-requires : goal.children-requires
 children-requires g c =
-    let s = g.S.Source in
-    let k = g.K.Sink in
     let plan = c.args.plan.now in
     let homes = plan.homes.items in
     let home = c.args.home in
     let root = c.args.root in
-    let nodes = c.args.nodes.now in
     let part = part_ins plan.gathers.items plan.ins homes home root in
     let is-part : c.args.room.ins ≡ part = c.requires.room.ins in
-    let stand = c.requires.room.net in
     let n = c.requires.forest.nodes in let e = ap (λ xss. length xss) is-part in omega (arith, n, e)
 
 pub overflow_cast-children : goal.overflow_cast-children
 overflow_cast-children g c =
-    let s = g.S.Source in
-    let k = g.K.Sink in
     let plan = c.args.plan.now in
     let homes = plan.homes.items in
     let home = c.args.home in
     let root = c.args.root in
-    let nodes = c.args.nodes.now in
     let part = part_ins plan.gathers.items plan.ins homes home root in
     let is-part : c.args.room.ins ≡ part = c.requires.room.ins in
-    let stand = c.requires.room.net in
     let count : length (children part root) ≡ length c.children.result.now = ap (λ xs. length xs) (sym (c.children.ensures ∙ ap (λ xss. children xss root) is-part)) in
     let few = few-children part root c.requires.forest in let inside = c.requires.root in let most = c.requires.few in omega (arith, count, few, inside, most)
 
@@ -201,15 +193,11 @@ lend-requires-2-clause-net g c =
 
 pub lend-requires-2-clause-homes : goal.lend-requires-2-clause-homes
 lend-requires-2-clause-homes g c =
-    let s = g.S.Source in
-    let k = g.K.Sink in
     let plan = c.args.plan.now in
     let homes = plan.homes.items in
     let home = c.args.home in
     let root = c.args.root in
     let nodes = c.args.nodes.now in
-    let part = part_ins plan.gathers.items plan.ins homes home root in
-    let is-part : c.args.room.ins ≡ part = c.requires.room.ins in
     let stand = c.requires.room.net in
     let size = stand.count in
     let last : length c.args.room.net.items - 1 ≡ root = omega (arith, size) in

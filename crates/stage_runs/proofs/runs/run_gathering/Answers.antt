@@ -41,8 +41,6 @@ overflow_cast-at-then-index g c =
 
 pub new-requires-clause-root : goal.new-requires-clause-root
 new-requires-clause-root g c =
-    let s = g.S.Source in
-    let k = g.K.Sink in
     let stages = c.args.stages.now in
     let plan = c.args.plan.now in
     let is = c.requires in
@@ -52,8 +50,6 @@ new-requires-clause-root g c =
 
 pub new-requires-clause-few : goal.new-requires-clause-few
 new-requires-clause-few g c =
-    let s = g.S.Source in
-    let k = g.K.Sink in
     let stages = c.args.stages.now in
     let plan = c.args.plan.now in
     let is = c.requires in
@@ -63,8 +59,6 @@ new-requires-clause-few g c =
 
 pub new-requires-clause-ins : goal.new-requires-clause-ins
 new-requires-clause-ins g c =
-    let s = g.S.Source in
-    let k = g.K.Sink in
     let stages = c.args.stages.now in
     let plan = c.args.plan.now in
     let is = c.requires in
@@ -86,17 +80,10 @@ run_part-requires-clause-room g c = c.in_ok-room.ensures
 
 pub run_part-requires-clause-few : goal.run_part-requires-clause-few
 run_part-requires-clause-few g c =
-    let s = g.S.Source in
-    let k = g.K.Sink in
     let stages = c.args.stages.now in
     let new = c.requires.new in
-    let plan = c.args.plan.now in
-    let is = c.requires in
     let now = c.loop-at.nodes in
-    let at = c.loop-at.at in
     let count : length now ≡ length stages = c.loop-at.invariant.later.count ∙ new.count in
-    let inside : at < length stages = c.loop-at-test.true in
-    let done = c.loop-at.invariant.done in
     let few = few-stages stages c.requires.tree in omega (arith, count, few)
 
 pub run_part-requires-clause-homes : goal.run_part-requires-clause-homes
@@ -108,10 +95,7 @@ run_part-requires-clause-homes g c =
     let plan = c.args.plan.now in
     let is = c.requires in
     let now = c.loop-at.nodes in
-    let at = c.loop-at.at in
     let count : length now ≡ length stages = c.loop-at.invariant.later.count ∙ new.count in
-    let inside : at < length stages = c.loop-at-test.true in
-    let done = c.loop-at.invariant.done in
     homes-size s k stages c.requires.tree c.args.nodes.now new plan.gathers.items plan.ins plan.homes.items is.gathers is.ins is.homes c.args.sizes.queue ∙ sym count
 
 pub run_part-requires-clause-forest : goal.run_part-requires-clause-forest
@@ -166,10 +150,6 @@ pub returns-in_err-run_part-clause-later : goal.returns-in_err-run_part-clause-l
 returns-in_err-run_part-clause-later g c =
     let s = g.S.Source in
     let k = g.K.Sink in
-    let stages = c.args.stages.now in
-    let new = c.requires.new in
-    let plan = c.args.plan.now in
-    let is = c.requires in
     step-later s k c.args.nodes.now c.loop-at.nodes c.run_part.new.nodes c.loop-at.invariant.later c.run_part.ensures.later
 
 pub gather_at-requires-clause-collects : goal.gather_at-requires-clause-collects
@@ -192,10 +172,6 @@ pub returns-in_err-gather_at-clause-later : goal.returns-in_err-gather_at-clause
 returns-in_err-gather_at-clause-later g c =
     let s = g.S.Source in
     let k = g.K.Sink in
-    let stages = c.args.stages.now in
-    let new = c.requires.new in
-    let plan = c.args.plan.now in
-    let is = c.requires in
     step-later s k c.args.nodes.now c.run_part.new.nodes c.gather_at.new.nodes (step-later s k c.args.nodes.now c.loop-at.nodes c.run_part.new.nodes c.loop-at.invariant.later c.run_part.ensures.later) c.gather_at.ensures.later
 
 pub loop-at-preserved : goal.loop-at-preserved

@@ -66,7 +66,6 @@ returns-in-Err-clause-left g c =
     let map = files.map c.args.files.now in
     let stages = c.args.stages.now in
     let faults = faults_of s.faults k.faults in
-    let ran = c.requires.ran in
     let works = c.args.self.works.items in
     let done = c.finish-works.result.works.items in
     let unfinished = err-of (IsUnfinished faults works done) c.finish-works.result.outcome c.in-Err.refusal c.in-Err.is c.finish-works.ensures.err in
@@ -76,11 +75,7 @@ pub returns-in-Err-clause-lent : goal.returns-in-Err-clause-lent
 returns-in-Err-clause-lent g c =
     let s = g.S.Source in
     let k = g.K.Sink in
-    let files = g.F.Files in
-    let map = files.map c.args.files.now in
-    let stages = c.args.stages.now in
     let faults = faults_of s.faults k.faults in
-    let ran = c.requires.ran in
     let works = c.args.self.works.items in
     let done = c.finish-works.result.works.items in
     λ others h. c.release_works-in-Err.ensures.lent others (h ∙ ap (λ n. others + n) (sym (same-held faults works done c.finish-works.ensures.later)))
@@ -119,27 +114,18 @@ returns-in-Ok-clause-ok g c =
 
 pub returns-in-Ok-clause-untold : goal.returns-in-Ok-clause-untold
 returns-in-Ok-clause-untold g c =
-    let s = g.S.Source in
     let k = g.K.Sink in
     let files = g.F.Files in
     let map = files.map c.args.files.now in
     let stages = c.args.stages.now in
-    let faults = faults_of s.faults k.faults in
-    let ran = c.requires.ran in
-    let works = c.args.self.works.items in
     let done = c.finish-works.result.works.items in
-    let later = later-on faults ran.before works done ran.later c.finish-works.ensures.later in
     λ none. untold-kept k.bytes (length done) map map (files.map c.keep_works.new.files) stages done refl c.in-Ok.ensures.ok none
 
 pub returns-in-Ok-clause-lent : goal.returns-in-Ok-clause-lent
 returns-in-Ok-clause-lent g c =
     let s = g.S.Source in
     let k = g.K.Sink in
-    let files = g.F.Files in
-    let map = files.map c.args.files.now in
-    let stages = c.args.stages.now in
     let faults = faults_of s.faults k.faults in
-    let ran = c.requires.ran in
     let works = c.args.self.works.items in
     let done = c.finish-works.result.works.items in
     λ others h. c.keep_works.ensures.lent others (h ∙ ap (λ n. others + n) (sym (same-held faults works done c.finish-works.ensures.later)))
@@ -184,27 +170,18 @@ returns-in-Err-keep_works-clause-left g c =
 
 pub returns-in-Err-keep_works-clause-untold : goal.returns-in-Err-keep_works-clause-untold
 returns-in-Err-keep_works-clause-untold g c =
-    let s = g.S.Source in
     let k = g.K.Sink in
     let files = g.F.Files in
     let map = files.map c.args.files.now in
     let stages = c.args.stages.now in
-    let faults = faults_of s.faults k.faults in
-    let ran = c.requires.ran in
-    let works = c.args.self.works.items in
     let done = c.finish-works.result.works.items in
-    let later = later-on faults ran.before works done ran.later c.finish-works.ensures.later in
     λ none. untold-broke k.bytes map map (files.map c.keep_works.new.files) (Rose (files.faults c.args.files.now) (files.faults c.keep_works.new.files)) stages done c.in-Err-keep_works.refusal refl c.in-Err-keep_works.ensures.err none
 
 pub returns-in-Err-keep_works-clause-lent : goal.returns-in-Err-keep_works-clause-lent
 returns-in-Err-keep_works-clause-lent g c =
     let s = g.S.Source in
     let k = g.K.Sink in
-    let files = g.F.Files in
-    let map = files.map c.args.files.now in
-    let stages = c.args.stages.now in
     let faults = faults_of s.faults k.faults in
-    let ran = c.requires.ran in
     let works = c.args.self.works.items in
     let done = c.finish-works.result.works.items in
     λ others h. c.keep_works.ensures.lent others (h ∙ ap (λ n. others + n) (sym (same-held faults works done c.finish-works.ensures.later)))
