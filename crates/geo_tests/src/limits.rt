@@ -4,7 +4,9 @@ ghost use Rattle.std.specs.Prelude.{◌≡◌, ◌||◌};
 ghost use Rattle.std.specs.List.{list_all};
 ghost use Rattle.cloud_points.specs.Layouts.{holds};
 ghost use Rattle.cloud_points.specs.declared.dims.Dim.{Dim as Dimension};
+ghost use Rattle.cloud_points.specs.Points.{get};
 ghost use Rattle.geo_tests.specs.Limits.{is_within, one_holds, in_limits};
+ghost use Rattle.geo_tests.specs.Tests.{in_interval};
 
 use crate::intervals::in_interval;
 use cloud_points::{Dim, Layout, Point};
@@ -19,6 +21,15 @@ pub struct Limit {
 
     /// The values.
     pub interval: Interval,
+}
+
+impl Limit {
+    /// Whether the value of its dimension is one of these.
+    fn holds(&self, p: &Point) -> bool
+        ensures { result ≡ in_interval (get p.now self.now.dim) self.now.interval }
+    {
+        in_interval(p.get(self.dim), &self.interval)
+    }
 }
 
 /// Limits, which contracts see as their list.
@@ -40,7 +51,7 @@ impl Model for Limits {
 fn add_within(within: &mut Layout, limit: &Limit, p: &Point)
     ensures { (dim : Dimension) → holds within.new dim ≡ (is_within p.now dim limit.now || holds within.old dim) }
 {
-    if in_interval(p.get(limit.dim), &limit.interval) {
+    if limit.holds(p) {
         within.add(limit.dim);
     }
 }
@@ -80,6 +91,10 @@ impl Limits {
     pub fn hold(&self, p: &Point) -> bool
         ensures { result ≡ in_limits p.now self.now }
     {
-        has_all(&self.items, &dims_within(&self.items, p))
+        match self.items.as_slice() {
+            // Most ranges name one, which needs no set.
+            [limit] => limit.holds(p),
+            limits => has_all(limits, &dims_within(limits, p)),
+        }
     }
 }

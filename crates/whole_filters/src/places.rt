@@ -102,6 +102,7 @@ fn order(a: &Entry, b: &Entry) -> Ordering
     a.key.cmp(&b.key)
 }
 
+// The places of entries, in the order of these.
 fn places_of(alloc: Global, entries: &[Entry]) -> Result<Vec<usize>, AllocError>
     ensures { IfOk result (λ places. places.items ≡ map (λ e. e.place) entries.now) }
 {
