@@ -25,17 +25,17 @@ held-last : (entries : List Entry) (e : Entry) → held_items (entries ++ e ∷ 
 held-last [] e = refl
 held-last (x ∷ entries) e = ap (λ is. entry_item x ∷ is) (held-last entries e)
 
-body-filled : (kind : ItemKind) (old points now : List Point) → now ≡ filled kind old points → kind_body kind now ≡ kind_body kind points
+pub body-filled : (kind : ItemKind) (old points now : List Point) → now ≡ filled kind old points → kind_body kind now ≡ kind_body kind points
 body-filled Points old points now h = ap (kind_body Points) h
 body-filled EndView old points now h = refl
 body-filled (End cut) old points now h = refl
 
-has_points : (kind : ItemKind) (points : List Point) → (brings_points kind ≡ true → 0 < length points) → HasPoints (kind_body kind points)
+pub has_points : (kind : ItemKind) (points : List Point) → (brings_points kind ≡ true → 0 < length points) → HasPoints (kind_body kind points)
 has_points Points points h = h refl
 has_points EndView points h = tt
 has_points (End cut) points h = tt
 
-brought : (kind : ItemKind) (points : List Point) → HasPoints (kind_body kind points) → brings_points kind ≡ true → 0 < length points
+pub brought : (kind : ItemKind) (points : List Point) → HasPoints (kind_body kind points) → brings_points kind ≡ true → 0 < length points
 brought Points points h e = h
 brought EndView points h e = cc
 brought (End cut) points h e = cc
@@ -78,7 +78,7 @@ pub popped-none : (entries : List Entry) (points : List Point) → None ≡ slic
 popped-none [] points h = (refl, refl)
 popped-none (e ∷ entries) points h = cc
 
-kept-old : (kind : ItemKind) (old now points : List Point) → now ≡ filled kind old points → brings_points kind ≡ false → now ≡ old
+pub kept-old : (kind : ItemKind) (old now points : List Point) → now ≡ filled kind old points → brings_points kind ≡ false → now ≡ old
 kept-old Points old now points h e = cc
 kept-old EndView old now points h e = h
 kept-old (End cut) old now points h e = h

@@ -8,11 +8,11 @@ use Rattle.chunk_queue.specs.Rule.{item_number, item_ends, KeepsRuleOnPush}
 
 -- lists of sent items that grow by one
 module _ {T : Type 0} (number : T → ℕ) (ends : T → Bool) where
-  IsNumbered-last : (k : ℕ) (xs : List T) (x : T) → IsNumbered number ends k xs → number x ≡ up_to_limit (k + length xs) → IsNumbered number ends k (xs ++ x ∷ [])
+  pub IsNumbered-last : (k : ℕ) (xs : List T) (x : T) → IsNumbered number ends k xs → number x ≡ up_to_limit (k + length xs) → IsNumbered number ends k (xs ++ x ∷ [])
   IsNumbered-last k [] x h e = (e ∙ ap up_to_limit (omega arith), tt)
   IsNumbered-last k (y ∷ xs) x h e = (h.0, IsNumbered-last (k + 1) xs x h.1 (e ∙ ap up_to_limit (omega arith)))
 
-  EndsOnlyLast-last : (xs : List T) (x : T) → EndsOnlyLast number ends xs → has_end number ends xs ≡ false → EndsOnlyLast number ends (xs ++ x ∷ [])
+  pub EndsOnlyLast-last : (xs : List T) (x : T) → EndsOnlyLast number ends xs → has_end number ends xs ≡ false → EndsOnlyLast number ends (xs ++ x ∷ [])
   EndsOnlyLast-last [] x h e = ((λ _. refl), tt)
   EndsOnlyLast-last (y ∷ xs) x h e = ((λ z. conflict (ends y) z (left (ends y) (has_end number ends xs) e)), EndsOnlyLast-last xs x h.1 (right (ends y) (has_end number ends xs) e))
     where

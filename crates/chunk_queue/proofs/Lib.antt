@@ -1,2 +1,4 @@
 pub mod Held
 pub mod Keeps
+pub mod Steps
+pub mod Settled

@@ -159,7 +159,7 @@ impl PlainQueue {
 }
 
 /// What an item brings, with its points.
-fn body_of(kind: ItemKind, points: &Spread) -> Body
+pub(crate) fn body_of(kind: ItemKind, points: &Spread) -> Body
     requires { brings_points kind ≡ true → 0 < length points.now.items }
     ensures { result ≡ kind_body kind points.now.items }
 {
@@ -174,7 +174,7 @@ fn body_of(kind: ItemKind, points: &Spread) -> Body
 }
 
 /// Puts the points of an item into its slot.
-fn fill_slot(slot: &mut Spread, kind: ItemKind, points: &[Point])
+pub(crate) fn fill_slot(slot: &mut Spread, kind: ItemKind, points: &[Point])
     requires { length points.now ≤ 64 }
     ensures { slot.new.items ≡ filled kind slot.old.items points.now }
 {
@@ -186,7 +186,7 @@ fn fill_slot(slot: &mut Spread, kind: ItemKind, points: &[Point])
 }
 
 /// Takes the points of an item out of its slot.
-fn take_slot(into: &mut Spread, kind: ItemKind, slot: &Spread)
+pub(crate) fn take_slot(into: &mut Spread, kind: ItemKind, slot: &Spread)
     ensures { into.new.items ≡ filled kind into.old.items slot.now.items }
 {
     match kind {

@@ -1,6 +1,7 @@
 pub mod Dims
 pub mod Points
 pub mod Layouts
+pub mod Clearing
 pub mod Flows
 pub mod Marks
 pub mod Meaning
@@ -11,3 +12,4 @@ pub mod Bodies
 pub mod Makes
 pub mod Queue
 pub mod ExtraNames
+pub mod ExtraFields

@@ -29,6 +29,7 @@ lifted m project inject = record {
   fault = λ t a. fault_at m (project t) a;
   at_view = λ t. view_at m inject t (project t);
   at_end = λ t cut. end_at m inject t (project t) cut;
+  nature = m.nature;
 }
 
 module _ {S T P F : Type 0} (m : Meaning S P F) (law : KeepsCutting m) (project : T → Option S) (inject : S → T) (there : (s : S) → project (inject s) ≡ Some s) (back : (t : T) (s : S) → project t ≡ Some s → inject s ≡ t) where

@@ -1,5 +1,14 @@
--- What a work means: five functions of its state, and the law of cutting.
-use Rattle.std.specs.Prelude.{◌≡◌, ◌≢◌, ◌≤◌, Bool, List, [], ◌∷◌, ◌++◌, length, Option, None}
+-- What a work means: five functions of its state, the law of cutting, and the nature of a work that a caller hands in.
+use Rattle.std.specs.Prelude.{◌≡◌, ◌≢◌, ◌≤◌, ℕ, ℤ, Bool, List, [], ◌∷◌, ◌++◌, length, Option, None}
+
+-- what a caller hands in at a place under a name: the numbers that it remembers where a view opens, what it remembers behind a point
+-- and makes of it, and the text of what it remembers
+pub record Nature (P : Type 0) : Type 0 where
+  pub place : ℕ
+  pub called : List ℕ
+  pub opening : List ℤ
+  pub step : List ℤ → P → List ℤ × Option P
+  pub text : List ℤ → List ℕ
 
 pub record Meaning (S P F : Type 0) : Type 0 where
   -- what the work gives for points, its state then, and its fault on them
@@ -10,6 +19,8 @@ pub record Meaning (S P F : Type 0) : Type 0 where
   pub at_view : S → S × Bool
   -- the state that the end leaves, and whether an end of a view goes before it
   pub at_end : S → Bool → S × Bool
+  -- whose it is, of which no law speaks; none where no caller handed it in
+  pub nature : Option (Nature P)
 
 -- points may be cut anywhere: up to a fault the parts do what the whole does, and nothing counts after it
 pub record KeepsCutting {S P F : Type 0} (m : Meaning S P F) : Type 0 where

@@ -3,6 +3,7 @@
 
 mod chunk;
 mod dims;
+mod extra;
 mod faults;
 mod flow;
 mod item;
@@ -14,11 +15,12 @@ mod work;
 
 pub use chunk::Chunk;
 pub use dims::{Dim, Kind, OutOfRange};
+pub use extra::{ExtraField, ExtraKind, FieldList};
 pub use faults::{Make, PointFault, StageFault};
 pub use flow::flow_laws;
 pub use item::{Body, Item};
 pub use layout::Layout;
-pub use names::{AddFault, ExtraNames, dim_of, name_of};
+pub use names::{AddFault, ExtraNames, dim_of, name_of, standard_dim};
 pub use point::Point;
 pub use spread::{MOST_POINTS, Spread, put_points};
 pub use work::Work;

@@ -92,8 +92,8 @@ fn place_among(name: &str, names: &[Name]) -> Option<usize>
         .position(|known| is_same_name(name, known.as_str()))
 }
 
-/// The dimension of the standard with this name.
-fn standard_dim(name: &str) -> Option<Dim>
+/// The dimension of the standard with this name, without regard to the case of ASCII letters.
+pub fn standard_dim(name: &str) -> Option<Dim>
     ensures { result ≡ dim_named name.now }
 {
     STANDARD

@@ -1,4 +1,4 @@
-ghost use Rattle.std.specs.Prelude.{◌≡◌, ℕ, ◌+◌, ◌-◌, ◌*◌, ◌/◌, ◌^◌, ◌<◌, ◌≤◌, ◌++◌, length, decimal};
+ghost use Rattle.std.specs.Prelude.{◌≡◌, ℕ, ◌+◌, ◌-◌, ◌*◌, ◌/◌, ◌^◌, ◌<◌, ◌≤◌, ◌++◌, length, decimal, unsigned_abs};
 ghost use Rattle.arrayvec.specs.ArrayString.{array_string_len};
 ghost use Rattle.decimal_coords.specs.Fixed.{fixed_text, places_text};
 
@@ -44,10 +44,11 @@ fn push_places(n: u128, places: u32, out: &mut ArrayString<48>)
 
 /// Puts the text of `nano` nanounits in place of `out`'s, rounded half away from zero to `places`
 /// digits after the point, at most 9. With 0 places there is no point. A minus sign stands exactly
-/// where the rounded number is below 0.
+/// where the rounded number is below 0. The text of a number of 64 bits has at most 21 bytes.
 pub fn print_fixed(nano: i128, places: u32, out: &mut ArrayString<48>)
     requires { places ≤ 9 }
-    ensures { out.new.bytes ≡ fixed_text nano places }
+    ensures text { out.new.bytes ≡ fixed_text nano places }
+    ensures short { unsigned_abs nano ≤ 2 ^ 63 → length out.new.bytes ≤ 21 }
 {
     let unit = power_of_ten(9 - places);
     let rounded = split(nano.unsigned_abs() + (unit / 2) as u128, 9 - places).quotient;

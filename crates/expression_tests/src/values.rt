@@ -243,7 +243,7 @@ fn point_at(place: [i64; 3]) -> Point {
 fn values_are_exact_or_fault(rt: HostRuntime) -> Result<(), Fail> {
     for (text, place, answer) in VALUES {
         let told = value_at(rt.alloc(), text, &point_at(place));
-        assert_eq!(rt; told, Some(answer));
+        assert!(rt; told == Some(answer));
     }
     Ok(())
 }
@@ -254,7 +254,7 @@ fn conditions_hold_or_fault(rt: HostRuntime) -> Result<(), Fail> {
     point.classification = 2;
     for (text, answer) in CONDITIONS {
         let told = holds_at(rt.alloc(), text, &point);
-        assert_eq!(rt; told, Some(answer));
+        assert!(rt; told == Some(answer));
     }
     Ok(())
 }

@@ -193,3 +193,9 @@ pub trait Files {
         ensures counted { saturating (faults self.old) (Self.Out.faults out) ≤ faults self.new }
         ensures lent { lent self.new ≡ lent self.old - 1 };
 }
+
+/// Who says when the stages of several workers take their turns.
+pub trait Gate: Sync {
+    /// Whether the worker takes this stage's turn now. Where it says no, the turn is left out.
+    fn before(&self, worker: u32, stage: u32) -> bool;
+}

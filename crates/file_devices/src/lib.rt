@@ -11,7 +11,7 @@ mod sure;
 mod texts;
 mod whole;
 
-pub use devices::{DeviceErr, Failed, FileSink, Files, Op, Sink, Source};
+pub use devices::{DeviceErr, Failed, FileSink, Files, Gate, Op, Sink, Source};
 pub use files::MemFiles;
 pub use memory::{MemIn, MemOut};
 pub use reads::fill;

@@ -198,7 +198,7 @@ fn error_at(at: usize) -> TextErr {
 #[test]
 fn ranges_are_read(rt: HostRuntime) -> Result<(), Fail> {
     for (text, fault) in RANGES {
-        assert_eq!(rt; parse_ranges(rt.alloc(), text).err(), fault.map(error_at));
+        assert!(rt; parse_ranges(rt.alloc(), text).err() == fault.map(error_at));
     }
     Ok(())
 }
@@ -206,7 +206,7 @@ fn ranges_are_read(rt: HostRuntime) -> Result<(), Fail> {
 #[test]
 fn boxes_are_read(rt: HostRuntime) -> Result<(), Fail> {
     for (text, fault) in BOXES {
-        assert_eq!(rt; parse_bounds(text).err(), fault.map(fault_at));
+        assert!(rt; parse_bounds(text).err() == fault.map(fault_at));
     }
     Ok(())
 }
@@ -214,7 +214,7 @@ fn boxes_are_read(rt: HostRuntime) -> Result<(), Fail> {
 #[test]
 fn polygons_are_read(rt: HostRuntime) -> Result<(), Fail> {
     for (text, fault) in POLYGONS {
-        assert_eq!(rt; parse_polygon(rt.alloc(), text).err(), fault.map(error_at));
+        assert!(rt; parse_polygon(rt.alloc(), text).err() == fault.map(error_at));
     }
     Ok(())
 }
@@ -222,7 +222,7 @@ fn polygons_are_read(rt: HostRuntime) -> Result<(), Fail> {
 #[test]
 fn points_are_read(rt: HostRuntime) -> Result<(), Fail> {
     for (text, fault) in POINTS {
-        assert_eq!(rt; parse_point(text).err(), fault.map(fault_at));
+        assert!(rt; parse_point(text).err() == fault.map(fault_at));
     }
     Ok(())
 }

@@ -54,25 +54,22 @@ fn repeated(
 
 #[test]
 fn values_are_told(rt: HostRuntime) -> Result<(), Fail> {
-    assert_eq!(rt; parse_point(" PoInT(1 -.5 )\n"), Ok((ONE, -ONE / 2)));
+    assert!(rt; parse_point(" PoInT(1 -.5 )\n") == Ok((ONE, -ONE / 2)));
     let flat = Box3 {
         x: (0, ONE),
         y: (-ONE, -ONE),
         z: None,
     };
-    assert_eq!(rt; parse_bounds("([0,1],[ -1, -1 ])"), Ok(flat));
+    assert!(rt; parse_bounds("([0,1],[ -1, -1 ])") == Ok(flat));
     let high = Box3 {
         z: Some((2 * ONE, 3 * ONE)),
         ..flat
     };
-    assert_eq!(rt; parse_bounds("([0, 1], [-1, -1], [2, 3])"), Ok(high));
+    assert!(rt; parse_bounds("([0, 1], [-1, -1], [2, 3])") == Ok(high));
     let Ok(ring) = parse_polygon(rt.alloc(), "polygon((0 0,1 0,1 -1,0 0.))") else {
         return Err(Fail::from("a polygon is refused"));
     };
-    assert_eq!(rt;
-        ring.as_slice(),
-        [(0, 0), (ONE, 0), (ONE, -ONE), (0, 0)].as_slice()
-    );
+    assert!(rt; ring.as_slice() == [(0, 0), (ONE, 0), (ONE, -ONE), (0, 0)].as_slice());
     Ok(())
 }
 
@@ -81,10 +78,10 @@ fn ranges_are_told(rt: HostRuntime) -> Result<(), Fail> {
     let Ok(list) = parse_ranges(rt.alloc(), " Class_1 ! (2:] , Z[1:-.5)") else {
         return Err(Fail::from("ranges are refused"));
     };
-    assert_eq!(rt; list.as_slice().len(), INTERVALS.len());
+    assert!(rt; list.as_slice().len() == INTERVALS.len());
     for (range, (name, interval)) in list.as_slice().iter().zip(INTERVALS.iter()) {
-        assert_eq!(rt; range.name.as_str(), *name);
-        assert_eq!(rt; range.interval, *interval);
+        assert!(rt; range.name.as_str() == *name);
+        assert!(rt; range.interval == *interval);
     }
     Ok(())
 }
@@ -96,18 +93,12 @@ fn limits_of_parts_hold(rt: HostRuntime) -> Result<(), Fail> {
     assert!(rt; parse_ranges(alloc, most.as_str()).is_ok());
     let past = repeated(alloc, "", "Z[:]", 65, "")?;
     let fault = TextFault { at: 320 };
-    assert_eq!(rt;
-        parse_ranges(alloc, past.as_str()).err(),
-        Some(TextErr::Fault(fault))
-    );
+    assert!(rt; parse_ranges(alloc, past.as_str()).err() == Some(TextErr::Fault(fault)));
     let most = repeated(alloc, "POLYGON((", "0 1", 1024, "))")?;
     assert!(rt; parse_polygon(alloc, most.as_str()).is_ok());
     let past = repeated(alloc, "POLYGON((", "0 1", 1025, "))")?;
     let fault = TextFault { at: 4105 };
-    assert_eq!(rt;
-        parse_polygon(alloc, past.as_str()).err(),
-        Some(TextErr::Fault(fault))
-    );
+    assert!(rt; parse_polygon(alloc, past.as_str()).err() == Some(TextErr::Fault(fault)));
     texts_are_read();
     texts_have_one_fault();
     Ok(())

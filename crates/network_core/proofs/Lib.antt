@@ -5,3 +5,4 @@ pub mod Holds
 pub mod Edges
 pub mod Stepped
 pub mod Opened
+pub mod Ruled

@@ -11,6 +11,7 @@ use Rattle.network_core.specs.declared.node.Begun.TheVariants.{Give, Take, Ended
 use Rattle.network_core.specs.declared.turned.Turned.{Turned}
 use Rattle.network_core.specs.Shown.{shown, left, turned, choice, made_choice, new_fault}
 use Rattle.network_core.specs.Hands.{seen_hand}
+use Rattle.network_core.specs.Ruled.{is_read, is_gift}
 
 -- a turn that neither gave nor took
 pub record IsStill (t : Turned) : Type 0 where
@@ -21,6 +22,12 @@ abbrev pub Begins : {W S : Type 0} (g : Ghosts W S) → Node W → Node W → Be
 Begins g old new (Give kind) = (old.hand ≡ Some kind) × (new ≡ old)
 Begins g old new Take = (old.hand ≡ None) × (old.done ≡ false) × (old.ending ≡ false) × (g.leaf old.work ≡ false) × (new ≡ old)
 Begins g old new (Ended t) = (old.hand ≡ None) × ((ins : List ℕ) (root : Bool) (cap : ℕ) (input out : List (Item Point)) → left (shown g ins new) input out t ≡ net.with_hand root cap (choice g old new) (shown g ins old) input out None) × IsStill t
+
+-- a turn that was over at once neither read a queue nor gave to one
+abbrev pub TouchesNone : Begun → Type 0
+TouchesNone (Give kind) = Unit {0}
+TouchesNone Take = Unit {0}
+TouchesNone (Ended t) = (is_read t ≡ false) × (is_gift t ≡ false)
 
 -- a leaf that is to make its next item
 pub record WillMake {W S : Type 0} (g : Ghosts W S) (old : Node W) : Type 0 where

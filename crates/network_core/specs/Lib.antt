@@ -6,3 +6,5 @@ pub mod Begun
 pub mod Queues
 pub mod Wires
 pub mod Nets
+pub mod Ruled
+pub mod LentEnds

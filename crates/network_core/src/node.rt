@@ -1,8 +1,10 @@
 //! Nodes and their turns.
 
-ghost use Rattle.std.specs.Prelude.{◌≡◌, ◌<◌, ◌≤◌, true};
+ghost use Rattle.std.specs.Prelude.{◌≡◌, ◌<◌, ◌≤◌, true, None};
 ghost use Rattle.arrayvec.specs.ArrayVec.{array_vec_len};
 ghost use Rattle.network_core.specs.Hands.{holds_points};
+
+mod ruled;
 
 use crate::parts::{either, first, hand_of};
 use crate::turned::{Turned, Why};
@@ -38,6 +40,7 @@ pub struct Node<W> {
     ghost most: { chunk ≤ 64 },
     ghost within: { ended ≤ inputs },
     ghost held: { holds_points hand ≡ true → 0 < array_vec_len spread },
+    ghost rests: { done ≡ true → hand ≡ None },
 }
 
 impl<W: Work> Node<W> {
@@ -55,7 +58,8 @@ impl<W: Work> Node<W> {
     ghost use Rattle.network_core.specs.Shown.{shown, new_node, work_of, current_of, chosen, choice, made_choice, new_fault, left, turned};
     ghost use Rattle.network_core.specs.Calm.{Calm, NoEvent, Told, Obeys};
     ghost use Rattle.network_core.specs.Holding.{KeepsHolding, HoldsMore};
-    ghost use Rattle.network_core.specs.Begun.{Begins, IsStill, WillMake, made_by};
+    ghost use Rattle.network_core.specs.Ruled.{is_read};
+    ghost use Rattle.network_core.specs.Begun.{Begins, TouchesNone, IsStill, WillMake, made_by};
     ghost use Rattle.network_core.specs.Queues.{lent_items, room, room_left, left_items};
 
     /// A new node, with no inputs exactly for a leaf. A leaf makes at most `chunk` points at once, from 1 to 64.
@@ -140,6 +144,7 @@ impl<W: Work> Node<W> {
     /// What a turn does before it touches a queue. What is in the hand stays there.
     fn begin(&mut self) -> Begun
         ensures begins { Begins W.Work self.old self.new result }
+        ensures alone { TouchesNone result }
         ensures calm { Calm W.Work self.old self.new }
         ensures within { WillMake W.Work self.old → (ins : List ℕ) → net.IsWithin (made_by W.Work self.old self.new) (shown W.Work ins self.old) }
         ensures part { NoEvent W.Work self.old self.new → Told W.Work self.old → WillMake W.Work self.old → (ins : List ℕ) → net.IsPart (made_by W.Work self.old self.new) (shown W.Work ins self.old) }
@@ -166,6 +171,7 @@ impl<W: Work> Node<W> {
     /// The end that was still to come goes into the hand.
     fn make_end(&mut self)
         requires hand { self.old.hand ≡ None }
+        requires undone { self.old.done ≡ false }
         ensures calm { Calm W.Work self.old self.new }
         ensures told { Told W.Work self.old → Told W.Work self.new }
         ensures holds { KeepsHolding W.Work self.old self.new }
@@ -178,6 +184,7 @@ impl<W: Work> Node<W> {
     /// A leaf makes its next item.
     fn make_next(&mut self)
         requires leaf { W.leaf self.old.work ≡ true }
+        requires undone { self.old.done ≡ false }
         ensures calm { Calm W.Work self.old self.new }
         ensures holds { KeepsHolding W.Work self.old self.new }
         ensures within { (ins : List ℕ) → net.IsWithin (made_by W.Work self.old self.new) (shown W.Work ins self.old) }
@@ -302,6 +309,7 @@ impl<W: Work> Node<W> {
         ensures row { (ins : List ℕ) (cap : ℕ) (input out : List (Item Point)) (ch : net.Choice W.State Point StageFault) → left (shown W.Work ins self.new) input out result
             ≡ net.with_hand true cap ch (shown W.Work ins self.old) input out (Some (kind_item kind self.old.spread.items)) }
         ensures above { (ns : List ℕ) (number : ℕ) → net.numbers_above true (turned result) ns number ≡ ns }
+        ensures reads { is_read result ≡ false }
         ensures left { (ns : List ℕ) → net.numbers_left (turned result) ns ≡ ns }
         ensures calm { Calm W.Work self.old self.new }
         ensures told { Told W.Work self.old → Told W.Work self.new }
@@ -358,6 +366,7 @@ impl<W: Work> Node<W> {
     fn take_from(&mut self, input: &mut PlainQueue) -> Turned
         requires inner { W.leaf self.old.work ≡ false }
         requires hand { self.old.hand ≡ None }
+        requires undone { self.old.done ≡ false }
         requires no_end { self.old.ending ≡ false }
         requires more { self.old.ended < self.old.inputs }
         ensures row { (ins : List ℕ) (out : List (Item Point)) → left (shown W.Work ins self.new) (bodies input.new.items) out result
@@ -381,6 +390,7 @@ impl<W: Work> Node<W> {
     fn take(&mut self, kind: ItemKind)
         requires inner { W.leaf self.old.work ≡ false }
         requires hand { self.old.hand ≡ None }
+        requires undone { self.old.done ≡ false }
         requires no_end { self.old.ending ≡ false }
         requires more { self.old.ended < self.old.inputs }
         requires some { brings_points kind ≡ true → 0 < length self.old.spread.items }
@@ -399,6 +409,7 @@ impl<W: Work> Node<W> {
     fn take_points(&mut self)
         requires inner { W.leaf self.old.work ≡ false }
         requires hand { self.old.hand ≡ None }
+        requires undone { self.old.done ≡ false }
         requires no_end { self.old.ending ≡ false }
         requires some { 0 < length self.old.spread.items }
         ensures taken { (ins : List ℕ) → shown W.Work ins self.new ≡ net.taken (chosen W.Work self.old self.new) (shown W.Work ins self.old) (marks.Points self.old.spread.items) }
@@ -416,6 +427,7 @@ impl<W: Work> Node<W> {
     fn take_view(&mut self)
         requires inner { W.leaf self.old.work ≡ false }
         requires hand { self.old.hand ≡ None }
+        requires undone { self.old.done ≡ false }
         requires no_end { self.old.ending ≡ false }
         ensures taken { (ins : List ℕ) → shown W.Work ins self.new ≡ net.taken (chosen W.Work self.old self.new) (shown W.Work ins self.old) marks.End_view }
         ensures calm { Calm W.Work self.old self.new }
@@ -433,6 +445,7 @@ impl<W: Work> Node<W> {
     fn take_end(&mut self, cut: bool)
         requires inner { W.leaf self.old.work ≡ false }
         requires hand { self.old.hand ≡ None }
+        requires undone { self.old.done ≡ false }
         requires no_end { self.old.ending ≡ false }
         requires more { self.old.ended < self.old.inputs }
         ensures taken { (ins : List ℕ) → shown W.Work ins self.new ≡ net.taken (chosen W.Work self.old self.new) (shown W.Work ins self.old) (marks.End_all cut) }

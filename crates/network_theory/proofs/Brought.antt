@@ -22,7 +22,7 @@ pub points-of_points : {P : Type 0} (ps : List P) → mark_points (map At ps) �
 points-of_points [] = refl
 points-of_points (p ∷ ps) = ap (λ r. p ∷ r) (points-of_points ps)
 
-points-of_item : {P : Type 0} (i : Item P) → mark_points (marks i) ≡ item_points i
+pub points-of_item : {P : Type 0} (i : Item P) → mark_points (marks i) ≡ item_points i
 points-of_item (Points ps) = points-of_points ps
 points-of_item End_view = refl
 points-of_item (End_all c) = refl

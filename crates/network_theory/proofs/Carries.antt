@@ -11,7 +11,7 @@ use Rattle.network_theory.proofs.Rows.{gone, given-last}
 use Rattle.network_theory.proofs.Rest.{remains-taken, last-taken, to_end-points, ended-taken}
 use Rattle.network_theory.specs.Carried.{Carried, from_input, rest_of, joined}
 
-from-same : {P : Type 0} (f g : ℕ → List (Mark P)) (at left : ℕ) → ((k : ℕ) → f k ≡ g k) → from_input f at left ≡ from_input g at left
+pub from-same : {P : Type 0} (f g : ℕ → List (Mark P)) (at left : ℕ) → ((k : ℕ) → f k ≡ g k) → from_input f at left ≡ from_input g at left
 from-same f g at zero h = refl
 from-same f g at (suc left) h = ap (λ x. to_end x ++ from_input f (at + 1) left) (h at) ∙ ap (λ x. to_end (g at) ++ x) (from-same f g (at + 1) left h)
 
@@ -53,7 +53,7 @@ module _ {S P F : Type 0} (n : Node S P F) where
     last = λ r. sym (given-last false n [] [] i _ h);
   }
 
-  inputs-stay : (it : Item P) → (taken Quiet n it).machine.inputs ≡ n.machine.inputs
+  pub inputs-stay : (it : Item P) → (taken Quiet n it).machine.inputs ≡ n.machine.inputs
   inputs-stay (Points ps) = either (λ (m : Node S P F). m.machine.inputs ≡ n.machine.inputs) (is_some n.machine.fault) _ _ (λ _. refl) (λ _. refl)
   inputs-stay End_view = either (λ (m : Node S P F). m.machine.inputs ≡ n.machine.inputs) (is_some n.machine.fault) _ _ (λ _. refl) (λ _. refl)
   inputs-stay (End_all cut) = either (λ (m : Node S P F). m.machine.inputs ≡ n.machine.inputs) (n.machine.ended + 1 == n.machine.inputs) _ _ (λ _. refl) (λ _. refl)
@@ -69,8 +69,8 @@ module _ {S P F : Type 0} (n : Node S P F) where
       by_end true = ap (from_input r (n.machine.ended + 1)) (sym q)
       by_end false = ap (from_input r n.machine.ended) (sym p)
 
-  tape : (it : Item P) (r : ℕ → List (Mark P)) → n.machine.ended < n.machine.inputs → rest_of n (joined (at_input n.machine.ended it) r) ≡ marks it ++ rest_of (taken Quiet n it) r
-  tape it r m =
+  pub tape-took : (it : Item P) (r : ℕ → List (Mark P)) → n.machine.ended < n.machine.inputs → rest_of n (joined (at_input n.machine.ended it) r) ≡ marks it ++ rest_of (taken Quiet n it) r
+  tape-took it r m =
       let left = n.machine.inputs - (n.machine.ended + 1) in
       let p : n.machine.inputs - n.machine.ended ≡ suc (n.machine.inputs - (n.machine.ended + 1)) = omega arith in
       ap (from_input (joined (at_input n.machine.ended it) r) n.machine.ended) p
@@ -82,6 +82,6 @@ module _ {S P F : Type 0} (n : Node S P F) where
   carried-took law it h g l m =
       let t = took n law h g it in
       record {
-        flow = λ r. ap (remains n) (tape it r m) ∙ remains-taken n (taken Quiet n it) it t h g l (rest_of (taken Quiet n it) r);
-        last = λ r. ap (last_of n) (tape it r m) ∙ last-taken n (taken Quiet n it) it t h g l (rest_of (taken Quiet n it) r);
+        flow = λ r. ap (remains n) (tape-took it r m) ∙ remains-taken n (taken Quiet n it) it t h g l (rest_of (taken Quiet n it) r);
+        last = λ r. ap (last_of n) (tape-took it r m) ∙ last-taken n (taken Quiet n it) it t h g l (rest_of (taken Quiet n it) r);
       }

@@ -5,20 +5,14 @@ use Rattle.std.proofs.lemmas.Bool.{eqb-true}
 use Rattle.cloud_points.specs.Marks.{Item, Mark, End, Points, End_view, End_all, is_end}
 use Rattle.cloud_points.specs.Events.{first_fault}
 use Rattle.network_theory.specs.Machine.{is_cut, after_all, output}
-use Rattle.network_theory.specs.Net.{Node, Net, Choice, Quiet, Failed, Short, Makes, Outcome, given, taken, makes, of_machine, takes, with_hand, step, open_ins, holds_end, IsQuiet, IsPart, remains, last_of, rest, inputs_of, flow, in_hand, still_end, count_views, count_points}
+use Rattle.network_theory.specs.Net.{Node, Net, Choice, Quiet, Failed, Short, Makes, Outcome, given, taken, makes, of_machine, takes, with_hand, turn, step, open_ins, holds_end, IsQuiet, IsPart, remains, last_of, rest, inputs_of, flow, in_hand, still_end, count_views, count_points}
 use Rattle.network_theory.specs.Sound.{IsNode}
+use Rattle.network_theory.specs.Between.{IsClosing}
 use Rattle.network_theory.specs.Opening.{IsOpening}
 use Rattle.network_theory.specs.Schedule.{run_schedule, IsQuietRun, end_of}
 use Rattle.network_theory.proofs.Turns.{either}
 use Rattle.network_theory.proofs.Rows.{same_last}
 use Rattle.network_theory.proofs.Keeps.{conflict}
-
--- once its end is made nothing else is to come
-pub record IsClosing {S P F : Type 0} (n : Node S P F) : Type 0 where
-  pub hand : holds_end n.hand ≡ true → n.ending ≡ false
-  pub done : n.done ≡ true → n.ending ≡ false
-  pub leaf : n.leaf ≡ true → n.ending ≡ false
-  pub told : n.leaf ≡ true → n.done || holds_end n.hand ≡ true → (n.told ≡ []) × (n.told_fault ≡ None)
 
 or_cases : (a b : Bool) → a || b ≡ true → (a ≡ true) ⊎ (b ≡ true)
 or_cases true b h = inl refl
@@ -84,6 +78,9 @@ module _ {S P F : Type 0} (n : Node S P F) (ok : IsClosing n) where
       (λ e. either (λ (o : Outcome S P F). IsClosing o.node) n.leaf _ _
       (λ l. made ch d e l (q.leaf l h d e))
       (λ l. takes-one ch input out (q.inner l) d l)))
+
+  pub closing-turn : (root : Bool) (cap : ℕ) (ch : Choice S P F) (input out : List (Item P)) → IsQuiet ch n → IsClosing (turn root cap ch n input out).node
+  closing-turn root cap ch input out q = by_hand root cap ch input out q n.hand refl
 
 pub closing-step : {S P F : Type 0} (net : Net S P F) (root cap i : ℕ) (ch : Choice S P F) → IsQuiet ch (net.node i) → (k : ℕ) → IsClosing (net.node k) → IsClosing ((step net root cap i ch).node k)
 closing-step net root cap i ch q k ok = either IsClosing (k == i) _ _

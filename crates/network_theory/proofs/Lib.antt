@@ -24,3 +24,4 @@ pub mod Brought
 pub mod WholeFlows
 pub mod Tapes
 pub mod Streaming
+pub mod Betweens

@@ -4,7 +4,7 @@ use Rattle.std.specs.Prelude.{◌==◌, nat_lt, ◌+◌, length}
 use Rattle.std.proofs.lemmas.Bool.{eqb-true}
 use Rattle.cloud_points.specs.Meaning.{KeepsCutting}
 use Rattle.cloud_points.specs.Marks.{Item, Points, End_view, End_all}
-use Rattle.network_theory.specs.Net.{Node, Net, Choice, Quiet, Failed, Short, Makes, Outcome, taken, taken_points, taken_view, makes, takes, with_hand, turn_at, step, rest}
+use Rattle.network_theory.specs.Net.{Node, Net, Choice, Quiet, Failed, Short, Makes, Outcome, taken, taken_points, taken_view, makes, takes, with_hand, turn, turn_at, step, rest}
 use Rattle.network_theory.specs.Shape.{Each, Apart, In, IsTree, ins_of}
 use Rattle.network_theory.specs.Schedule.{run_schedule, IsQuietRun, KeepsLaws}
 use Rattle.network_theory.proofs.Turns.{either}
@@ -49,6 +49,9 @@ module _ {S P F : Type 0} (n : Node S P F) where
   by_hand : (root : Bool) (cap : ℕ) (ch : Choice S P F) (is out : List (Item P)) (h : Option (Item P)) → Same n (with_hand root cap ch n is out h).node
   by_hand root cap ch is out (Some i) = either (λ (o : Outcome S P F). Same n o.node) root _ _ (λ _. record { ins = refl; work = refl }) (λ _. either (λ (o : Outcome S P F). Same n o.node) (nat_lt (length out) cap) _ _ (λ _. record { ins = refl; work = refl }) (λ _. same))
   by_hand root cap ch is out None = either (λ (o : Outcome S P F). Same n o.node) n.done _ _ (λ _. same) (λ _. either (λ (o : Outcome S P F). Same n o.node) n.ending _ _ (λ _. record { ins = refl; work = refl }) (λ _. either (λ (o : Outcome S P F). Same n o.node) n.leaf _ _ (λ _. makes-same ch) (λ _. takes-same ch is out)))
+
+  pub turn-same : (root : Bool) (cap : ℕ) (ch : Choice S P F) (is out : List (Item P)) → Same n (turn root cap ch n is out).node
+  turn-same root cap ch is out = by_hand root cap ch is out n.hand
 
 module _ {S P F : Type 0} (net : Net S P F) (root cap i : ℕ) (ch : Choice S P F) where
   pub step-same : (k : ℕ) → Same (net.node k) ((step net root cap i ch).node k)

@@ -12,3 +12,4 @@ pub mod Flight
 pub mod Laws
 pub mod Carried
 pub mod Streaming
+pub mod Between

@@ -148,7 +148,7 @@ fn wrongly_written(rows: &[Row]) -> Result<Option<usize>, Fail> {
 
 #[test]
 fn records_stand_for_points(rt: HostRuntime) -> Result<(), Fail> {
-    assert_eq!(rt; wrongly_read(&DECODED)?, None);
+    assert!(rt; wrongly_read(&DECODED)? == None);
     numbers_return();
     records_are_whole();
     Ok(())
@@ -156,6 +156,6 @@ fn records_stand_for_points(rt: HostRuntime) -> Result<(), Fail> {
 
 #[test]
 fn points_are_written_as_records(rt: HostRuntime) -> Result<(), Fail> {
-    assert_eq!(rt; wrongly_written(&ENCODED)?, None);
+    assert!(rt; wrongly_written(&ENCODED)? == None);
     Ok(())
 }

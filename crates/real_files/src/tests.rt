@@ -103,16 +103,16 @@ fn is_removed(rt: &HostRuntime, name: &str) -> bool {
 fn a_file_is_written_in_pieces_and_read_back(rt: HostRuntime) {
     let mut files = RealFiles::new(&rt, rt.alloc());
     hands_out_to_threads(&files);
-    assert_eq!(rt; write_pieces(&mut files, rt.alloc()), Some(true));
+    assert!(rt; write_pieces(&mut files, rt.alloc()) == Some(true));
     let mut tried = 0u64;
     if let Ok(mut source) = files.open_in("pieces.bin") {
         for (at, count, bytes) in READS {
-            assert_eq!(rt; read(&mut source, at), Some((count, bytes)), "at {at}");
+            assert!(rt; read(&mut source, at) == Some((count, bytes)));
             tried = tried.wrapping_add(1);
         }
         files.done_in(source);
     }
-    assert_eq!(rt; (tried, files.count(), files.lent()), (8, 0, 0));
+    assert!(rt; (tried, files.count(), files.lent()) == (8, 0, 0));
     assert!(rt; is_removed(&rt, "pieces.bin"));
 }
 
@@ -140,7 +140,7 @@ fn a_part_file_that_is_there_stays(rt: HostRuntime) {
     let mut files = RealFiles::new(&rt, rt.alloc());
     assert!(rt; fs::write(&rt, PART, "another's").is_ok());
     assert!(rt; is_refused(&mut files, "there.txt"));
-    assert_eq!(rt; files.count(), 1);
+    assert!(rt; files.count() == 1);
     assert!(rt; holds(&rt, PART, "another's"));
     assert!(rt; is_removed(&rt, PART));
 }
@@ -171,12 +171,12 @@ fn refusal(files: &mut Store<'_>, name: &str) -> Option<DeviceErr> {
 fn no_part_file_is_left(rt: HostRuntime) {
     let mut files = RealFiles::new(&rt, rt.alloc());
     assert!(rt; is_dropped(&rt, &mut files, false));
-    assert_eq!(rt; refusal(&mut files, "gone.txt"), Some(DeviceErr::Failed));
-    assert_eq!(rt; files.count(), 1);
+    assert!(rt; refusal(&mut files, "gone.txt") == Some(DeviceErr::Failed));
+    assert!(rt; files.count() == 1);
 
     // The count rises where the file is gone already.
     assert!(rt; is_dropped(&rt, &mut files, true));
-    assert_eq!(rt; (files.count(), files.lent()), (2, 0));
+    assert!(rt; (files.count(), files.lent()) == (2, 0));
 }
 
 /// Whether nothing stands at a name, not even a link.
@@ -208,7 +208,7 @@ fn only_a_regular_file_is_replaced(rt: HostRuntime) {
     for name in REFUSED {
         assert!(rt; is_refused(&mut files, name), "{name}");
     }
-    assert_eq!(rt; files.count(), 8);
+    assert!(rt; files.count() == 8);
     for part in [
         "folder.lasline-part",
         "to_null.lasline-part",
@@ -236,9 +236,9 @@ fn late(rt: &HostRuntime, files: &mut Store<'_>) -> Option<DeviceErr> {
 #[test]
 fn what_comes_to_stand_at_a_name_stays(rt: HostRuntime) {
     let mut files = RealFiles::new(&rt, rt.alloc());
-    assert_eq!(rt; late(&rt, &mut files), Some(DeviceErr::Failed));
+    assert!(rt; late(&rt, &mut files) == Some(DeviceErr::Failed));
     assert!(rt; is_link(&rt, "late") && is_absent(&rt, "late.lasline-part"));
-    assert_eq!(rt; (files.count(), files.lent()), (1, 0));
+    assert!(rt; (files.count(), files.lent()) == (1, 0));
     assert!(rt; is_removed(&rt, "late"));
 }
 
@@ -271,10 +271,7 @@ fn links_are_followed_and_modes_kept(rt: HostRuntime) {
     assert!(rt; is_linked(&rt, "link.txt", "link_to_link.txt"));
     for (name, mode) in NAMED {
         let came = replaced(&rt, name, mode);
-        assert_eq!(rt;
-            came,
-            Some([Some((mode, 0)), Some((mode, 8)), Some((mode, 8))])
-        );
+        assert!(rt; came == Some([Some((mode, 0)), Some((mode, 8)), Some((mode, 8))]));
     }
     assert!(rt; is_absent(&rt, "real/o.txt.lasline-part"));
     assert!(rt; is_link(&rt, "link.txt") && is_link(&rt, "link_to_link.txt"));
@@ -314,9 +311,9 @@ fn unwritten(rt: &HostRuntime) -> Option<[bool; 3]> {
 #[test]
 fn a_file_that_was_not_written_is_not_kept(rt: HostRuntime) {
     for (first, second, early, late) in UNSYNCED {
-        assert_eq!(rt; unsynced(&rt, first, second), Some([early, late, true]));
+        assert!(rt; unsynced(&rt, first, second) == Some([early, late, true]));
     }
-    assert_eq!(rt; unwritten(&rt), Some([false, true, true]));
+    assert!(rt; unwritten(&rt) == Some([false, true, true]));
     assert!(rt; is_absent(&rt, "late.txt") && is_absent(&rt, LATE));
 }
 
@@ -354,11 +351,7 @@ fn gives_up(alloc: Global, interruptions: u32) -> Option<bool> {
 #[test]
 fn interrupted_reads_are_tried_again(rt: HostRuntime) {
     for (interruptions, fails) in [(0, false), (15, false), (16, true)] {
-        assert_eq!(rt;
-            gives_up(rt.alloc(), interruptions),
-            Some(fails),
-            "{interruptions}"
-        );
+        assert!(rt; gives_up(rt.alloc(), interruptions) == Some(fails));
     }
 }
 

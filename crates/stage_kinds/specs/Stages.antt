@@ -52,6 +52,7 @@ writing_meaning = record {
   fault = λ s points. stopped (writing_steps s.0) s.1 points;
   at_view = λ s. ((s.0, (writing_steps s.0).anew s.1), true);
   at_end = λ s cut. (s, false);
+  nature = None;
 }
 
 -- from its first point on it stops at one of these, or at none

@@ -77,4 +77,5 @@ merge_meaning = record {
   fault = λ s points. None;
   at_view = λ s. (s, false);
   at_end = λ s cut. (s, not cut);
+  nature = None;
 }

@@ -39,4 +39,5 @@ module _ {S P F : Type 0} where
     fault = stopped st;
     at_view = λ s. (st.anew s, true);
     at_end = λ s cut. (s, false);
+    nature = None;
   }

@@ -71,7 +71,7 @@ fn read_and_fill(alloc: Global, most: u64, at: u32) -> Option<(usize, usize, [u8
 fn reads_come_in_pieces_and_are_filled(rt: HostRuntime) {
     for (most, at, count, filled, bytes) in READS {
         let came = read_and_fill(rt.alloc(), most, at);
-        assert_eq!(rt; came, Some((count, filled, bytes)), "of {most} at {at}");
+        assert!(rt; came == Some((count, filled, bytes)));
     }
 }
 
@@ -87,7 +87,7 @@ fn whole(alloc: Global, limit: u32, call: u64) -> Option<Result<Option<bool>, Wh
 #[test]
 fn whole_sources_are_read_up_to_a_limit(rt: HostRuntime) {
     for (limit, call, came) in WHOLES {
-        assert_eq!(rt; whole(rt.alloc(), limit, call), Some(came), "with {limit}");
+        assert!(rt; whole(rt.alloc(), limit, call) == Some(came));
     }
 }
 
@@ -101,12 +101,12 @@ fn a_sink_fails_at_its_numbers_and_past_its_room(rt: HostRuntime) {
     let mut tried = 0u64;
     if let Some(mut sink) = sink(rt.alloc()) {
         for (piece, ok, held) in APPENDS {
-            assert_eq!(rt; sink.append(piece).is_ok(), ok);
-            assert_eq!(rt; sink.bytes(), held);
+            assert!(rt; sink.append(piece).is_ok() == ok);
+            assert!(rt; sink.bytes() == held);
             tried = tried.wrapping_add(1);
         }
     }
-    assert_eq!(rt; tried, 4);
+    assert!(rt; tried == 4);
 }
 
 /// Whether a sink with room for six bytes tells what it holds, up to the piece that passes its room.
@@ -176,7 +176,7 @@ fn failing(
 fn chosen_calls_fail_on_each_object(rt: HostRuntime) {
     for (object, call, steps, count, kept) in RUNS {
         let came = failing(rt.alloc(), object, call, kept);
-        assert_eq!(rt; came, Some((steps, count, true)), "at {object}, {call}");
+        assert!(rt; came == Some((steps, count, true)));
     }
 }
 
@@ -224,7 +224,7 @@ fn sure_files_tell_until_a_sink_went_over(rt: HostRuntime) {
         came[4] = refusal(&mut files) == Some(DeviceErr::Memory);
         came[5] = lent_and_dropped(&mut files) == (1, 0);
     }
-    assert_eq!(rt; came, [true; 6]);
+    assert!(rt; came == [true; 6]);
 }
 
 /// Whether a name gives its text back.

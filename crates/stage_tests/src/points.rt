@@ -71,8 +71,8 @@ fn refuses(dim: Dim, value: i128) -> bool {
 #[test]
 fn each_range_holds_its_ends_and_no_more(rt: HostRuntime) {
     for (dim, least, greatest) in RANGES {
-        assert_eq!(rt; held(dim, least), Some((least, least)), "{dim:?}");
-        assert_eq!(rt; held(dim, greatest), Some((greatest, greatest)), "{dim:?}");
+        assert!(rt; held(dim, least) == Some((least, least)));
+        assert!(rt; held(dim, greatest) == Some((greatest, greatest)));
         assert!(rt;
             refuses(dim, i128::MIN) && refuses(dim, i128::MAX),
             "{dim:?}"
@@ -84,12 +84,8 @@ fn each_range_holds_its_ends_and_no_more(rt: HostRuntime) {
 fn whole_numbers_are_rounded_half_away(rt: HostRuntime) {
     let mut point = Point::zero();
     for (nano, taken, number) in CLASSES {
-        assert_eq!(rt;
-            point.set(Dim::Classification, nano).is_ok(),
-            taken,
-            "{nano}"
-        );
-        assert_eq!(rt; point.classification, number, "{nano}");
+        assert!(rt; point.set(Dim::Classification, nano).is_ok() == taken);
+        assert!(rt; point.classification == number);
     }
 }
 
@@ -107,9 +103,9 @@ fn extra_dimensions_stand_apart(rt: HostRuntime) {
     let point = extra_point();
     for (place, nano, name) in EXTRAS {
         let dim = Dim::Extra(place);
-        assert_eq!(rt; point.get(dim), nano, "{place}");
-        assert_eq!(rt; dim.name(), name, "{place}");
-        assert_eq!(rt; point.extra[place as usize] as i128, nano, "{place}");
+        assert!(rt; point.get(dim) == nano);
+        assert!(rt; dim.name() == name);
+        assert!(rt; point.extra[place as usize] as i128 == nano);
     }
 }
 
@@ -118,14 +114,10 @@ fn a_number_beyond_the_eight_stands_for_the_last(rt: HostRuntime) {
     let mut point = extra_point();
     for place in [8, 255] {
         let dim = Dim::Extra(place);
-        assert_eq!(rt;
-            (point.get(dim), dim.name()),
-            (EXTRAS[7].1, "Extra7"),
-            "{place}"
-        );
+        assert!(rt; (point.get(dim), dim.name()) == (EXTRAS[7].1, "Extra7"));
     }
-    assert_eq!(rt; point.set(Dim::Extra(200), 5), Ok(()));
-    assert_eq!(rt; point.extra[7], 5);
+    assert!(rt; point.set(Dim::Extra(200), 5) == Ok(()));
+    assert!(rt; point.extra[7] == 5);
 }
 
 /// The key of no time; and of another one its word, its key, its number, and whether a number is refused.
@@ -140,15 +132,15 @@ fn times() -> (i128, u64, i128, i128, bool) {
 
 #[test]
 fn times_are_words(rt: HostRuntime) {
-    assert_eq!(rt;
-        times(),
-        (
-            1 << 63,
-            0xBFF0_0000_0000_0000,
-            0x400F_FFFF_FFFF_FFFF,
-            0,
-            true
-        )
+    assert!(rt;
+        times()
+            == (
+                1 << 63,
+                0xBFF0_0000_0000_0000,
+                0x400F_FFFF_FFFF_FFFF,
+                0,
+                true
+            )
     );
 }
 
@@ -172,9 +164,9 @@ fn chunk_holds(count: i64) -> Option<bool> {
 
 #[test]
 fn chunks_hold_the_points_of_their_spread(rt: HostRuntime) {
-    assert_eq!(rt; chunk_holds(0), None);
+    assert!(rt; chunk_holds(0) == None);
     for count in [1, 2, 63, 64] {
-        assert_eq!(rt; chunk_holds(count), Some(true), "{count}");
+        assert!(rt; chunk_holds(count) == Some(true));
     }
 }
 
@@ -199,13 +191,12 @@ fn ends(body: Body) -> bool {
 
 #[test]
 fn only_an_end_ends(rt: HostRuntime) {
-    assert_eq!(rt;
+    assert!(rt;
         (
             ends(Body::EndView),
             ends(Body::End(false)),
             ends(Body::End(true))
-        ),
-        (false, true, true)
+        ) == (false, true, true)
     );
 }
 
@@ -237,12 +228,12 @@ fn sets() -> ([bool; 3], [bool; 3], [bool; 6]) {
 
 #[test]
 fn a_set_has_the_dimensions_that_were_put_in(rt: HostRuntime) {
-    assert_eq!(rt;
-        sets(),
-        (
-            [false; 3],
-            [true; 3],
-            [true, false, true, false, true, false]
-        )
+    assert!(rt;
+        sets()
+            == (
+                [false; 3],
+                [true; 3],
+                [true, false, true, false, true, false]
+            )
     );
 }

@@ -44,14 +44,14 @@ fn items_come_out_in_order_and_a_full_queue_hands_back(rt: HostRuntime) {
         if let Ok(mut queue) = made {
             assert!(rt; queue.is_empty());
             for no in 0..capacity as u64 {
-                assert_eq!(rt; handed_back(&mut queue, no), None);
+                assert!(rt; handed_back(&mut queue, no) == None);
             }
             assert!(rt; !queue.has_room());
-            assert_eq!(rt; handed_back(&mut queue, 99), Some(99));
+            assert!(rt; handed_back(&mut queue, 99) == Some(99));
             for no in 0..capacity as u64 {
-                assert_eq!(rt; popped(&mut queue), Some(no));
+                assert!(rt; popped(&mut queue) == Some(no));
             }
-            assert_eq!(rt; popped(&mut queue), None);
+            assert!(rt; popped(&mut queue) == None);
         }
     }
 }
@@ -91,9 +91,9 @@ fn parts_go_round_the_slots(rt: HostRuntime) {
                 no,
                 kind: ItemKind::Points,
             };
-            assert_eq!(rt; rounds(&mut queue, no, count), Some((true, tag, count)));
+            assert!(rt; rounds(&mut queue, no, count) == Some((true, tag, count)));
         }
         assert!(rt; queue.is_empty());
-        assert_eq!(rt; queue.pop_into(&mut Spread::new()), None);
+        assert!(rt; queue.pop_into(&mut Spread::new()) == None);
     }
 }

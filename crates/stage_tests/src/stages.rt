@@ -90,7 +90,7 @@ fn made(alloc: Global, size: usize, has_view: bool) -> Option<(bool, Made, Optio
 fn a_reader_gives_its_points_and_its_end(rt: HostRuntime) {
     for (size, points, view, end) in MADE {
         let came = made(rt.alloc(), size, view.is_some());
-        assert_eq!(rt; came, Some((true, points, view, end)), "{size}");
+        assert!(rt; came == Some((true, points, view, end)));
     }
 }
 
@@ -143,8 +143,5 @@ fn written(alloc: Global) -> Option<[(Option<StageFault>, usize); 2]> {
 
 #[test]
 fn a_writer_lets_its_points_pass_until_its_sink_fails(rt: HostRuntime) {
-    assert_eq!(rt;
-        written(rt.alloc()),
-        Some([(None, 2), (Some(StageFault::Device(Op::Write)), 0)])
-    );
+    assert!(rt; written(rt.alloc()) == Some([(None, 2), (Some(StageFault::Device(Op::Write)), 0)]));
 }

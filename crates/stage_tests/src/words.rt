@@ -140,5 +140,5 @@ fn bad_words_are_placed(rt: HostRuntime) {
         assert!(rt; is_read(rt.alloc(), line, Err(place)), "{line}");
     }
     let none = Vec::new(rt.alloc());
-    assert_eq!(rt; read_command(&none), Err(0));
+    assert!(rt; read_command(&none) == Err(0));
 }

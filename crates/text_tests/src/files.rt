@@ -135,7 +135,7 @@ fn fails(alloc: Global, call: u64, held: usize) -> Result<(bool, bool), Fail> {
 fn a_failed_sink_is_given_back(rt: HostRuntime) -> Result<(), Fail> {
     for (call, refused, held) in FAILURES {
         let answer = fails(rt.alloc(), call, held)?;
-        assert_eq!(rt; answer, (refused, true), "at {call}");
+        assert!(rt; answer == (refused, true));
     }
     Ok(())
 }

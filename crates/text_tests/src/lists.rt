@@ -126,7 +126,7 @@ fn shown_groups(groups: Groups) -> [bool; 4] {
 fn ferries_are_read(rt: HostRuntime) -> Result<(), AllocError> {
     for (text, expected) in FERRIES {
         let shown = shown_ferries(rt.alloc(), text)?;
-        assert_eq!(rt; shown.as_str(), expected, "{text}");
+        assert!(rt; shown.as_str() == expected);
     }
     Ok(())
 }
@@ -135,7 +135,7 @@ fn ferries_are_read(rt: HostRuntime) -> Result<(), AllocError> {
 fn groups_are_read(rt: HostRuntime) {
     for (text, expected) in GROUPS {
         let shown = groups_of(text).map(|groups| shown_groups(groups));
-        assert_eq!(rt; shown, expected, "{text}");
+        assert!(rt; shown == expected);
     }
 }
 
@@ -143,8 +143,8 @@ fn groups_are_read(rt: HostRuntime) {
 fn columns_are_read(rt: HostRuntime) -> Result<(), AllocError> {
     for (text, expected) in COLUMNS {
         let shown = shown_columns(rt.alloc(), text)?;
-        assert_eq!(rt; shown.as_str(), expected, "{text}");
-        assert_eq!(rt; is_columns(text), expected != "refused", "{text}");
+        assert!(rt; shown.as_str() == expected);
+        assert!(rt; is_columns(text) == expected != "refused");
     }
     Ok(())
 }
@@ -153,8 +153,8 @@ fn columns_are_read(rt: HostRuntime) -> Result<(), AllocError> {
 fn fields_are_read(rt: HostRuntime) -> Result<(), AllocError> {
     for (text, expected) in FIELDS {
         let shown = shown_fields(rt.alloc(), text)?;
-        assert_eq!(rt; shown.as_str(), expected, "{text}");
-        assert_eq!(rt; is_forward(text), expected != "refused", "{text}");
+        assert!(rt; shown.as_str() == expected);
+        assert!(rt; is_forward(text) == expected != "refused");
     }
     Ok(())
 }

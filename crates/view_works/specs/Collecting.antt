@@ -34,6 +34,7 @@ collecting = record {
   fault = λ s ps. None;
   at_view = λ s. ((s.0, with_end s.1), true);
   at_end = λ s cut. ((s.0, with_cut s.1 cut), false);
+  nature = None;
 }
 
 more-more : (s : Held) (a b : List Point) → with_more s (a ++ b) ≡ with_more (with_more s a) b

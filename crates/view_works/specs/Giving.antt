@@ -27,6 +27,7 @@ module _ {S : Type 0} where
     fault = λ s points. None;
     at_view = λ s. (s, false);
     at_end = λ s cut. (s, false);
+    nature = None;
   }
 
   pub resting_keeps : KeepsCutting resting

@@ -139,13 +139,13 @@ fn refused(alloc: Global) -> Option<(Result<(), ChunkErr>, Result<(), PutFault>,
 #[test]
 fn a_point_without_a_record_is_refused(rt: HostRuntime) {
     let why = RecordFault::ValueOutOfRange(Dim::ReturnNumber);
-    assert_eq!(rt;
-        refused(rt.alloc()),
-        Some((
-            Err(ChunkErr::Refused(RefusedPoint { at: 1, why })),
-            Err(PutFault::ValueOutOfRange(Dim::ReturnNumber)),
-            375
-        ))
+    assert!(rt;
+        refused(rt.alloc())
+            == Some((
+                Err(ChunkErr::Refused(RefusedPoint { at: 1, why })),
+                Err(PutFault::ValueOutOfRange(Dim::ReturnNumber)),
+                375
+            ))
     );
 }
 
@@ -178,6 +178,6 @@ const FAILURES: [(u64, [bool; 3]); 5] = [
 #[test]
 fn a_failed_sink_is_told(rt: HostRuntime) {
     for (call, which) in FAILURES {
-        assert_eq!(rt; failing(rt.alloc(), call), Some(which), "at {call}");
+        assert!(rt; failing(rt.alloc(), call) == Some(which));
     }
 }

@@ -132,7 +132,7 @@ const FORMS: [(&[&str], Told); 4] = [
 #[test]
 fn fields_are_given_or_go_over_or_are_the_defaults(rt: HostRuntime) {
     for (forward, expected) in FORMS {
-        assert_eq!(rt; form(rt.alloc(), forward).map(told), Some(expected));
+        assert!(rt; form(rt.alloc(), forward).map(told) == Some(expected));
     }
 }
 
@@ -200,7 +200,7 @@ fn sample() -> [u8; 415] {
 fn a_file_is_written_again_as_it_was(rt: HostRuntime) {
     let file = sample();
     let written = read_and_written(rt.alloc(), 4, &file);
-    assert_eq!(rt; written.as_deref(), Some(file.as_slice()));
+    assert!(rt; written.as_deref() == Some(file.as_slice()));
     files_are_read_back();
     files_become_bytes();
     points_are_read_back();
@@ -235,7 +235,7 @@ fn sample_with_evlr() -> [u8; 477] {
 fn evlrs_go_over_into_files_of_1_4_alone(rt: HostRuntime) {
     let file = sample_with_evlr();
     let written = read_and_written(rt.alloc(), 4, &file);
-    assert_eq!(rt; written.as_deref(), Some(file.as_slice()));
+    assert!(rt; written.as_deref() == Some(file.as_slice()));
     let older = read_and_written(rt.alloc(), 2, &file);
-    assert_eq!(rt; older.map(|file| file.len()), Some(267));
+    assert!(rt; older.map(|file| file.len()) == Some(267));
 }

@@ -5,6 +5,7 @@ use Rattle.decimal_coords.proofs.fixed.print_fixed.Goals.{then-nano-lt0+then-rou
 use Rattle.std.proofs.lemmas.Int.{ints, to_z-of_z}
 use Rattle.decimal_coords.specs.Fixed.{places_text}
 use Rattle.decimal_coords.proofs.Printing.{whole_small, unit_places, ten_some, fixed_plain, fixed_minus}
+use Rattle.decimal_coords.proofs.Lengths.{fixed_short}
 use Rattle.decimal_coords.proofs.fixed.print_fixed.Goals as goal
 
 pub push_places-requires-clause-small : goal.push_places-requires-clause-small
@@ -13,8 +14,8 @@ push_places-requires-clause-small c =
     (ap (λ x. x * 10 ^ c.args.places) c.power_of_ten-unit.ensures.value ∙ unit_places c.args.places c.requires)
     (ten_some c.args.places))
 
-pub returns : goal.returns
-returns c =
+pub returns-clause-text : goal.returns-clause-text
+returns-clause-text c =
     let i = to_z-of_z w128 c.args.nano c.ranges.nano in
     let s : ℕ = c.unsigned_abs.result in
     let unit : ℕ = c.power_of_ten-unit.result in
@@ -38,3 +39,6 @@ returns c =
           ] in
           t ∙ fixed_plain c.args.nano s unit c.args.places c.power_of_ten-unit.ensures.value k
     ]
+
+pub returns-clause-short : goal.returns-clause-short
+returns-clause-short c = λ h. rw (returns-clause-text c) (fixed_short c.args.nano c.args.places c.requires h)

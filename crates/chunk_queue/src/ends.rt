@@ -1,0 +1,159 @@
+//! The two ends of a queue between two threads.
+
+ghost use Rattle.std.specs.Prelude.{◌≡◌, ◌<◌, ◌≤◌, ◌||◌, true, false, length, OnOk, IfErr, MatchOption};
+ghost use Rattle.std.specs.Bool.{OnTrue, OnFalse};
+ghost use Rattle.cloud_points.specs.Queue.{up_to_limit};
+ghost use Rattle.chunk_queue.specs.Slots.{brings_points, tag_item, kind_body};
+
+use crate::order::{Line, LinePass, Sends, Takes};
+use crate::parcel::Parcel;
+use crate::parts::either;
+use crate::plain::body_of;
+use crate::slots::{Slots, put_free, take_free};
+use crate::tag::{ItemKind, Tag};
+use cloud_points::{Body, Item, Point, Spread};
+use std::marker::Model;
+use std::sync::Wait;
+
+/// The end that sends. A clause sees which queue it is of, its capacity, and all that was sent.
+#[derive(Drop)]
+pub struct RuledOut<'a> {
+    pub(crate) line: &'a Line,
+    pub(crate) slots: &'a Slots,
+    pub(crate) pass: LinePass,
+    pub(crate) count: u64,
+}
+
+impl<'a> Model for RuledOut<'a> {
+    ghost use Rattle.crossbeam_queue.specs.Passes.{ruled_capacity};
+    ghost use Rattle.chunk_queue.specs.Ends.{OutSeen, out_seen, knows, IsOut};
+
+    ghost Value = { OutSeen };
+
+    ghost view = { λ o. out_seen o.line.now.table.shared.table_id (ruled_capacity o.line.now) (knows o.pass).sent };
+
+    ghost invariant = { λ o. IsOut o.line.now o.pass o.count };
+}
+
+/// The end that takes. A clause sees which queue it is of, its capacity, and all that was got.
+#[derive(Drop)]
+pub struct RuledIn<'a> {
+    pub(crate) line: &'a Line,
+    pub(crate) slots: &'a Slots,
+    pub(crate) pass: LinePass,
+    pub(crate) count: u64,
+    pub(crate) ended: bool,
+}
+
+impl<'a> Model for RuledIn<'a> {
+    ghost use Rattle.crossbeam_queue.specs.Passes.{ruled_capacity};
+    ghost use Rattle.chunk_queue.specs.Ends.{InSeen, in_seen, knows, IsIn};
+
+    ghost Value = { InSeen };
+
+    ghost view = { λ i. in_seen i.line.now.table.shared.table_id (ruled_capacity i.line.now) (knows i.pass).got };
+
+    ghost invariant = { λ i. IsIn i.line.now i.pass i.count i.ended };
+}
+
+impl<'a> RuledOut<'a> {
+    ghost use Rattle.chunk_queue.specs.Ends.{ended, sends, HadRoom, WasFull};
+
+    /// Sends the item that a tag and points make, or changes nothing where the queue was full at a step of the call. The
+    /// points count only where the tag brings points, and then there are 1 to 64 of them.
+    pub fn push_from<R: Wait>(&mut self, rt: &R, tag: Tag, points: &[Point]) -> bool
+        requires number { tag.no ≡ up_to_limit (length self.old.sent) }
+        requires goes_on { ended self.old.sent ≡ false }
+        requires some { brings_points tag.kind ≡ true → 0 < length points.now }
+        requires most { length points.now ≤ 64 }
+        ensures pushed { OnTrue result (self.new ≡ sends self.old (tag_item tag points.now)) }
+        ensures room { OnTrue result (HadRoom self.old) }
+        ensures same { OnFalse result (self.new ≡ self.old) }
+        ensures full { OnFalse result (WasFull self.old) }
+    {
+        if self.line.is_full_as::<Sends>(&mut self.pass) {
+            return false;
+        }
+        let parcel = Parcel::new(tag, take_free(rt, self.slots), points);
+        match self.line.push_as::<Sends, R>(rt, &mut self.pass, parcel) {
+            Ok(()) => {
+                self.count = self.count.saturating_add(1);
+                true
+            }
+            Err(parcel) => {
+                put_free(rt, self.slots, parcel.into_slot());
+                false
+            }
+        }
+    }
+
+    /// Sends an item, or hands it back where the queue was full at a step of the call.
+    pub fn push<R: Wait>(&mut self, rt: &R, item: Item) -> Result<(), Item>
+        requires number { item.no ≡ up_to_limit (length self.old.sent) }
+        requires goes_on { ended self.old.sent ≡ false }
+        ensures pushed { OnOk result (self.new ≡ sends self.old item) }
+        ensures room { OnOk result (HadRoom self.old) }
+        ensures back { IfErr result (λ i. i ≡ item) }
+        ensures full { IfErr result (λ i. (self.new ≡ self.old) × WasFull self.old) }
+    {
+        if self.push_body(rt, item.no, &item.body) {
+            Ok(())
+        } else {
+            Err(item)
+        }
+    }
+
+    /// Sends an item, or changes nothing where the queue was full at a step of the call.
+    fn push_body<R: Wait>(&mut self, rt: &R, no: u64, body: &Body) -> bool
+        requires number { no ≡ up_to_limit (length self.old.sent) }
+        requires goes_on { ended self.old.sent ≡ false }
+        ensures pushed { OnTrue result (self.new ≡ sends self.old (record { no = no; body = body.now })) }
+        ensures room { OnTrue result (HadRoom self.old) }
+        ensures same { OnFalse result (self.new ≡ self.old) }
+        ensures full { OnFalse result (WasFull self.old) }
+    {
+        match body {
+            Body::Points(chunk) => {
+                let kind = ItemKind::Points;
+                self.push_from(rt, Tag { no, kind }, chunk.points())
+            }
+            Body::EndView => {
+                let kind = ItemKind::EndView;
+                self.push_from(rt, Tag { no, kind }, &[])
+            }
+            Body::End(cut) => {
+                let kind = ItemKind::End(*cut);
+                self.push_from(rt, Tag { no, kind }, &[])
+            }
+        }
+    }
+}
+
+impl<'a> RuledIn<'a> {
+    ghost use Rattle.chunk_queue.specs.Ends.{takes, IsTaken, WasEmpty, WasFirst};
+
+    /// Takes the first item, apart from its points, which are put in place of what the spread held. None comes where the
+    /// queue was empty at a step of the call. The spread is unchanged where the item brings no points.
+    pub fn pop_into<R: Wait>(&mut self, rt: &R, points: &mut Spread) -> Option<Tag>
+        ensures { IsTaken self.old self.new result points.old.items points.new.items }
+    {
+        let parcel = self.line.pop_as::<Takes, R>(rt, &mut self.pass)?;
+        let (tag, slot) = parcel.open(points);
+        put_free(rt, self.slots, slot);
+        self.count = self.count.saturating_add(1);
+        self.ended = either(self.ended, tag.kind.is_end());
+        Some(tag)
+    }
+
+    /// Takes the first item. None comes where the queue was empty at a step of the call.
+    pub fn pop<R: Wait>(&mut self, rt: &R) -> Option<Item>
+        ensures { MatchOption result ((self.new ≡ self.old) × WasEmpty self.old) (λ i. (self.new ≡ takes self.old i) × WasFirst self.old i) }
+    {
+        let mut points = Spread::new();
+        let tag = self.pop_into(rt, &mut points)?;
+        Some(Item {
+            no: tag.no,
+            body: body_of(tag.kind, &points),
+        })
+    }
+}
