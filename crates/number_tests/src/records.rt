@@ -48,32 +48,50 @@ fn grid_of(text: &str) -> Result<Grid, Fail>
     Ok(Grid { scale, offset })
 }
 
-fn point_of(text: &str) -> Result<Point, Fail> {
+/// The numbers of a row, one for each dimension.
+fn numbers(text: &str) -> Result<[i128; 22], Fail> {
+    let mut numbers = [0; 22];
     let mut words = text.split_whitespace();
+    for place in &mut numbers {
+        *place = number(&mut words)?;
+    }
+    Ok(numbers)
+}
+
+/// A number as the value of a field, or 0 where the field can't hold it.
+fn held<T: TryFrom<i128> + Default>(number: i128) -> T
+where
+    T::Error: Drop,
+{
+    T::try_from(number).unwrap_or_default()
+}
+
+fn point_of(text: &str) -> Result<Point, Fail> {
+    let n = numbers(text)?;
     Ok(Point {
-        x: number(&mut words)?,
-        y: number(&mut words)?,
-        z: number(&mut words)?,
-        intensity: number(&mut words)?,
-        return_number: number(&mut words)?,
-        number_of_returns: number(&mut words)?,
-        scan_direction_flag: number(&mut words)?,
-        edge_of_flight_line: number(&mut words)?,
-        classification: number(&mut words)?,
-        synthetic: number(&mut words)?,
-        key_point: number(&mut words)?,
-        withheld: number(&mut words)?,
-        overlap: number(&mut words)?,
-        scan_channel: number(&mut words)?,
-        scan_angle_rank: number(&mut words)?,
-        user_data: number(&mut words)?,
-        point_source_id: number(&mut words)?,
-        gps_time: number(&mut words)?,
+        x: held(n[0]),
+        y: held(n[1]),
+        z: held(n[2]),
+        intensity: held(n[3]),
+        return_number: held(n[4]),
+        number_of_returns: held(n[5]),
+        scan_direction_flag: held(n[6]),
+        edge_of_flight_line: held(n[7]),
+        classification: held(n[8]),
+        synthetic: held(n[9]),
+        key_point: held(n[10]),
+        withheld: held(n[11]),
+        overlap: held(n[12]),
+        scan_channel: held(n[13]),
+        scan_angle_rank: held(n[14]),
+        user_data: held(n[15]),
+        point_source_id: held(n[16]),
+        gps_time: held(n[17]),
         extra: [0; 8],
-        red: number(&mut words)?,
-        green: number(&mut words)?,
-        blue: number(&mut words)?,
-        infrared: number(&mut words)?,
+        red: held(n[18]),
+        green: held(n[19]),
+        blue: held(n[20]),
+        infrared: held(n[21]),
     })
 }
 

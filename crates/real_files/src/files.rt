@@ -1,11 +1,11 @@
 //! The store of the system's files.
-ghost use Rattle.std.specs.Prelude.{◌≡◌, ◌+◌, ◌-◌, ◌^◌, ◌<◌, ◌≤◌, [], None, IfOk, IsErrOf, ◌++◌, codes, string_bytes, true, false};
+ghost use Rattle.std.specs.Prelude.{◌≡◌, ◌+◌, ◌-◌, ◌^◌, ◌<◌, ◌≤◌, None, IfOk, IsErrOf, ◌++◌, codes, string_bytes};
 ghost use Rattle.file_devices.specs.Counts.{Rose, saturating};
 ghost use Rattle.file_devices.specs.declared.devices.DeviceErr.TheVariants.{Absent, Failed as DeviceFailed};
 
+use crate::RealOut;
 use crate::target::{Target, target_of};
-use crate::window::Window;
-use crate::{RealIn, RealOut};
+use file_buffers::{BlockReader, BlockWriter};
 use file_devices::{DeviceErr, Files};
 use std::alloc::{AllocError, Global};
 use std::fs::{File, OpenOptions, Permissions};
@@ -37,6 +37,8 @@ fn part_of(alloc: Global, name: &str) -> Result<String, AllocError>
 }
 
 impl<'a, R: std::rt::Files<File = File>> RealFiles<'a, R> {
+    ghost use Rattle.file_buffers.specs.Finished.{IsFinished};
+
     /// The store of the files that the runtime can open.
     pub fn new(rt: &'a R, alloc: Global) -> Self
         ensures faults { ⟦<RealFiles<'a, R> as Files>⟧.faults result ≡ 0 }
@@ -120,22 +122,18 @@ impl<'a, R: std::rt::Files<File = File>> RealFiles<'a, R> {
 
     // Gives the file of a sink its name. All its bytes have gone to the device.
     fn rename(&self, out: &RealOut, target: &Target) -> io::Result<()>
-        requires none_waits { out.now.waiting.items ≡ [] }
-        requires whole { out.now.broken ≡ false }
-        requires synced { out.now.synced ≡ true }
+        requires finished { IsFinished out.now.writer }
     {
         if let Some(mode) = target.mode {
-            out.set_mode(mode)?;
+            out.writer.set_mode(mode)?;
         }
-        fs::rename(self.rt, out.part(), target.path.as_str())
+        fs::rename(self.rt, out.part.as_str(), target.path.as_str())
     }
 
     // Looks at a name once more, and gives it to the file of a sink. What comes to stand there between
     // the two is replaced.
     fn put(&mut self, out: &RealOut, name: &str) -> Result<(), DeviceErr>
-        requires none_waits { out.now.waiting.items ≡ [] }
-        requires whole { out.now.broken ≡ false }
-        requires synced { out.now.synced ≡ true }
+        requires finished { IsFinished out.now.writer }
         ensures not_absent { IsErrOf result Absent → ⊥ }
         ensures failed { IsErrOf result DeviceFailed → Rose self.old.faults self.new.faults }
         ensures later { self.old.faults ≤ self.new.faults }
@@ -153,14 +151,14 @@ impl<'a, R: std::rt::Files<File = File>> RealFiles<'a, R> {
         ensures later { self.old.faults ≤ self.new.faults }
         ensures lent { self.new.lent ≡ self.old.lent }
     {
-        if fs::remove_file(self.rt, out.part()).is_err() {
+        if fs::remove_file(self.rt, out.part.as_str()).is_err() {
             self.faults = self.faults.saturating_add(1);
         }
     }
 }
 
 impl<'a, R: std::rt::Files<File = File>> Files for RealFiles<'a, R> {
-    type In = RealIn;
+    type In = BlockReader<File>;
 
     type Out = RealOut;
 
@@ -172,15 +170,15 @@ impl<'a, R: std::rt::Files<File = File>> Files for RealFiles<'a, R> {
 
     ghost faults = { λ s. s.faults };
 
-    fn open_in(&mut self, name: &str) -> Result<RealIn, DeviceErr> {
+    fn open_in(&mut self, name: &str) -> Result<BlockReader<File>, DeviceErr> {
         if self.lent == u64::MAX {
             return Err(DeviceErr::Memory);
         }
-        let window = Window::new(self.alloc, BLOCK)?;
+        let block = vec![in self.alloc; 0u8; BLOCK]?;
         match fs::open(self.rt, name) {
             Ok(file) => {
                 self.lent += 1;
-                Ok(RealIn::new(file, window))
+                Ok(BlockReader::new(file, block))
             }
             Err(_) => Err(self.fail()),
         }
@@ -196,15 +194,16 @@ impl<'a, R: std::rt::Files<File = File>> Files for RealFiles<'a, R> {
         match self.create_new(part.as_str(), target.mode) {
             Ok(file) => {
                 self.lent += 1;
-                Ok(RealOut::new(file, part, buffer, BLOCK))
+                let writer = BlockWriter::new(file, buffer, BLOCK);
+                Ok(RealOut { writer, part })
             }
             Err(_) => Err(self.fail()),
         }
     }
 
     fn keep(&mut self, name: &str, mut out: RealOut) -> Result<(), DeviceErr> {
-        let finished = out.finish();
-        self.take_back(out.faults());
+        let finished = out.writer.finish();
+        self.take_back(out.writer.faults());
         let kept = match finished {
             Ok(()) => self.put(&out, name),
             Err(_) => Err(self.fail()),
@@ -215,12 +214,12 @@ impl<'a, R: std::rt::Files<File = File>> Files for RealFiles<'a, R> {
         kept
     }
 
-    fn done_in(&mut self, source: RealIn) {
+    fn done_in(&mut self, source: BlockReader<File>) {
         self.take_back(source.faults());
     }
 
     fn done_out(&mut self, out: RealOut) {
-        self.take_back(out.faults());
+        self.take_back(out.writer.faults());
         self.remove(&out);
     }
 }

@@ -4,16 +4,10 @@
 mod command_line;
 mod files;
 mod sink;
-mod source;
 mod stream;
 mod target;
-mod window;
 
 pub use command_line::words;
 pub use files::RealFiles;
 pub use sink::RealOut;
-pub use source::RealIn;
 pub use stream::RealStream;
-
-#[cfg(test)]
-mod tests;

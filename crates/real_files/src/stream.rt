@@ -1,8 +1,9 @@
 //! A stream of the system as a sink.
-ghost use Rattle.std.specs.Prelude.{◌≡◌, ◌-◌, ◌^◌, length, min};
-ghost use Rattle.std.specs.Option.{option_map_or};
-ghost use Rattle.std.proofs.Common.{ap};
-ghost use Rattle.real_files.specs.Untold.{untold};
+ghost use Rattle.std.specs.Prelude.{◌≡◌, ◌≤◌, length, OnOk, OnErr};
+ghost use Rattle.std.specs.Io.KnownBytes.{Appends as Written};
+ghost use Rattle.file_devices.specs.Content.{Appends, AppendsPart};
+ghost use Rattle.file_devices.specs.Counts.{HasCause, saturating};
+ghost use Rattle.file_buffers.specs.Untold.{untold};
 
 use file_devices::{Failed, Sink};
 use std::io::Write;
@@ -38,7 +39,17 @@ impl<W: Write> Sink for RealStream<W> {
 
     ghost faults = { λ s. s.faults };
 
-    fn append(&mut self, piece: &[u8]) -> Result<(), Failed> {
+    fn append(&mut self, piece: &[u8]) -> Result<(), Failed>
+        ensures ok { OnOk result (Appends untold piece.now untold) }
+        ensures part { OnErr result (AppendsPart untold piece.now untold) }
+        ensures count { OnOk result (self.new.appended ≡ saturating self.old.appended (length piece.now)) }
+        ensures no_less { self.old.appended ≤ self.new.appended }
+        ensures no_more { self.new.appended ≤ saturating self.old.appended (length piece.now) }
+        ensures cause { HasCause self.old.faults self.new.faults result }
+
+        // Where the writer says what it holds, the piece is behind it.
+        ensures written { OnOk result (Written (W.contents self.old.out) (W.contents self.new.out) piece.now) }
+    {
         let appended = self.appended.saturating_add(piece.len() as u64);
         if self.out.write_all(piece).is_err() || self.out.flush().is_err() {
             self.faults = self.faults.saturating_add(1);
@@ -48,6 +59,7 @@ impl<W: Write> Sink for RealStream<W> {
         Ok(())
     }
 
-    // Nothing is told, so there is nothing to count.
-    ghost counted = { λ s b e. ap (λ o. option_map_or (λ t. min (length t) (2 ^ 64 - 1)) o s.appended) e };
+    ghost use Rattle.file_buffers.specs.Untold.{untold_is_counted};
+
+    ghost counted = { λ s b e. untold_is_counted s.appended b e };
 }

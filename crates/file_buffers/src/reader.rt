@@ -2,11 +2,11 @@
 ghost use Rattle.std.specs.Prelude.{◌≡◌, ◌+◌, ◌-◌, ◌^◌, ◌<◌, ◌≤◌, ℕ, List, length, take, max, None, IfOk, IfSome, OnErr, slice_range};
 ghost use Rattle.file_devices.specs.Counts.{HasCause};
 ghost use Rattle.file_devices.specs.Content.{ReadsAt};
-ghost use Rattle.real_files.specs.Untold.{untold};
+ghost use Rattle.file_buffers.specs.Untold.{untold};
 
 use crate::window::Window;
 use file_devices::{Failed, Source};
-use std::fs::File;
+use std::os::unix::fs::FileExt;
 
 // The greatest place that the system can read at.
 const LAST_PLACE: u64 = i64::MAX as u64;
@@ -16,34 +16,36 @@ const LAST_PLACE: u64 = i64::MAX as u64;
 /// It holds a block of the file: a read inside the block asks the system for nothing, and gives at most
 /// what is left of the block. A read elsewhere takes a new block first. Its bytes aren't told.
 #[derive(Drop)]
-pub struct RealIn {
-    file: File,
+pub struct BlockReader<F: FileExt> {
+    file: F,
     window: Window,
     reached: u64,
     faults: u64,
 }
 
-impl RealIn {
-    pub(crate) fn new(file: File, window: Window) -> Self
-        ensures reached { ⟦<RealIn as Source>⟧.reached result ≡ 0 }
-        ensures faults { ⟦<RealIn as Source>⟧.faults result ≡ 0 }
+impl<F: FileExt> BlockReader<F> {
+    /// A reader that takes blocks of the size of this one, whose bytes don't matter.
+    pub fn new(file: F, block: Vec<u8>) -> Self
+        ensures reached { ⟦<BlockReader<F> as Source>⟧.reached result ≡ 0 }
+        ensures faults { ⟦<BlockReader<F> as Source>⟧.faults result ≡ 0 }
     {
-        RealIn {
+        BlockReader {
             file,
-            window,
+            window: Window::new(block),
             reached: 0,
             faults: 0,
         }
     }
 
-    pub(crate) fn faults(&self) -> u64
-        ensures { result ≡ ⟦<RealIn as Source>⟧.faults self.now }
+    /// The count of faults.
+    pub fn faults(&self) -> u64
+        ensures { result ≡ ⟦<BlockReader<F> as Source>⟧.faults self.now }
     {
         self.faults
     }
 }
 
-impl Source for RealIn {
+impl<F: FileExt> Source for BlockReader<F> {
     ghost bytes = { λ _. untold };
 
     ghost reached = { λ s. s.reached };
@@ -82,7 +84,7 @@ impl Source for RealIn {
         Ok(count)
     }
 
-    ghost use Rattle.real_files.specs.Untold.{untold_is_short};
+    ghost use Rattle.file_buffers.specs.Untold.{untold_is_short};
 
     ghost small = { λ s b e. untold_is_short b e };
 }

@@ -2,7 +2,6 @@
 ghost use Rattle.std.specs.Prelude.{◌≡◌, ◌+◌, ◌-◌, ◌^◌, ◌<◌, ◌≤◌, ◌↔◌, List, ℕ, length, take, drop, min, IfOk, OnOk, OnErr, IfSome, IfNone, IsSome, vec_len, slice_range};
 
 use file_devices::Failed;
-use std::alloc::{AllocError, Global};
 use std::io::ErrorKind;
 use std::os::unix::fs::FileExt;
 
@@ -56,16 +55,16 @@ fn read_block<F: FileExt>(file: &F, at: u64, block: &mut [u8]) -> Result<usize, 
 }
 
 impl Window {
-    // A window that holds nothing yet.
-    pub(crate) fn new(alloc: Global, size: usize) -> Result<Self, AllocError>
-        ensures empty { IfOk result (λ w. w.held ≡ 0) }
-        ensures size { IfOk result (λ w. vec_len w.block ≡ size) }
+    // A window that holds nothing yet, and takes blocks of this size.
+    pub(crate) fn new(block: Vec<u8>) -> Self
+        ensures empty { result.held ≡ 0 }
+        ensures block { result.block.items ≡ block.items }
     {
-        Ok(Window {
-            block: vec![in alloc; 0u8; size]?,
+        Window {
+            block,
             start: 0,
             held: 0,
-        })
+        }
     }
 
     // Copies what it holds from a place on, and gives how many bytes they are, or None exactly where it
