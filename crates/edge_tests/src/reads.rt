@@ -21,7 +21,7 @@ impl FileExt for Interrupted {
         }
         match buf.first_mut() {
             Some(first) => {
-                *first = offset as u8;
+                *first = offset.to_le_bytes()[0];
                 Ok(1)
             }
             None => Ok(0),

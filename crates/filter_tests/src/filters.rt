@@ -197,7 +197,7 @@ fn handed(alloc: Global, does: Does, text: Option<&str>, reds: &[u16]) -> Option
 
 #[test]
 fn filters_judge_the_points_that_pass(rt: HostRuntime) {
-    for (at, row) in ROWS.iter().enumerate() {
+    for row in &ROWS {
         let went = handed(rt.alloc(), row.does, row.only, &row.reds);
         assert!(rt; went == Some((row.went, row.fault)));
     }

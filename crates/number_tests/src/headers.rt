@@ -79,7 +79,7 @@ fn first_fault(length: usize, edits: &[(Field, u64)]) -> Option<HeaderFault> {
 #[test]
 fn the_first_fault_is_told(rt: HostRuntime) -> Result<(), Fail> {
     for &(fault, blocks) in &BLOCKS {
-        for (row, edits) in blocks.iter().enumerate() {
+        for edits in blocks {
             assert!(rt; first_fault(375, edits) == fault);
         }
     }
