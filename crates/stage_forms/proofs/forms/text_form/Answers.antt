@@ -1,4 +1,4 @@
-use Rattle.std.proofs.Common.{◌≤◌, length, map, ap, sym, subst, ◌∙◌}
+use Rattle.std.proofs.Common.{◌≤◌, map, ap, sym, subst, ◌∙◌}
 use Rattle.answer_model.specs.Forms.{column_of}
 use Rattle.option_texts.specs.Columns.{AreColumns}
 use Rattle.text_writer.specs.TextOutput.{IsTextForm}
@@ -16,5 +16,4 @@ returns-clause-form c =
     let o = c.args.options.now in
     subst IsTextForm (sym (returns-clause-value c))
     (form-good c.args.names.now o (subst AreColumns c.as_slice.ensures.columns c.as_slice.ensures.bounded)
-    (subst (λ p. p ≤ 9) c.count-precision.ensures.value c.count-precision.ensures.few)
-    (subst (λ d. length d ≤ 8) c.as_str.ensures.text c.as_str.ensures.short))
+    (subst (λ p. p ≤ 9) c.count-precision.ensures.value c.count-precision.ensures.few))
