@@ -144,7 +144,7 @@ fn columns_are_read(rt: HostRuntime) -> Result<(), AllocError> {
     for (text, expected) in COLUMNS {
         let shown = shown_columns(rt.alloc(), text)?;
         assert!(rt; shown.as_str() == expected);
-        assert!(rt; is_columns(text) == expected != "refused");
+        assert!(rt; is_columns(text) == (expected != "refused"));
     }
     Ok(())
 }
@@ -154,7 +154,7 @@ fn fields_are_read(rt: HostRuntime) -> Result<(), AllocError> {
     for (text, expected) in FIELDS {
         let shown = shown_fields(rt.alloc(), text)?;
         assert!(rt; shown.as_str() == expected);
-        assert!(rt; is_forward(text) == expected != "refused");
+        assert!(rt; is_forward(text) == (expected != "refused"));
     }
     Ok(())
 }
