@@ -68,9 +68,10 @@ pub fn text_form(
 {
     let precision = options.precision.count();
     let delimiter = String::from_str(alloc, options.delimiter.as_str())?;
+    let between = Name::new(delimiter);
     Ok(TextForm {
         columns: columns(alloc, names, precision, options.columns.as_slice())?,
-        delimiter: Separator::new(Name::new(delimiter)),
+        delimiter: Separator::new(between),
         quote_header: options.quote_header,
         write_header: options.write_header,
     })
