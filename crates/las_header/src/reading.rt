@@ -13,7 +13,7 @@ ghost use Rattle.las_header.specs.Versions.{block_size, is_version, takes_format
 ghost use Rattle.std.specs.List.{All};
 
 use crate::{
-    HeaderAxis, Format, Header, HeaderFault, LONGEST_BLOCK, ScaleFault, block_size, is_version,
+    Format, Header, HeaderAxis, HeaderFault, LONGEST_BLOCK, ScaleFault, block_size, is_version,
     scale_of_word, takes_format,
 };
 use byte_numbers::{piece_at, u8_at, u16_at, u32_at, u64_at};
