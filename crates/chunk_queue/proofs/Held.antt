@@ -4,7 +4,7 @@ use Rattle.std.specs.Prelude.{slice_get, Result, IsOk, OnOk}
 use Rattle.circular_buffer.specs.Buffer.{Buffer, buffer}
 use Rattle.cloud_points.specs.declared.point.Point.{Point}
 use Rattle.cloud_points.specs.declared.item.Item.{Item}
-use Rattle.chunk_queue.specs.declared.tag.Entry.{Entry}
+use Rattle.chunk_queue.specs.declared.tag.SlottedItem.{SlottedItem}
 use Rattle.chunk_queue.specs.declared.tag.ItemKind.{ItemKind}
 use Rattle.chunk_queue.specs.declared.tag.ItemKind.TheVariants.{Points, EndView, End}
 use Rattle.chunk_queue.specs.Slots.{kind_body, tag_item, entry_item, brings_points, filled, held_items, HasPoints, AllHavePoints, IsSlotted, IsPopped}
@@ -13,15 +13,15 @@ pub on_ok : {T E : Type 0} (r : Result T E) (P : Type 0) → IsOk r → OnOk r P
 on_ok (Ok x) P h p = p
 on_ok (Err e) P h p = cc
 
-pub held-length : (entries : List Entry) → length (held_items entries) ≡ length entries
+pub held-length : (entries : List SlottedItem) → length (held_items entries) ≡ length entries
 held-length [] = refl
 held-length (e ∷ entries) = let r = held-length entries in omega (arith, r)
 
 -- what a clause sees of the queue tells how many entries there are
-pub seen-length : (entries : Buffer Entry) (q : Buffer Item) → buffer (held_items entries.items) entries.capacity ≡ q → length entries.items ≡ length q.items
+pub seen-length : (entries : Buffer SlottedItem) (q : Buffer Item) → buffer (held_items entries.items) entries.capacity ≡ q → length entries.items ≡ length q.items
 seen-length entries q e = sym (held-length entries.items) ∙ ap (λ (b : Buffer Item). length b.items) e
 
-held-last : (entries : List Entry) (e : Entry) → held_items (entries ++ e ∷ []) ≡ held_items entries ++ entry_item e ∷ []
+held-last : (entries : List SlottedItem) (e : SlottedItem) → held_items (entries ++ e ∷ []) ≡ held_items entries ++ entry_item e ∷ []
 held-last [] e = refl
 held-last (x ∷ entries) e = ap (λ is. entry_item x ∷ is) (held-last entries e)
 
@@ -45,12 +45,12 @@ all-last [] i h p = (p, tt)
 all-last (x ∷ is) i h p = (h.0, all-last is i h.1 p)
 
 -- an entry is put behind the last one, with points in its slot
-pub put-held : (entries : List Entry) (e : Entry) (old points : List Point) → e.slot.value.items ≡ filled e.tag.kind old points
+pub put-held : (entries : List SlottedItem) (e : SlottedItem) (old points : List Point) → e.slot.value.items ≡ filled e.tag.kind old points
     → held_items (entries ++ e ∷ []) ≡ held_items entries ++ tag_item e.tag points ∷ []
 put-held entries e old points fills =
     held-last entries e ∙ ap (λ b. held_items entries ++ record { no = e.tag.no; body = b } ∷ []) (body-filled e.tag.kind old points e.slot.value.items fills)
 
-pub put-slotted : (entries : Buffer Entry) (free left most : ℕ) (e : Entry) (old points : List Point) → IsSlotted entries free most
+pub put-slotted : (entries : Buffer SlottedItem) (free left most : ℕ) (e : SlottedItem) (old points : List Point) → IsSlotted entries free most
     → e.slot.value.items ≡ filled e.tag.kind old points → (brings_points e.tag.kind ≡ true → 0 < length points) → left + 1 ≡ free
     → IsSlotted (buffer (entries.items ++ e ∷ []) entries.capacity) left most
 put-slotted entries free left most e old points ok fills some count = record {
@@ -60,7 +60,7 @@ put-slotted entries free left most e old points ok fills some count = record {
 }
 
 -- the first entry is taken out, and its slot is free
-pub popped-slotted : (items : List Entry) (capacity free left most : ℕ) (e : Entry) → IsSlotted (buffer items capacity) free most → Some e ≡ slice_get items 0 → left ≡ free + 1
+pub popped-slotted : (items : List SlottedItem) (capacity free left most : ℕ) (e : SlottedItem) → IsSlotted (buffer items capacity) free most → Some e ≡ slice_get items 0 → left ≡ free + 1
     → IsSlotted (buffer (drop 1 items) capacity) left most
 popped-slotted [] capacity free left most e ok first count = cc
 popped-slotted (x ∷ items) capacity free left most e ok first count = record {
@@ -69,12 +69,12 @@ popped-slotted (x ∷ items) capacity free left most e ok first count = record {
   points = ok.points.1;
 }
 
-pub popped-held : (entries : List Entry) → held_items (drop 1 entries) ≡ drop 1 (held_items entries)
+pub popped-held : (entries : List SlottedItem) → held_items (drop 1 entries) ≡ drop 1 (held_items entries)
 popped-held [] = refl
 popped-held (e ∷ entries) = refl
 
 -- what a pop in parts answers
-pub popped-none : (entries : List Entry) (points : List Point) → None ≡ slice_get entries 0 → IsPopped (held_items entries) None points points
+pub popped-none : (entries : List SlottedItem) (points : List Point) → None ≡ slice_get entries 0 → IsPopped (held_items entries) None points points
 popped-none [] points h = (refl, refl)
 popped-none (e ∷ entries) points h = cc
 
@@ -83,7 +83,7 @@ kept-old Points old now points h e = cc
 kept-old EndView old now points h e = h
 kept-old (End cut) old now points h e = h
 
-pub popped-some : (entries : List Entry) (e : Entry) (old now : List Point) → AllHavePoints (held_items entries) → Some e ≡ slice_get entries 0
+pub popped-some : (entries : List SlottedItem) (e : SlottedItem) (old now : List Point) → AllHavePoints (held_items entries) → Some e ≡ slice_get entries 0
     → now ≡ filled e.tag.kind old e.slot.value.items → IsPopped (held_items entries) (Some e.tag) old now
 popped-some [] e old now a h f = cc
 popped-some (x ∷ entries) e old now a h f =

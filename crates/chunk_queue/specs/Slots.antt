@@ -6,7 +6,7 @@ use Rattle.cloud_points.specs.declared.item.Item.{Item}
 use Rattle.cloud_points.specs.declared.item.Body.{Body}
 use Rattle.cloud_points.specs.declared.item.Body.TheVariants as body
 use Rattle.chunk_queue.specs.declared.tag.Tag.{Tag}
-use Rattle.chunk_queue.specs.declared.tag.Entry.{Entry}
+use Rattle.chunk_queue.specs.declared.tag.SlottedItem.{SlottedItem}
 use Rattle.chunk_queue.specs.declared.tag.ItemKind.{ItemKind}
 use Rattle.chunk_queue.specs.declared.tag.ItemKind.TheVariants.{Points, EndView, End}
 
@@ -31,10 +31,10 @@ filled EndView old ps = old
 filled (End cut) old ps = old
 
 -- the items of a queue's entries
-abbrev pub entry_item : Entry → Item
+abbrev pub entry_item : SlottedItem → Item
 entry_item e = tag_item e.tag e.slot.value.items
 
-abbrev pub held_items : List Entry → List Item
+abbrev pub held_items : List SlottedItem → List Item
 held_items entries = map entry_item entries
 
 -- an item that brings points has some
@@ -49,7 +49,7 @@ AllHavePoints (i ∷ is) = HasPoints i.body × AllHavePoints is
 
 -- for each item that may still come there is a free slot, so many in all, and the list of free slots takes them back
 -- without more memory
-pub record IsSlotted (entries : Buffer Entry) (free most : ℕ) : Type 0 where
+pub record IsSlotted (entries : Buffer SlottedItem) (free most : ℕ) : Type 0 where
   pub slots : length entries.items + free ≡ entries.capacity
   pub room : entries.capacity ≤ most
   pub points : AllHavePoints (held_items entries.items)

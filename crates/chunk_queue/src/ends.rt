@@ -7,7 +7,6 @@ ghost use Rattle.chunk_queue.specs.Slots.{brings_points, tag_item, kind_body};
 
 use crate::order::{Line, LinePass, Sends, Takes};
 use crate::parcel::Parcel;
-use crate::parts::either;
 use crate::plain::body_of;
 use crate::slots::{Slots, put_free, take_free};
 use crate::tag::{ItemKind, Tag};
@@ -141,7 +140,7 @@ impl<'a> RuledIn<'a> {
         let (tag, slot) = parcel.open(points);
         put_free(rt, self.slots, slot);
         self.count = self.count.saturating_add(1);
-        self.ended = either(self.ended, tag.kind.is_end());
+        self.ended |= tag.kind.is_end();
         Some(tag)
     }
 

@@ -5,7 +5,6 @@ mod ends;
 mod known;
 mod order;
 mod parcel;
-mod parts;
 mod plain;
 mod ruled;
 mod slots;

@@ -5,14 +5,14 @@ ghost use Rattle.chunk_queue.specs.Slots.{tag_item, brings_points};
 ghost use Rattle.chunk_queue.specs.Parcels.{IsOpened};
 
 use crate::plain::{fill_slot, take_slot};
-use crate::tag::{Entry, Tag};
+use crate::tag::{SlottedItem, Tag};
 use cloud_points::{Point, Spread};
 use std::marker::Model;
 
 /// An item whose points lie in a slot. A clause sees the item.
 #[derive(Drop)]
 pub struct Parcel {
-    entry: Entry,
+    entry: SlottedItem,
 }
 
 impl Model for Parcel {
@@ -36,7 +36,7 @@ impl Parcel {
         let mut slot = slot;
         fill_slot(&mut slot, tag.kind, points);
         Parcel {
-            entry: Entry { tag, slot },
+            entry: SlottedItem { tag, slot },
         }
     }
 
@@ -45,7 +45,7 @@ impl Parcel {
         ensures { IsOpened self result.0 points.old.items points.new.items }
     {
         let Parcel { entry } = self;
-        let Entry { tag, slot } = entry;
+        let SlottedItem { tag, slot } = entry;
         take_slot(points, tag.kind, &slot);
         (tag, slot)
     }
@@ -53,7 +53,7 @@ impl Parcel {
     /// The slot.
     pub(crate) fn into_slot(self) -> Box<Spread> {
         let Parcel { entry } = self;
-        let Entry { slot, .. } = entry;
+        let SlottedItem { slot, .. } = entry;
         slot
     }
 }

@@ -6,7 +6,7 @@ ghost use Rattle.circular_buffer.specs.Buffer.{buffer};
 ghost use Rattle.chunk_queue.specs.Rule.{StandsBetween, KeepsRuleOnPush, KeepsRuleOnPop};
 ghost use Rattle.chunk_queue.specs.Slots.{filled, tag_item, kind_body, brings_points, IsPopped};
 
-use crate::tag::{Entry, ItemKind, Tag};
+use crate::tag::{ItemKind, SlottedItem, Tag};
 use circular_buffer::HeapCircularBuffer;
 use cloud_points::{Body, Chunk, Item, Point, Spread, put_points};
 use std::alloc::{AllocError, Global};
@@ -23,7 +23,7 @@ use std::marker::Model;
 /// and no call but `new` takes memory. The slot that came free last is taken first, so that those in use stay in the cache.
 #[derive(Drop)]
 pub struct PlainQueue {
-    entries: HeapCircularBuffer<Entry>,
+    entries: HeapCircularBuffer<SlottedItem>,
     free: Vec<Box<Spread>>,
 }
 
@@ -124,7 +124,7 @@ impl PlainQueue {
         ensures items { self.new ≡ buffer (drop 1 self.old.items) self.old.capacity }
         ensures rule { IfSome result (λ tag. KeepsRuleOnPop self.old (tag_item tag points.new.items) self.new) }
     {
-        let Entry { tag, slot } = self.entries.pop_front()?;
+        let SlottedItem { tag, slot } = self.entries.pop_front()?;
         take_slot(points, tag.kind, &slot);
         let _ = self.free.push(slot);
         Some(tag)
@@ -154,7 +154,7 @@ impl PlainQueue {
         };
         fill_slot(&mut slot, kind, points);
         let tag = Tag { no, kind };
-        let _ = self.entries.try_push_back(Entry { tag, slot });
+        let _ = self.entries.try_push_back(SlottedItem { tag, slot });
     }
 }
 

@@ -5,7 +5,6 @@ ghost use Rattle.cloud_points.specs.Queue.{up_to_limit};
 
 use crate::ends::{RuledIn, RuledOut};
 use crate::order::{Line, LinePass, Settles, Whole, give_roles};
-use crate::parts::{both, either};
 use crate::slots::{Slots, new_slots};
 use std::alloc::{AllocError, Global};
 use std::marker::{Brand, Model};
@@ -33,6 +32,13 @@ impl Model for RuledQueue {
     ghost view = { λ q. record { capacity = ruled_capacity q.line; fresh = is_some q.pass } };
 
     ghost invariant = { λ q. IsFresh q.line q.pass };
+}
+
+/// Whether as many items were taken as were sent, by counts that stand still at the greatest u64.
+fn are_exact(got: u64, sent: u64) -> bool
+    ensures { result ≡ (got == sent) && nat_lt sent (2 ^ 64 - 1) }
+{
+    got == sent && sent < u64::MAX
 }
 
 impl RuledQueue {
@@ -106,6 +112,6 @@ impl RuledQueue {
         } = inn;
         line.absorb::<Whole>(&mut whole, theirs);
         line.learn_as::<Settles>(&mut whole);
-        either(ended, both(got == sent, sent < u64::MAX))
+        ended | are_exact(got, sent)
     }
 }

@@ -36,7 +36,7 @@ pub struct Tag {
 
 /// An item in a queue: its tag, and the slot in which its points lie.
 #[derive(Drop)]
-pub(crate) struct Entry {
+pub(crate) struct SlottedItem {
     pub(crate) tag: Tag,
     pub(crate) slot: Box<Spread>,
 }

@@ -10,10 +10,8 @@ use Rattle.las_writer.proofs.Taken.{forms_are_taken}
 use Rattle.std.specs.List.{All, range_with_len}
 use Rattle.cloud_points.specs.declared.point.Point.{Point}
 use Rattle.forward_rules.specs.declared.form.LasForm.{LasForm}
-use Rattle.las_writer.specs.Holding.{holds_las, IsRefused}
+use Rattle.las_writer.specs.Holding.{holds_las}
 use Rattle.las_writer.specs.Records.{refusal}
-use Rattle.las_writer.specs.declared.faults.ChunkErr.TheVariants as chunk
-use Rattle.las_writer.specs.declared.records.RefusedPoint.{RefusedPoint}
 use Rattle.las_writer.specs.declared.totals.Totals.{Totals}
 use Rattle.cloud_gen.specs.Generated.{generated}
 use Rattle.cloud_gen.specs.GeneratedFile.{generated_points, generated_options, generated_form, generated_file}
@@ -21,11 +19,9 @@ use Rattle.cloud_gen.proofs.Recorded.{none_refused, no_points, more_points}
 
 module _ (form : LasForm) (first end : ℕ) (points : List Point) (same : form ≡ generated_form)
     (are : points ≡ map (generated 1) (range_with_len first (end - first))) (ordered : first ≤ end) where
-  -- it isn't refused
-  pub never_refused : (k : ℕ) (r : RefusedPoint) → end ≤ 10000000 → IsRefused form k points (chunk.Refused r) → ⊥
-  never_refused k r few is =
-      let none : refusal form k points ≡ None = ap (λ (f : LasForm). refusal f k points) same ∙ ap (refusal generated_form k) are ∙ none_refused k first (end - first) (omega (arith, ordered, few)) in
-      cc
+  -- each has its place
+  pub all_placed : (k : ℕ) → end ≤ 10000000 → refusal form k points ≡ None
+  all_placed k few = ap (λ (f : LasForm). refusal f k points) same ∙ ap (refusal generated_form k) are ∙ none_refused k first (end - first) (omega (arith, ordered, few))
 
   -- and the sink holds the points up to its end
   pub chunk_holds : (old new : Option (List ℕ)) (was now : Totals) → ((before : List Point) → holds_las old form was before ≡ true → holds_las new form now (before ++ points) ≡ true)

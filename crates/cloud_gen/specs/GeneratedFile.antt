@@ -4,6 +4,7 @@ use Rattle.std.specs.List.{range_with_len}
 use Rattle.cloud_points.specs.declared.point.Point.{Point}
 use Rattle.file_devices.specs.Named.{Names, put}
 use Rattle.file_devices.specs.Told.{IsAsTold}
+use Rattle.file_devices.specs.declared.devices.Op.{Op}
 use Rattle.file_devices.specs.declared.devices.Op.TheVariants.{Create, Write, Patch, Keep}
 use Rattle.forward_rules.specs.Forwarded.{form_of}
 use Rattle.forward_rules.specs.Values.{default_scale}
@@ -63,11 +64,10 @@ IsUnwritten rose (Device Write) = rose
 IsUnwritten rose (Device Patch) = rose
 IsUnwritten rose (Device _) = ⊥
 
--- the same of one that is kept
-abbrev pub IsUnkept : Type 0 → GenerateError → Type 0
-IsUnkept rose Memory = ⊤
-IsUnkept rose (Device Keep) = rose
-IsUnkept rose (Device _) = ⊥
+-- the same of a step of the file, in which only this is done with a device
+abbrev pub StopsAt : Op → Type 0 → GenerateError → Type 0
+StopsAt op rose Memory = ⊤
+StopsAt op rose (Device done) = (done ≡ op) × rose
 
 -- the map after a refusal: as it was before the file was to be kept, and then as it was or with the file
 abbrev pub IsLeft : GenerateError → Option Names → List ℕ → List ℕ → Option Names → Type 0

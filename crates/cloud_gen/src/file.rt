@@ -1,22 +1,21 @@
 //! The file of generated points.
 
-ghost use Rattle.std.specs.Prelude.{◌≡◌, ◌⊎◌, ◌≤◌, ◌+◌, ◌-◌, [], Some, true, map, IfOk, IfErr, OnOk, OnErr};
+ghost use Rattle.std.specs.Prelude.{◌≡◌, ◌≤◌, ◌+◌, ◌-◌, [], Some, true, map, IfOk, IfErr, OnOk, OnErr};
 ghost use Rattle.std.specs.List.{range_with_len};
 ghost use Rattle.file_devices.specs.Counts.{HasCause, Rose};
-ghost use Rattle.file_devices.specs.Named.{kept};
 ghost use Rattle.file_devices.specs.Told.{IsAsTold};
-ghost use Rattle.forward_rules.specs.Values.{default_scale};
+ghost use Rattle.file_devices.specs.declared.devices.Op as op_type;
 ghost use Rattle.las_writer.specs.Holding.{holds_las};
 ghost use Rattle.cloud_gen.specs.Generated.{generated};
-ghost use Rattle.cloud_gen.specs.GeneratedFile.{generated_points, generated_options, generated_form, generated_file, IsPut, IsUnwritten, IsUnkept, IsFailure, IsLeft};
+ghost use Rattle.cloud_gen.specs.GeneratedFile.{generated_points, generated_options, generated_form, generated_file, IsPut, IsUnwritten, IsFailure, IsLeft};
 
-use crate::{GenerateError, gen_point};
+use crate::steps::{append_points, begin_file, create_file, finish_file, keep_file};
+use crate::{DeviceFault, GenerateError, gen_point};
 use cloud_points::{MOST_POINTS, Spread};
-use decimal_coords::Scale;
-use file_devices::{DeviceErr, Failed, FileSink, Files, Op};
-use forward_rules::{Forwarding, LasForm, LasOpts, NameList};
+use file_devices::{FileSink, Files};
+use forward_rules::{Forwarding, LasForm, LasOpts, NameList, default_scale};
 use las_header::Format;
-use las_writer::{BeginErr, ChunkErr, LasWriter};
+use las_writer::LasWriter;
 use std::alloc::{AllocError, Global};
 
 /// The series of the points.
@@ -27,16 +26,6 @@ const CHUNK: u32 = 64;
 
 const _: () = prove!(CHUNK as usize == MOST_POINTS);
 
-/// Steps of 0.01.
-fn hundredth() -> Scale
-    ensures { result ≡ default_scale }
-{
-    match Scale::new(10_000_000) {
-        Some(scale) => scale,
-        None => unreachable!(),
-    }
-}
-
 /// Format 3 with steps of 0.01 from 500,000, 4,800,000 and 0. It takes no memory.
 fn generated_options(alloc: Global) -> LasOpts
     ensures { result ≡ generated_options }
@@ -44,7 +33,7 @@ fn generated_options(alloc: Global) -> LasOpts
     LasOpts {
         format: Some(Format::F3),
         minor: None,
-        scale: [Some(hundredth()); 3],
+        scale: [Some(default_scale()); 3],
         offset: [
             Some(500_000_000_000_000),
             Some(4_800_000_000_000_000),
@@ -84,7 +73,11 @@ fn generated_chunk(start: u32, end: u32) -> Spread
 }
 
 /// Appends the points from a place to another one, which is at most 64 further.
-fn put_chunk<K: FileSink>(writer: &mut LasWriter<K>, start: u32, end: u32) -> Result<(), Failed>
+fn put_chunk<K: FileSink>(
+    writer: &mut LasWriter<K>,
+    start: u32,
+    end: u32,
+) -> Result<(), DeviceFault>
     requires form { writer.old.form ≡ generated_form }
     requires ordered { start ≤ end }
     requires most { end ≤ start + 64 }
@@ -93,24 +86,22 @@ fn put_chunk<K: FileSink>(writer: &mut LasWriter<K>, start: u32, end: u32) -> Re
         holds_las (K.bytes writer.old.sink) generated_form writer.old.totals (generated_points start) ≡ true
         → holds_las (K.bytes writer.new.sink) generated_form writer.new.totals (generated_points end) ≡ true) }
     ensures form { writer.new.form ≡ generated_form }
+    ensures named { IfErr result (λ op. op ≡ op_type.Op.Write) }
     ensures cause { HasCause (K.faults writer.old.sink) (K.faults writer.new.sink) result }
 {
     let points = generated_chunk(start, end);
-    match writer.put_all(points.as_slice()) {
-        Ok(()) => Ok(()),
-        Err(ChunkErr::Failed) => Err(Failed),
-        Err(ChunkErr::Refused(_)) => unreachable!(),
-    }
+    append_points(writer, points.as_slice())
 }
 
 /// Appends the points, in chunks.
-fn put_points<K: FileSink>(writer: &mut LasWriter<K>, count: u32) -> Result<(), Failed>
+fn put_points<K: FileSink>(writer: &mut LasWriter<K>, count: u32) -> Result<(), DeviceFault>
     requires form { writer.old.form ≡ generated_form }
     requires few { count ≤ 10000000 }
     ensures holds { OnOk result (
         holds_las (K.bytes writer.old.sink) generated_form writer.old.totals [] ≡ true
         → holds_las (K.bytes writer.new.sink) generated_form writer.new.totals (generated_points count) ≡ true) }
     ensures form { writer.new.form ≡ generated_form }
+    ensures named { IfErr result (λ op. op ≡ op_type.Op.Write) }
     ensures cause { HasCause (K.faults writer.old.sink) (K.faults writer.new.sink) result }
 {
     let mut start = 0;
@@ -123,7 +114,7 @@ fn put_points<K: FileSink>(writer: &mut LasWriter<K>, count: u32) -> Result<(), 
 }
 
 /// Appends the points and makes the file whole.
-fn write_points<K: FileSink>(writer: &mut LasWriter<K>, count: u32) -> Result<(), Op>
+fn write_points<K: FileSink>(writer: &mut LasWriter<K>, count: u32) -> Result<(), DeviceFault>
     requires form { writer.old.form ≡ generated_form }
     requires few { count ≤ 10000000 }
     ensures file { OnOk result (
@@ -133,13 +124,8 @@ fn write_points<K: FileSink>(writer: &mut LasWriter<K>, count: u32) -> Result<()
         (Rose (K.faults writer.old.sink) (K.faults writer.new.sink)) (GenerateError.Device op)) }
     ensures later { K.faults writer.old.sink ≤ K.faults writer.new.sink }
 {
-    let Ok(()) = put_points(writer, count) else {
-        return Err(Op::Write);
-    };
-    match writer.finish() {
-        Ok(()) => Ok(()),
-        Err(_) => Err(Op::Patch),
-    }
+    put_points(writer, count)?;
+    finish_file(writer)
 }
 
 /// Writes the file of the points onto a sink to which nothing was appended. A refusal gives the sink back.
@@ -155,30 +141,10 @@ fn write_file<K: FileSink>(
         → IsAsTold (K.bytes out) (Some (generated_file count))) }
     ensures failed { IfErr result (λ e. IsUnwritten (Rose (K.faults sink) (K.faults e.0)) e.1) }
 {
-    let mut writer = match LasWriter::begin(alloc, sink, form) {
-        Ok(writer) => writer,
-        Err((sink, BeginErr::Failed)) => return Err((sink, GenerateError::Device(Op::Write))),
-        Err((sink, BeginErr::Memory)) => return Err((sink, GenerateError::Memory)),
-    };
+    let mut writer = begin_file(alloc, sink, form)?;
     match write_points(&mut writer, count) {
         Ok(()) => Ok(writer.release()),
-        Err(op) => Err((writer.release(), GenerateError::Device(op))),
-    }
-}
-
-/// Keeps the file under its name.
-fn keep_file<F: Files>(files: &mut F, name: &str, file: F::Out) -> Result<(), GenerateError>
-    ensures ok { OnOk result (F.map files.new ≡ kept (F.map files.old) name.now (F.Out.bytes file)) }
-    ensures err { IfErr result (IsUnkept (Rose (F.faults files.old) (F.faults files.new))) }
-    ensures left { OnErr result ((F.map files.new ≡ F.map files.old)
-        ⊎ (F.map files.new ≡ kept (F.map files.old) name.now (F.Out.bytes file))) }
-    ensures lent { F.lent files.new ≡ F.lent files.old - 1 }
-    ensures later { F.faults files.old ≤ F.faults files.new }
-{
-    match files.keep(name, file) {
-        Ok(()) => Ok(()),
-        Err(DeviceErr::Memory) => Err(GenerateError::Memory),
-        Err(_) => Err(GenerateError::Device(Op::Keep)),
+        Err(fault) => Err((writer.release(), fault.into())),
     }
 }
 
@@ -206,11 +172,7 @@ pub fn generate<F: Files>(
     ensures later { F.faults files.old ≤ F.faults files.new }
 {
     let form = generated_form(alloc)?;
-    let sink = match files.create(name) {
-        Ok(sink) => sink,
-        Err(DeviceErr::Memory) => return Err(GenerateError::Memory),
-        Err(_) => return Err(GenerateError::Device(Op::Create)),
-    };
+    let sink = create_file(files, name)?;
     match write_file(alloc, sink, form, count) {
         Ok(sink) => keep_file(files, name, sink),
         Err((sink, refusal)) => {

@@ -4,7 +4,9 @@
 mod faults;
 mod file;
 mod points;
+mod steps;
 
 pub use faults::GenerateError;
 pub use file::generate;
 pub use points::{first_point_is_known, gen_point};
+pub use steps::DeviceFault;

@@ -5,13 +5,13 @@ use cloud_points::Spread;
 use stage_meanings::Reason;
 use std::alloc::Global;
 use std::rt::HostRuntime;
-use stream_filters::Written;
+use stream_filters::WriterWhere;
 
 /// What a writer writes of a chunk, the places there of the first, the second and the third point for which its `where` holds, the
 /// first at which that has no value, and the number of the next point.
 type Wrote = ([u16; 8], [Option<usize>; 3], Option<(usize, Reason)>, u64);
 
-fn write(written: &mut Written, reds: &[u16]) -> Wrote {
+fn write(written: &mut WriterWhere, reds: &[u16]) -> Wrote {
     let points = numbered(reds);
     let mut lines = Spread::new();
     let unjudged = written.choose(&points, &mut lines);
@@ -26,7 +26,7 @@ fn write(written: &mut Written, reds: &[u16]) -> Wrote {
 
 /// Two chunks, by a writer with this `where`.
 fn wrote(alloc: Global, text: Option<&str>) -> Option<[Wrote; 2]> {
-    let mut written = Written::new(only(alloc, text)?);
+    let mut written = WriterWhere::new(only(alloc, text)?);
     let first = write(&mut written, &[1, 0, 1, 0]);
     let second = write(&mut written, &[0, 1, 9, 1]);
     Some([first, second])

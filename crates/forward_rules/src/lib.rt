@@ -15,3 +15,4 @@ pub use form::LasForm;
 pub use forwarding::Forwarding;
 pub use names::NameList;
 pub use options::LasOpts;
+pub use values::default_scale;

@@ -62,8 +62,8 @@ impl HeaderValues {
     }
 }
 
-/// Steps of 0.01.
-fn default_scale() -> Scale
+/// The scale of a file that nothing is said of: steps of 0.01.
+pub fn default_scale() -> Scale
     ensures { result ≡ default_scale }
 {
     match Scale::new(10_000_000) {

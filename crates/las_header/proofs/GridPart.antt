@@ -8,7 +8,7 @@ use Rattle.ieee_words.specs.DecimalOfWord.{decimal_of_word}
 use Rattle.ieee_words.specs.NearWord.{near_word}
 use Rattle.ieee_words.proofs.NearWords.{near_word_is}
 use Rattle.las_header.specs.declared.block.Header.{Header}
-use Rattle.las_header.specs.declared.faults.Axis.TheVariants.{X, Y, Z}
+use Rattle.las_header.specs.declared.faults.HeaderAxis.TheVariants.{X, Y, Z}
 use Rattle.byte_numbers.specs.Bytes.{number_at, numbers_at}
 use Rattle.las_header.specs.Headers.{scale_on, scales_of, offset_on, offsets_of}
 use Rattle.las_header.specs.ScaleWords.{scale_read}

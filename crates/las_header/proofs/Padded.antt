@@ -4,7 +4,7 @@ use Rattle.std.proofs.lemmas.List.{take-append-le, get_or_past}
 use Rattle.decimal_coords.specs.declared.grid.Scale.{Scale}
 use Rattle.ieee_words.specs.DecimalOfWord.{decimal_of_word}
 use Rattle.las_header.specs.declared.form.Format.{Format}
-use Rattle.las_header.specs.declared.faults.Axis.TheVariants.{X, Y, Z}
+use Rattle.las_header.specs.declared.faults.HeaderAxis.TheVariants.{X, Y, Z}
 use Rattle.las_header.specs.declared.faults.HeaderFault.TheVariants.{Compressed, FormatNotRead, RecordTooShort, PointsInHeader}
 use Rattle.byte_numbers.specs.Bytes.{number_at, numbers_at, piece}
 use Rattle.byte_numbers.proofs.Fronts.{piece_front}

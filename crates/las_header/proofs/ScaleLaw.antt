@@ -9,8 +9,8 @@ use Rattle.ieee_words.specs.DecimalOfWord.{scale_of_word}
 use Rattle.ieee_words.proofs.NearWords.{is_near_word}
 use Rattle.ieee_words.proofs.ScaleWords.{one_scale}
 use Rattle.ieee_words.proofs.WordDecimals.{scale_of_word_is}
-use Rattle.las_header.specs.declared.faults.Axis.{Axis}
-use Rattle.las_header.specs.declared.faults.Axis.TheVariants.{X, Y, Z}
+use Rattle.las_header.specs.declared.faults.HeaderAxis.{HeaderAxis}
+use Rattle.las_header.specs.declared.faults.HeaderAxis.TheVariants.{X, Y, Z}
 use Rattle.las_header.specs.declared.faults.HeaderFault.{HeaderFault}
 use Rattle.las_header.specs.declared.faults.HeaderFault.TheVariants.{ScaleNotPositive, ScaleNotDecimal}
 use Rattle.las_header.specs.declared.faults.ScaleFault.{ScaleFault}
@@ -57,7 +57,7 @@ abbrev read_scale : Result Scale ScaleFault → Result Scale ScaleFault
 read_scale r = r
 
 -- of three axes
-on_axis : (axis : Axis) (r : Result Scale ScaleFault) (s : Scale) → scale_on axis r ≡ Ok s → r ≡ Ok s
+on_axis : (axis : HeaderAxis) (r : Result Scale ScaleFault) (s : Scale) → scale_on axis r ≡ Ok s → r ≡ Ok s
 on_axis axis (Ok t) s e =
     let h : header_scale (Ok t) ≡ header_scale (Ok s) = e in
     let q : t ≡ s = cc in ap (λ (x : Scale). read_scale (Ok x)) q

@@ -5,8 +5,8 @@ use Rattle.decimal_coords.specs.declared.grid.Scale.{Scale}
 use Rattle.ieee_words.specs.declared.decimals.Dec.{Dec}
 use Rattle.ieee_words.specs.declared.decimals.WordFault.{WordFault}
 use Rattle.ieee_words.specs.DecimalOfWord.{decimal_of_word}
-use Rattle.las_header.specs.declared.faults.Axis.{Axis}
-use Rattle.las_header.specs.declared.faults.Axis.TheVariants.{X, Y, Z}
+use Rattle.las_header.specs.declared.faults.HeaderAxis.{HeaderAxis}
+use Rattle.las_header.specs.declared.faults.HeaderAxis.TheVariants.{X, Y, Z}
 use Rattle.las_header.specs.declared.faults.HeaderFault.{HeaderFault}
 use Rattle.las_header.specs.declared.faults.HeaderFault.TheVariants.{NotLas, VersionNotRead, HeaderSize, Compressed, FormatNotRead, RecordTooShort, PointsInHeader, ScaleNotPositive, ScaleNotDecimal, OffsetOutOfRange}
 use Rattle.las_header.specs.declared.faults.ScaleFault.{ScaleFault}
@@ -67,7 +67,7 @@ record_format block = do
   Ok format
 
 -- the scale of an axis
-abbrev pub scale_on : Axis → Result Scale ScaleFault → Result Scale HeaderFault
+abbrev pub scale_on : HeaderAxis → Result Scale ScaleFault → Result Scale HeaderFault
 scale_on axis (Ok scale) = Ok scale
 scale_on axis (Err NotPositive) = Err (ScaleNotPositive axis)
 scale_on axis (Err NotDecimal) = Err (ScaleNotDecimal axis)
@@ -80,7 +80,7 @@ scales_of bytes = do
   Ok (x ∷ y ∷ z ∷ [])
 
 -- the offset of an axis, in nanounits
-abbrev pub offset_on : Axis → Result Dec WordFault → Result ℤ HeaderFault
+abbrev pub offset_on : HeaderAxis → Result Dec WordFault → Result ℤ HeaderFault
 offset_on axis (Ok decimal) = Ok decimal.nano
 offset_on axis (Err e) = Err (OffsetOutOfRange axis)
 

@@ -4,7 +4,7 @@ use thiserror::Error;
 
 /// An axis of the coordinates.
 #[derive(Clone, Copy, Debug, PartialEq, Eq)]
-pub enum Axis {
+pub enum HeaderAxis {
     X,
     Y,
     Z,
@@ -37,13 +37,13 @@ pub enum HeaderFault {
     PointsInHeader,
     /// The scale factor of this axis is 0 or has its sign bit set.
     #[error("a scale factor isn't positive")]
-    ScaleNotPositive(Axis),
+    ScaleNotPositive(HeaderAxis),
     /// The scale factor of this axis isn't the word of a decimal from 10^-9 to 1 with at most 9 places.
     #[error("a scale factor is no decimal of at most 9 places")]
-    ScaleNotDecimal(Axis),
+    ScaleNotDecimal(HeaderAxis),
     /// The offset of this axis is no finite number, or has a size of 10^9 or more.
     #[error("an offset has a size of 10^9 or more")]
-    OffsetOutOfRange(Axis),
+    OffsetOutOfRange(HeaderAxis),
 }
 
 /// Why a word stands for no scale.

@@ -11,7 +11,7 @@ mod versions;
 mod writing;
 
 pub use block::Header;
-pub use faults::{Axis, HeaderFault, ScaleFault};
+pub use faults::{HeaderAxis, HeaderFault, ScaleFault};
 pub use form::Format;
 pub use reading::read_header;
 pub use scales::{scale_of_word, scales_have_their_words};

@@ -13,7 +13,7 @@ ghost use Rattle.las_header.specs.Versions.{block_size, is_version, takes_format
 ghost use Rattle.std.specs.List.{All};
 
 use crate::{
-    Axis, Format, Header, HeaderFault, LONGEST_BLOCK, ScaleFault, block_size, is_version,
+    Format, Header, HeaderAxis, HeaderFault, LONGEST_BLOCK, ScaleFault, block_size, is_version,
     scale_of_word, takes_format,
 };
 use byte_numbers::{piece_at, u8_at, u16_at, u32_at, u64_at};
@@ -116,7 +116,7 @@ fn block_of(bytes: &[u8]) -> Result<[u8; LONGEST_BLOCK], HeaderFault>
     Ok(padded(&bytes[..size]))
 }
 
-fn scale_at(bytes: &[u8], at: usize, axis: Axis) -> Result<Scale, HeaderFault>
+fn scale_at(bytes: &[u8], at: usize, axis: HeaderAxis) -> Result<Scale, HeaderFault>
     requires { at + 8 ≤ length bytes.now }
     ensures { result ≡ scale_on axis (scale_read (number_at at 8 bytes.now)) }
 {
@@ -127,7 +127,7 @@ fn scale_at(bytes: &[u8], at: usize, axis: Axis) -> Result<Scale, HeaderFault>
     }
 }
 
-fn offset_at(bytes: &[u8], at: usize, axis: Axis) -> Result<i64, HeaderFault>
+fn offset_at(bytes: &[u8], at: usize, axis: HeaderAxis) -> Result<i64, HeaderFault>
     requires { at + 8 ≤ length bytes.now }
     ensures value { result ≡ offset_on axis (decimal_of_word (number_at at 8 bytes.now)) }
     ensures size { IfOk result IsOffset }
@@ -143,9 +143,9 @@ fn scales(bytes: &[u8]) -> Result<[Scale; 3], HeaderFault>
     requires { LONGEST_BLOCK ≤ length bytes.now }
     ensures { result ≡ scales_of bytes.now }
 {
-    let x = scale_at(bytes, 131, Axis::X)?;
-    let y = scale_at(bytes, 139, Axis::Y)?;
-    let z = scale_at(bytes, 147, Axis::Z)?;
+    let x = scale_at(bytes, 131, HeaderAxis::X)?;
+    let y = scale_at(bytes, 139, HeaderAxis::Y)?;
+    let z = scale_at(bytes, 147, HeaderAxis::Z)?;
     Ok([x, y, z])
 }
 
@@ -155,9 +155,9 @@ fn offsets(bytes: &[u8]) -> Result<[i64; 3], HeaderFault>
     ensures value { result ≡ offsets_of bytes.now }
     ensures sizes { IfOk result (All IsOffset) }
 {
-    let x = offset_at(bytes, 155, Axis::X)?;
-    let y = offset_at(bytes, 163, Axis::Y)?;
-    let z = offset_at(bytes, 171, Axis::Z)?;
+    let x = offset_at(bytes, 155, HeaderAxis::X)?;
+    let y = offset_at(bytes, 163, HeaderAxis::Y)?;
+    let z = offset_at(bytes, 171, HeaderAxis::Z)?;
     Ok([x, y, z])
 }
 

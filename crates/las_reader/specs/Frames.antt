@@ -7,7 +7,7 @@ use Rattle.las_header.specs.Steps.{◌>>=◌}
 use Rattle.las_vlr.specs.declared.entry.Vlr.{Vlr}
 use Rattle.las_vlr.specs.declared.entry.VlrFault.{VlrFault}
 use Rattle.las_vlr.specs.Vlrs.{vlrs_of, evlrs_of}
-use Rattle.las_reader.specs.declared.opening.Frame.{Frame}
+use Rattle.las_reader.specs.declared.opening.LasFrame.{LasFrame}
 
 -- why a file isn't read: a fault of its header, or else of its VLRs, or else of its EVLRs
 pub data LasFault : Type 0 where
@@ -32,7 +32,7 @@ abbrev pub evlrs_in : Header → List ℕ → Result (List Vlr) LasFault
 evlrs_in header file = list_or (evlrs_of header.evlrs_at header.evlrs file)
 
 -- what stands around the points, or the first fault
-abbrev pub frame_of : List ℕ → Result Frame LasFault
+abbrev pub frame_of : List ℕ → Result LasFrame LasFault
 frame_of file = do
   header ← header_in file
   vlrs ← vlrs_in header file

@@ -43,7 +43,7 @@ impl From<VlrErr> for OpenErr {
 }
 
 /// What stands around the points of a file.
-pub(crate) struct Frame {
+pub(crate) struct LasFrame {
     pub(crate) header: Header,
     pub(crate) vlrs: VlrList,
     pub(crate) evlrs: VlrList,
@@ -97,7 +97,7 @@ fn read_block<S: Source>(source: &mut S) -> Result<Header, OpenErr>
 }
 
 /// Reads the header, the VLRs and the EVLRs of a file.
-pub(crate) fn read_frame<S: Source>(alloc: Global, source: &mut S) -> Result<Frame, OpenErr>
+pub(crate) fn read_frame<S: Source>(alloc: Global, source: &mut S) -> Result<LasFrame, OpenErr>
     ensures ok { IfOk result (λ frame. (file : List ℕ) → S.bytes source.old ≡ Some file → frame_of file ≡ Ok frame) }
     ensures sound { IfOk result (λ frame. IsSound frame.header) }
     ensures lists { IfOk result (λ frame. HasLists frame.header frame.vlrs frame.evlrs) }
@@ -118,7 +118,7 @@ pub(crate) fn read_frame<S: Source>(alloc: Global, source: &mut S) -> Result<Fra
         header.vlrs,
     )?;
     let evlrs = read_evlrs(alloc, source, header.evlrs_at, header.evlrs)?;
-    Ok(Frame {
+    Ok(LasFrame {
         header,
         vlrs,
         evlrs,

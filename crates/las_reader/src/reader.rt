@@ -14,7 +14,7 @@ ghost use Rattle.file_devices.specs.Counts.{Rose};
 ghost use Rattle.las_vlr.specs.Limits.{AreHeldVlrs, AreHeldEvlrs};
 
 use crate::OpenErr;
-use crate::opening::{Frame, read_frame};
+use crate::opening::{LasFrame, read_frame};
 use crate::records::{read_points, record_buffer};
 use cloud_points::{Make, PointFault, Spread, StageFault};
 use file_devices::{Op, Source};
@@ -72,7 +72,7 @@ impl<S: Source> LasReader<S> {
         ensures returned { IfErr result (λ e. IsOpened (S.bytes source) (S.bytes e.0) (S.faults source) (S.faults e.0)) }
     {
         let mut source = source;
-        let Frame {
+        let LasFrame {
             header,
             vlrs,
             evlrs,

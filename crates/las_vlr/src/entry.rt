@@ -6,6 +6,12 @@ ghost use Rattle.las_vlr.specs.declared.entry.VlrErr.TheVariants.{Fault, Memory}
 use file_devices::Bytes;
 use std::alloc::{AllocError, Global};
 
+/// The bytes in front of the payload of a VLR.
+pub const VLR_HEAD: usize = 54;
+
+/// The bytes in front of the payload of an EVLR.
+pub(crate) const EVLR_HEAD: usize = 60;
+
 /// A variable length record, plain or extended.
 #[derive(Drop)]
 pub struct Vlr {

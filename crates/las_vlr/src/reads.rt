@@ -6,8 +6,8 @@ ghost use Rattle.las_vlr.specs.Limits.{IsShort, IsOf, AreHeld, AreHeldVlrs, AreH
 ghost use Rattle.las_vlr.specs.Written.{HasSizes};
 ghost use Rattle.las_vlr.specs.Vlrs.{head_size, payload_length, entry_size, entry_of, past, entry_fault, entries, vlrs_of, evlrs_of, IsRefusal, IsFault, IsInFront, MayReach};
 
-use crate::entry::ListKind;
-use crate::{Vlr, VlrErr, VlrFault, VlrList};
+use crate::entry::{EVLR_HEAD, ListKind};
+use crate::{VLR_HEAD, Vlr, VlrErr, VlrFault, VlrList};
 use byte_numbers::{u16_at, u64_at};
 use file_devices::{Bytes, Source, fill};
 use std::alloc::{AllocError, Global};
@@ -18,22 +18,19 @@ const MOST_VLRS: u32 = 4096;
 /// The most bytes of all payloads of a list.
 const MOST_PAYLOAD: u64 = 16_777_216;
 
-/// The bytes of the longest head.
-const MOST_HEAD: usize = 60;
-
 /// The bytes in front of the payload.
 fn head_size(kind: ListKind) -> usize
     ensures { result ≡ head_size kind }
 {
     match kind {
-        ListKind::Plain(_) => 54,
-        ListKind::Extended => 60,
+        ListKind::Plain(_) => VLR_HEAD,
+        ListKind::Extended => EVLR_HEAD,
     }
 }
 
 /// The length of the payload that a head announces.
 fn payload_length(kind: ListKind, head: &[u8]) -> u64
-    requires { MOST_HEAD ≤ length head.now }
+    requires { EVLR_HEAD ≤ length head.now }
     ensures value { result ≡ payload_length kind head.now }
     ensures short { IsShort kind result }
 {
@@ -135,7 +132,7 @@ fn read_head<S: Source>(
     at: u64,
     head: &mut [u8],
 ) -> Result<(), VlrErr>
-    requires room { length head.old ≡ MOST_HEAD }
+    requires room { length head.old ≡ EVLR_HEAD }
     ensures fits { OnOk result (at + head_size kind < 2 ^ 64) }
     ensures whole { OnOk result ((file : List ℕ) → S.bytes source.old ≡ Some file → past kind number (at + head_size kind) file ≡ None) }
     ensures front { OnOk result ((file : List ℕ) → S.bytes source.old ≡ Some file → take (head_size kind) head.new ≡ take (head_size kind) (drop at file)) }
@@ -151,7 +148,7 @@ fn read_head<S: Source>(
 
 /// The record with this head.
 fn with_payload(kind: ListKind, head: &[u8], payload: Bytes) -> Vlr
-    requires { MOST_HEAD ≤ length head.now }
+    requires { EVLR_HEAD ≤ length head.now }
     ensures value { result ≡ record (entry_of kind head.now) { payload = payload } }
     ensures sizes { HasSizes result }
 {
@@ -191,7 +188,7 @@ fn read_entry<S: Source>(
     ensures in_front { IsInFront kind (S.reached source.old) (S.reached source.new) }
     ensures same { S.bytes source.new ≡ S.bytes source.old }
 {
-    let mut head = [0u8; MOST_HEAD];
+    let mut head = [0u8; EVLR_HEAD];
     read_head(source, kind, number, at, &mut head)?;
     let size = payload_length(kind, &head);
     if size > MOST_PAYLOAD - before {

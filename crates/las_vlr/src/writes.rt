@@ -7,21 +7,21 @@ ghost use Rattle.las_vlr.specs.Vlrs.{entry_of};
 ghost use Rattle.las_vlr.specs.Written.{HasSizes, head_bytes, vlr_bytes, evlr_bytes};
 
 use crate::Vlr;
-use crate::entry::ListKind;
+use crate::entry::{EVLR_HEAD, ListKind};
 use arrayvec::ArrayVec;
 use byte_numbers::put;
 use file_devices::{Failed, Sink};
 
 /// The bytes in front of a payload.
-type Head = ArrayVec<u8, 60>;
+type VlrHead = ArrayVec<u8, EVLR_HEAD>;
 
 /// The head of a record, with the length of its payload in these bytes.
-fn head_of(vlr: &Vlr, size: &[u8]) -> Head
+fn head_of(vlr: &Vlr, size: &[u8]) -> VlrHead
     requires { length size.now ≤ 8 }
     ensures bytes { result.items ≡ head_bytes vlr.now size.now }
     ensures sizes { HasSizes vlr.now }
 {
-    let mut head = Head::new();
+    let mut head = VlrHead::new();
     put(&mut head, &vlr.reserved.to_le_bytes());
     put(&mut head, &vlr.user);
     put(&mut head, &vlr.id.to_le_bytes());

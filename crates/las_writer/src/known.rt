@@ -1,25 +1,11 @@
 //! What the types of values say of them. These functions do nothing: their contracts are what callers want.
 
-ghost use Rattle.std.specs.Prelude.{◌≡◌, ◌<◌, ◌^◌, length};
+ghost use Rattle.std.specs.Prelude.{◌≡◌, length};
 ghost use Rattle.las_writer.specs.Sizes.{HasFieldSizes};
 
+use byte_numbers::known_u16;
 use decimal_coords::Scale;
 use forward_rules::LasForm;
-
-/// A number fits its type.
-fn known_u16(number: u16)
-    ensures { number < 2 ^ 16 }
-{}
-
-/// A number fits its type.
-pub(crate) fn known_u32(number: u32)
-    ensures { number < 2 ^ 32 }
-{}
-
-/// A number fits its type.
-pub(crate) fn known_u64(number: u64)
-    ensures { number < 2 ^ 64 }
-{}
 
 /// An array has its length.
 fn known_length<const N: usize>(bytes: [u8; N])

@@ -11,7 +11,7 @@ mod records;
 mod totals;
 mod writer;
 
-pub use faults::{BeginErr, ChunkErr, PutFault, RecordFault};
+pub use faults::{ChunkErr, FinishErr, LasBeginErr, PutFault, RecordFault};
 pub use laws::{forms_are_taken, raw_numbers_are_steps, refusals_are_cut, unfinished_grows};
 pub use records::RefusedPoint;
 pub use totals::Totals;

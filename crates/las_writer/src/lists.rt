@@ -10,19 +10,16 @@ ghost use Rattle.las_vlr.specs.Written.{IsVlr, payload_size, vlr_bytes, evlr_byt
 
 use file_devices::{Failed, Sink};
 use las_header::block_size;
-use las_vlr::{Vlr, write_evlr, write_vlr};
-
-/// The bytes in front of the payload of a VLR.
-const HEAD_SIZE: u32 = 54;
+use las_vlr::{VLR_HEAD, Vlr, write_evlr, write_vlr};
 
 /// The bytes of a VLR.
 #[tactic(auto, using(crate::proofs::FirstItems::vlr_length))]
 fn vlr_size(vlr: &Vlr) -> u32
     requires { IsVlr vlr.now }
     ensures size { result ≡ length (vlr_bytes vlr.now) }
-    ensures parts { result ≡ HEAD_SIZE + payload_size vlr.now }
+    ensures parts { result ≡ VLR_HEAD + payload_size vlr.now }
 {
-    HEAD_SIZE + vlr.payload.as_slice().len() as u32
+    (VLR_HEAD + vlr.payload.as_slice().len()) as u32
 }
 
 /// Where the points begin in a file of this minor version, behind the header block and these VLRs.

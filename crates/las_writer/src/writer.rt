@@ -14,10 +14,12 @@ ghost use Rattle.las_writer.specs.LasOutput.{IsForm, points_at, vlrs_bytes, head
 ghost use Rattle.las_writer.specs.Holding.{holds_las, IsRefused, put_fault, IsPutFault};
 
 use crate::blocks::{file_evlrs, header_with};
-use crate::known::{known_fields, known_u32, known_u64};
+use crate::faults::Unpatched;
+use crate::known::known_fields;
 use crate::lists::{points_at, put_evlrs, put_vlrs};
 use crate::records::{CHUNK_ROOM, put_chunk};
-use crate::{BeginErr, ChunkErr, PutFault, RecordFault, Totals};
+use crate::{ChunkErr, FinishErr, LasBeginErr, PutFault, RecordFault, Totals};
+use byte_numbers::{known_u32, known_u64};
 use cloud_points::{MOST_POINTS, Point};
 use file_devices::{Failed, FileSink, Sink};
 use forward_rules::LasForm;
@@ -114,7 +116,7 @@ fn patch_header<K: FileSink>(
     start: u32,
     totals: &Totals,
     sink: &mut K,
-) -> Result<(), Failed>
+) -> Result<(), Unpatched>
     requires form { IsForm form.now }
     requires start { start ≡ points_at form.now }
     requires begun { block_size form.now.minor ≤ K.appended sink.old }
@@ -126,7 +128,10 @@ fn patch_header<K: FileSink>(
 {
     let mut block = [0; LONGEST_BLOCK];
     let size = header_block(form, start, totals, &mut block);
-    sink.patch(0, &block[..size])
+    match sink.patch(0, &block[..size]) {
+        Ok(()) => Ok(()),
+        Err(Failed) => Err(Unpatched),
+    }
 }
 
 /// Appends what stands in front of the points.
@@ -156,7 +161,7 @@ impl<K: FileSink> LasWriter<K> {
     /// in size, and its lists are within the limits of those that are read. A refusal gives the sink back. It is
     /// `Memory` where there is none for the records of a chunk, and the sink is then as it was; it is `Failed` only
     /// where the sink failed, and a beginning was appended then.
-    pub fn begin(alloc: Global, sink: K, form: LasForm) -> Result<LasWriter<K>, (K, BeginErr)>
+    pub fn begin(alloc: Global, sink: K, form: LasForm) -> Result<LasWriter<K>, (K, LasBeginErr)>
         requires { IsForm form }
         ensures ok { IfOk result (λ w. Appends (K.bytes sink) (las_unfinished form []) (K.bytes w.sink)) }
         ensures holds { IfOk result (λ w. IsAsTold (K.bytes sink) (Some [])
@@ -165,12 +170,12 @@ impl<K: FileSink> LasWriter<K> {
         ensures form { IfOk result (λ w. w.form ≡ form) }
         ensures later { IfOk result (λ w. K.faults sink ≤ K.faults w.sink) }
         ensures part { IfErr result (λ e. AppendsPart (K.bytes sink) (las_unfinished form []) (K.bytes e.0)) }
-        ensures unchanged { IfErr result (λ e. e.1 ≡ BeginErr.Memory → e.0 ≡ sink) }
-        ensures failed { IfErr result (λ e. e.1 ≡ BeginErr.Failed → Rose (K.faults sink) (K.faults e.0)) }
+        ensures unchanged { IfErr result (λ e. e.1 ≡ LasBeginErr.Memory → e.0 ≡ sink) }
+        ensures failed { IfErr result (λ e. e.1 ≡ LasBeginErr.Failed → Rose (K.faults sink) (K.faults e.0)) }
         ensures count { IfErr result (λ e. K.faults sink ≤ K.faults e.0) }
     {
         let Ok(buffer) = vec![in alloc; 0u8; CHUNK_ROOM] else {
-            return Err((sink, BeginErr::Memory));
+            return Err((sink, LasBeginErr::Memory));
         };
         let start = points_at(form.minor, form.vlrs.as_slice());
         let totals = Totals::none();
@@ -185,12 +190,12 @@ impl<K: FileSink> LasWriter<K> {
                     buffer,
                 },
             }),
-            Err(_) => Err((sink, BeginErr::Failed)),
+            Err(_) => Err((sink, LasBeginErr::Failed)),
         }
     }
 
-    /// Appends the records of a chunk of points, in their order, with one call of the sink, or with none where there
-    /// are no points: an empty piece would have the sink write what it holds back.
+    /// Appends the records of a chunk of points, in their order. No points change nothing: the sink isn't made to write
+    /// what it holds back.
     ///
     /// It is `Refused` exactly where a point has no place in the file behind those that were written, with the first
     /// such point, and changes nothing then: a file of version 1.2 or 1.3 counts at most 4,294,967,295 points, and each
@@ -275,8 +280,9 @@ impl<K: FileSink> LasWriter<K> {
     /// Appends the EVLRs that the version has, puts a header block with the totals of the points in place of the one in
     /// front, and has the sink write what it holds back, by appending nothing.
     ///
-    /// It is `Failed` only where the sink failed. What the sink holds then is no file.
-    pub fn finish(&mut self) -> Result<(), Failed>
+    /// It is refused only where the sink failed: `Append` where the EVLRs couldn't be appended, or the sink couldn't write
+    /// what it held back, and `Patch` where the header block couldn't be put in front. What the sink holds then is no file.
+    pub fn finish(&mut self) -> Result<(), FinishErr>
         ensures ok { OnOk result ((points : List Point)
             → holds_las (K.bytes self.old.sink) self.old.form self.old.totals points ≡ true
             → refusal self.old.form 0 points ≡ None
@@ -289,7 +295,8 @@ impl<K: FileSink> LasWriter<K> {
         known_u32(parts.start);
         put_evlrs(file_evlrs(&parts.form), &mut parts.sink)?;
         patch_header(&parts.form, parts.start, &parts.totals, &mut parts.sink)?;
-        parts.sink.append(&[])
+        parts.sink.append(&[])?;
+        Ok(())
     }
 
     /// The sink, with the writer ended.

@@ -6,7 +6,7 @@ ghost use Rattle.network_core.specs.Hands.{holds_points};
 
 mod ruled;
 
-use crate::parts::{either, first, hand_of};
+use crate::parts::{first, hand_of};
 use crate::turned::{Turned, Why};
 use chunk_queue::{ItemKind, PlainQueue, Tag};
 use cloud_points::{Make, Spread, StageFault, Work};
@@ -177,7 +177,7 @@ impl<W: Work> Node<W> {
         ensures holds { KeepsHolding W.Work self.old self.new }
         ensures made { (ins : List ℕ) → shown W.Work ins self.new ≡ net.end_made (shown W.Work ins self.old) }
     {
-        self.hand = Some(ItemKind::End(either(self.cut, self.fault.is_some())));
+        self.hand = Some(ItemKind::End(self.cut | self.fault.is_some()));
         self.ending = false;
     }
 
@@ -359,7 +359,7 @@ impl<W: Work> Node<W> {
         self.given = self.given.saturating_add(1);
         self.views = self.views.saturating_add(views);
         self.points = self.points.saturating_add(points);
-        self.done = either(self.done, end);
+        self.done |= end;
     }
 
     /// Takes an item, where there is one.
@@ -452,10 +452,10 @@ impl<W: Work> Node<W> {
         ensures calm { Calm W.Work self.old self.new }
         ensures holds { KeepsHolding W.Work self.old self.new }
     {
-        self.cut = either(self.cut, cut);
+        self.cut |= cut;
         self.ended += 1;
         if self.ended == self.inputs {
-            let is_cut = either(self.cut, self.fault.is_some());
+            let is_cut = self.cut | self.fault.is_some();
             if self.work.on_end(is_cut) {
                 self.hand = Some(ItemKind::EndView);
                 self.ending = true;

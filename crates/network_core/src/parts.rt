@@ -1,6 +1,6 @@
 //! Small parts of a turn.
 
-ghost use Rattle.std.specs.Prelude.{◌≡◌, ◌<◌, ◌||◌, true, length};
+ghost use Rattle.std.specs.Prelude.{◌≡◌, ◌<◌, true, length};
 ghost use Rattle.cloud_points.specs.Events.{first_fault};
 ghost use Rattle.network_theory.specs.Net.{item_of};
 ghost use Rattle.network_core.specs.Hands.{seen_hand, holds_points};
@@ -16,13 +16,6 @@ pub(crate) fn first(a: Option<StageFault>, b: Option<StageFault>) -> Option<Stag
         Some(fault) => Some(fault),
         None => b,
     }
-}
-
-/// One or the other.
-pub(crate) fn either(a: bool, b: bool) -> bool
-    ensures { result ≡ a || b }
-{
-    a || b
 }
 
 /// The kind of what is to be given, where there are points.

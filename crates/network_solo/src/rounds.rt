@@ -1,6 +1,6 @@
 //! Rounds of turns.
 
-ghost use Rattle.std.specs.Prelude.{◌≡◌, ◌+◌, ◌≤◌, ◌||◌};
+ghost use Rattle.std.specs.Prelude.{◌≡◌, ◌+◌, ◌≤◌};
 ghost use Rattle.cloud_points.specs.declared.point.Point.{Point};
 ghost use Rattle.cloud_points.specs.declared.faults.StageFault.{StageFault};
 ghost use Rattle.network_theory.specs.Due.{due};
@@ -12,13 +12,6 @@ ghost use Rattle.network_solo.specs.Trees.{IsRanTree};
 use cloud_points::Work;
 use network_core::{Net, Steps};
 use std::sync::ledger::Ledger;
-
-/// One or the other.
-fn either(a: bool, b: bool) -> bool
-    ensures { result ≡ a || b }
-{
-    a || b
-}
 
 /// Lets the nodes of a new net take turns, one after the other in the order of their numbers, until all are done.
 pub(crate) fn take_rounds<W: Work, L: Ledger>(net: &mut Net<W>, steps: &mut Steps<L>)
@@ -37,7 +30,7 @@ pub(crate) fn take_rounds<W: Work, L: Ledger>(net: &mut Net<W>, steps: &mut Step
         'nodes: for i in 0..count {
             let worked = net.step(i).did_work();
             steps.count(worked);
-            working = either(working, worked);
+            working |= worked;
         }
     }
 }

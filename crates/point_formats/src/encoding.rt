@@ -13,7 +13,7 @@ ghost use Rattle.point_formats.specs.Encoded.{encoded, field_number, bits_number
 use crate::Grid;
 use crate::angles::{angle_steps, degrees};
 use crate::grid::{known_steps, raw_on};
-use crate::numbers::{known_u8, known_u16, known_u64};
+use byte_numbers::{known_u8, known_u16, known_u64};
 use cloud_points::{Dim, Point};
 use las_header::Format;
 use thiserror::Error;

@@ -8,7 +8,6 @@ mod encoding;
 mod grid;
 mod laws;
 mod layouts;
-mod numbers;
 
 pub use decoding::decode;
 pub use encoding::{EncodeFault, encode, raw_numbers};

@@ -14,7 +14,7 @@ use crate::release::{give_back, release_works};
 use file_devices::{DeviceErr, Files, Op};
 use las_reader::LasReader;
 use run_report::{Place, Refusal};
-use stage_kinds::{BeginErr, StageForm, StageWork, Writing, begin_file};
+use stage_kinds::{FileBeginErr, StageForm, StageWork, Writing, begin_file};
 use stage_options::{Role, StageSpec};
 use std::alloc::Global;
 use std::mem::replace;
@@ -46,11 +46,11 @@ fn open_writer<F: Files>(
     };
     match begin_file(alloc, sink, writing) {
         Ok(work) => Ok(work),
-        Err((sink, BeginErr::Failed)) => {
+        Err((sink, FileBeginErr::Failed)) => {
             files.done_out(sink);
             Err(Refusal::Device(Place::Stage(number), Op::Write))
         }
-        Err((sink, BeginErr::Memory)) => {
+        Err((sink, FileBeginErr::Memory)) => {
             files.done_out(sink);
             Err(Refusal::Memory)
         }

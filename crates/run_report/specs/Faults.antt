@@ -2,8 +2,8 @@
 use Rattle.std.specs.Prelude.{ℕ, List, ◌++◌, codes, decimal}
 use Rattle.file_devices.specs.declared.devices.Op.{Op}
 use Rattle.file_devices.specs.declared.devices.Op.TheVariants.{Open, Read, Create, Write, Patch, Keep}
-use Rattle.las_header.specs.declared.faults.Axis.{Axis}
-use Rattle.las_header.specs.declared.faults.Axis.TheVariants.{X, Y, Z}
+use Rattle.las_header.specs.declared.faults.HeaderAxis.{HeaderAxis}
+use Rattle.las_header.specs.declared.faults.HeaderAxis.TheVariants.{X, Y, Z}
 use Rattle.las_header.specs.declared.faults.HeaderFault.{HeaderFault}
 use Rattle.las_header.specs.declared.faults.HeaderFault.TheVariants.{NotLas, VersionNotRead, HeaderSize, Compressed, FormatNotRead, RecordTooShort, PointsInHeader, ScaleNotPositive, ScaleNotDecimal, OffsetOutOfRange}
 use Rattle.las_vlr.specs.declared.entry.VlrFault.{VlrFault}
@@ -20,7 +20,7 @@ use Rattle.run_report.specs.declared.refusal.Fault.TheVariants.{Header, Vlr, Poi
 use Rattle.run_report.specs.declared.refusal.Refusal.{Refusal}
 use Rattle.run_report.specs.declared.refusal.Refusal.TheVariants.{Usage, Pipeline, Data, Device, Memory}
 
-abbrev pub axis_text : Axis → List ℕ
+abbrev pub axis_text : HeaderAxis → List ℕ
 axis_text X = codes "X"
 axis_text Y = codes "Y"
 axis_text Z = codes "Z"

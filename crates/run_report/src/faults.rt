@@ -12,7 +12,7 @@ use crate::refusal::{Fault, Place, Refusal};
 use crate::text::{Text, push_number};
 use cloud_points::PointFault;
 use file_devices::{Failed, Name, Op, Sink};
-use las_header::{Axis, HeaderFault};
+use las_header::{HeaderAxis, HeaderFault};
 use las_vlr::VlrFault;
 use stage_names::PipeFault;
 
@@ -54,18 +54,18 @@ fn op_name(op: Op) -> &'static str
     }
 }
 
-fn axis_name(axis: Axis) -> &'static str
+fn axis_name(axis: HeaderAxis) -> &'static str
     ensures name { result.now ≡ axis_text axis }
     ensures len { length result.now ≤ 1 }
 {
     match axis {
-        Axis::X => "X",
-        Axis::Y => "Y",
-        Axis::Z => "Z",
+        HeaderAxis::X => "X",
+        HeaderAxis::Y => "Y",
+        HeaderAxis::Z => "Z",
     }
 }
 
-fn push_axis(before: &str, axis: Axis, after: &str, text: &mut Text)
+fn push_axis(before: &str, axis: HeaderAxis, after: &str, text: &mut Text)
     requires room { array_string_len text.old ≤ 40 }
     requires before { length before.now ≤ 12 }
     requires after { length after.now ≤ 32 }

@@ -1,5 +1,5 @@
 -- The form of a text file is within the bounds of its writer.
-use Rattle.std.proofs.Common.{◌≡◌, ℕ, ◌≤◌, List, [], ◌∷◌, refl, length, map, Some, None, ap, ◌∙◌, arith}
+use Rattle.std.proofs.Common.{◌≡◌, ℕ, ◌≤◌, List, map, Some, None, ap, ◌∙◌}
 use Rattle.std.specs.Prelude.{Option, IfSome}
 use Rattle.std.specs.Option.{unwrap_or}
 use Rattle.std.proofs.lemmas.List.Elements.{All-map}
@@ -23,14 +23,6 @@ few_places : (precision : ℕ) (places : Option ℕ) → precision ≤ 9 → IfS
 few_places precision None low near = low
 few_places precision (Some n) low near = near
 
-map_length : {A B : Type 0} (f : A → B) (xs : List A) → length (map f xs) ≡ length xs
-map_length f [] = refl
-map_length f (x ∷ xs) = let r = map_length f xs in omega (arith, r)
-
-pub form-good : (names : List (List ℕ)) (o : TextOptions) → AreColumns o.columns → o.precision ≤ 9 → length o.delimiter ≤ 8 → IsTextForm (text_form names o)
+pub form-good : (names : List (List ℕ)) (o : TextOptions) → AreColumns o.columns → o.precision ≤ 9 → IsTextForm (text_form names o)
 unfolding text_form
-form-good names o are low short = record {
-  columns = (let few = are.few in let n = map_length (column_of names o.precision) o.columns in omega (arith, few, n));
-  delimiter = short;
-  places = All-map (λ (c : Column). c.places ≤ 9) (column_of names o.precision) o.columns (λ k d lt. few_places o.precision _ low (are.near k d lt));
-}
+form-good names o are low = All-map (λ (c : Column). c.places ≤ 9) (column_of names o.precision) o.columns (λ k d lt. few_places o.precision _ low (are.near k d lt))

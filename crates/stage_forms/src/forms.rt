@@ -15,7 +15,7 @@ use las_reader::LasReader;
 use option_texts::NamedColumn;
 use stage_options::{LasFields, TextOptions};
 use std::alloc::{AllocError, Global};
-use text_writer::{Column, ColumnList, TextForm};
+use text_writer::{Column, ColumnList, Separator, TextForm};
 
 /// The dimension of a name, beside these extra names; it is there in every run, since names are bound before.
 fn dim_of(name: &str, names: &ExtraNames) -> Dim
@@ -47,6 +47,7 @@ fn columns(
     precision: u32,
     named: &[NamedColumn],
 ) -> Result<ColumnList, AllocError>
+    requires { length named.now ≤ 64 }
     ensures { IfOk result (λ columns. columns ≡ map (column_of names.now precision) named.now) }
 {
     let mut columns = Vec::with_capacity(alloc, named.len())?;
@@ -67,9 +68,10 @@ pub fn text_form(
 {
     let precision = options.precision.count();
     let delimiter = String::from_str(alloc, options.delimiter.as_str())?;
+    let between = Name::new(delimiter);
     Ok(TextForm {
         columns: columns(alloc, names, precision, options.columns.as_slice())?,
-        delimiter: Name::new(delimiter),
+        delimiter: Separator::new(between),
         quote_header: options.quote_header,
         write_header: options.write_header,
     })

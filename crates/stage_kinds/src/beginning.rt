@@ -4,7 +4,7 @@ ghost use Rattle.std.specs.Prelude.{◌≡◌, ◌≤◌, [], Some, true, IfOk, 
 ghost use Rattle.file_devices.specs.Counts.{Rose};
 ghost use Rattle.file_devices.specs.Told.{IsAsTold};
 ghost use Rattle.file_devices.specs.declared.devices.Op as op_type;
-ghost use Rattle.stage_kinds.specs.declared.beginning.BeginErr.TheVariants.{Failed as BeginFailed, Memory as BeginMemory};
+ghost use Rattle.stage_kinds.specs.declared.beginning.FileBeginErr.TheVariants.{Failed as BeginFailed, Memory as BeginMemory};
 ghost use Rattle.stage_kinds.specs.Files.{IsFileForm, count_of, file_form, file_holds, sink_of};
 ghost use Rattle.stage_kinds.specs.Held.{op_of, faults_of};
 ghost use Rattle.stage_kinds.specs.Begins.{begin_err_of_text, begin_err_of_las};
@@ -13,14 +13,14 @@ ghost use Rattle.stage_kinds.specs.Stages.{begun, state_of, holds_of, writing_of
 use crate::{FileForm, FileWriter, StageWork, WriterStage, Writing};
 use cloud_points::Spread;
 use file_devices::{FileSink, Source};
-use las_writer::LasWriter;
+use las_writer::{LasBeginErr, LasWriter};
 use std::alloc::Global;
-use stream_filters::Written;
-use text_writer::TextWriter;
+use stream_filters::WriterWhere;
+use text_writer::{TextBeginErr, TextWriter};
 
 /// Why a writer's work doesn't begin.
 #[derive(Clone, Copy, Debug, PartialEq, Eq)]
-pub enum BeginErr {
+pub enum FileBeginErr {
     /// The sink failed.
     Failed,
 
@@ -28,24 +28,24 @@ pub enum BeginErr {
     Memory,
 }
 
-impl From<text_writer::BeginErr> for BeginErr {
+impl From<TextBeginErr> for FileBeginErr {
     ghost from_gives = { λ e mine. mine ≡ begin_err_of_text e };
 
-    fn from(e: text_writer::BeginErr) -> Self {
+    fn from(e: TextBeginErr) -> Self {
         match e {
-            text_writer::BeginErr::Failed => BeginErr::Failed,
-            text_writer::BeginErr::Memory => BeginErr::Memory,
+            TextBeginErr::Failed => FileBeginErr::Failed,
+            TextBeginErr::Memory => FileBeginErr::Memory,
         }
     }
 }
 
-impl From<las_writer::BeginErr> for BeginErr {
+impl From<LasBeginErr> for FileBeginErr {
     ghost from_gives = { λ e mine. mine ≡ begin_err_of_las e };
 
-    fn from(e: las_writer::BeginErr) -> Self {
+    fn from(e: LasBeginErr) -> Self {
         match e {
-            las_writer::BeginErr::Failed => BeginErr::Failed,
-            las_writer::BeginErr::Memory => BeginErr::Memory,
+            LasBeginErr::Failed => FileBeginErr::Failed,
+            LasBeginErr::Memory => FileBeginErr::Memory,
         }
     }
 }
@@ -55,13 +55,13 @@ fn begin_form<K: FileSink>(
     alloc: Global,
     sink: K,
     form: FileForm,
-) -> Result<FileWriter<K>, (K, BeginErr)>
+) -> Result<FileWriter<K>, (K, FileBeginErr)>
     requires { IsFileForm form }
     ensures form { IfOk result (λ w. file_form w ≡ form) }
     ensures none { IfOk result (λ w. count_of w ≡ 0) }
     ensures holds { IfOk result (λ w. IsAsTold (K.bytes sink) (Some []) → file_holds K.bytes w [] ≡ true) }
     ensures later { IfOk result (λ w. K.faults sink ≤ K.faults (sink_of w)) }
-    ensures failed { IfErr result (λ e. e.1 ≡ BeginErr.Failed → Rose (K.faults sink) (K.faults e.0)) }
+    ensures failed { IfErr result (λ e. e.1 ≡ FileBeginErr.Failed → Rose (K.faults sink) (K.faults e.0)) }
     ensures count { IfErr result (λ e. K.faults sink ≤ K.faults e.0) }
 {
     match form {
@@ -84,24 +84,24 @@ pub fn begin_file<S: Source, K: FileSink>(
     alloc: Global,
     sink: K,
     writing: Writing,
-) -> Result<StageWork<S, K>, (K, BeginErr)>
+) -> Result<StageWork<S, K>, (K, FileBeginErr)>
     requires { IsFileForm writing.form }
     ensures form { IfOk result (λ w. writing_of w ≡ Some writing) }
     ensures state { IfOk result (λ w. state_of w ≡ begun writing) }
     ensures holds { IfOk result (λ w. IsAsTold (K.bytes sink) (Some []) → holds_of K.bytes w [] ≡ true) }
     ensures writes { IfOk result (λ w. op_of w ≡ Some op_type.Op.Write) }
     ensures later { IfOk result (λ w. K.faults sink ≤ faults_of S.faults K.faults w) }
-    ensures failed { IfErr result (λ e. e.1 ≡ BeginErr.Failed → Rose (K.faults sink) (K.faults e.0)) }
+    ensures failed { IfErr result (λ e. e.1 ≡ FileBeginErr.Failed → Rose (K.faults sink) (K.faults e.0)) }
     ensures count { IfErr result (λ e. K.faults sink ≤ K.faults e.0) }
 {
     let Writing { form, only } = writing;
     let Ok(chosen) = Box::new(alloc, Spread::new()) else {
-        return Err((sink, BeginErr::Memory));
+        return Err((sink, FileBeginErr::Memory));
     };
     match begin_form(alloc, sink, form) {
         Ok(file) => Ok(StageWork::Writer(WriterStage {
             file,
-            taken: Written::new(only),
+            taken: WriterWhere::new(only),
             chosen,
         })),
         Err(refused) => Err(refused),

@@ -133,7 +133,7 @@ impl<K: FileSink> FileWriter<K> {
             },
             FileWriter::Las(writer) => match writer.finish() {
                 Ok(()) => Ok(()),
-                Err(_) => Err(Op::Patch),
+                Err(failed) => Err(failed.op()),
             },
         }
     }

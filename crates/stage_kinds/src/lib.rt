@@ -9,7 +9,7 @@ mod laws;
 mod stage_work;
 mod writer_stage;
 
-pub use beginning::{BeginErr, begin_file};
+pub use beginning::{FileBeginErr, begin_file};
 pub use file_form::{FileForm, StageForm, Writing};
 pub use file_writer::FileWriter;
 pub use held::Held;

@@ -20,7 +20,7 @@ use cloud_points::{MOST_POINTS, Point, Spread, StageFault};
 use expr_eval::holds;
 use file_devices::{Failed, FileSink, Op};
 use stage_meanings::Reason;
-use stream_filters::Written;
+use stream_filters::WriterWhere;
 
 /// Why a writer doesn't take a point.
 #[derive(Clone, Copy, Debug, PartialEq, Eq)]
@@ -57,7 +57,7 @@ impl From<PutErr> for TakeErr {
 /// place in the file.
 pub struct WriterStage<K: FileSink> {
     pub(crate) file: FileWriter<K>,
-    pub(crate) taken: Written,
+    pub(crate) taken: WriterWhere,
     // Room for those that are written of a chunk.
     pub(crate) chosen: Box<Spread>,
 }

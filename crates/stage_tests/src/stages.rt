@@ -10,7 +10,7 @@ use las_reader::LasReader;
 use recorded_files::two_points;
 use stage_kinds::{FileForm, Held, StageWork, Writing, begin_file};
 use std::alloc::{AllocError, Global};
-use text_writer::{Column, ColumnList, TextForm};
+use text_writer::{Column, ColumnList, Separator, TextForm};
 
 /// A stage over devices in memory.
 type Stage = StageWork<MemIn, MemOut>;
@@ -114,7 +114,7 @@ fn text_form(alloc: Global) -> Result<TextForm, AllocError>
     let z = column(alloc, Dim::Z)?;
     Ok(TextForm {
         columns: ColumnList::new(vec![in alloc; x, y, z]?),
-        delimiter: Name::new(String::from_str(alloc, ",")?),
+        delimiter: Separator::new(Name::new(String::from_str(alloc, ",")?)),
         quote_header: true,
         write_header: true,
     })

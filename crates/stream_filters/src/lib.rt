@@ -5,9 +5,9 @@ mod filter;
 mod judge;
 mod point_filter;
 mod rules;
-mod written;
+mod writer_where;
 
 pub use filter::Filter;
 pub use point_filter::PointFilter;
 pub use rules::{Condition, Crop, Decimation, Head, PointRule};
-pub use written::Written;
+pub use writer_where::WriterWhere;

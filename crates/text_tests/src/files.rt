@@ -7,7 +7,7 @@ use cloud_points::{Dim, Point};
 use file_devices::{MemOut, Name, SureOut};
 use std::alloc::Global;
 use std::test::Fail;
-use text_writer::{BeginErr, Column, ColumnList, TextForm, TextWriter};
+use text_writer::{Column, ColumnList, Separator, TextBeginErr, TextForm, TextWriter};
 
 /// The form of a file: its columns with their places, the delimiter, whether names are quoted, whether they are written.
 type Form = (&'static [(Dim, u32)], &'static str, bool, bool);
@@ -81,7 +81,7 @@ fn form(alloc: Global, form: Form) -> Result<TextForm, Fail>
     }
     Ok(TextForm {
         columns: ColumnList::new(list),
-        delimiter: Name::new(String::from_str(alloc, delimiter)?),
+        delimiter: Separator::new(Name::new(String::from_str(alloc, delimiter)?)),
         quote_header,
         write_header,
     })
@@ -125,7 +125,7 @@ fn fails(alloc: Global, call: u64, held: usize) -> Result<(bool, bool), Fail> {
             Ok((false, failed && Some(sink.bytes()) == text.get(..held)))
         }
         Err((sink, error)) => {
-            let failed = error == BeginErr::Failed;
+            let failed = error == TextBeginErr::Failed;
             Ok((true, failed && Some(sink.bytes()) == text.get(..held)))
         }
     }

@@ -1,5 +1,5 @@
 -- The file of a text writer.
-use Rattle.std.specs.Prelude.{ℕ, ◌≤◌, List, [], ◌∷◌, ◌++◌, length, codes, Bool, true, Option, Some, None, if◌then◌else◌}
+use Rattle.std.specs.Prelude.{ℕ, ◌≤◌, List, [], ◌∷◌, ◌++◌, codes, Bool, true, Option, Some, None, if◌then◌else◌}
 use Rattle.std.specs.List.{flat_map, All}
 use Rattle.std.specs.Str.{bytes_eq}
 use Rattle.cloud_points.specs.declared.point.Point.{Point}
@@ -7,11 +7,9 @@ use Rattle.text_writer.specs.declared.form.Column.{Column}
 use Rattle.text_writer.specs.declared.form.TextForm.{TextForm}
 use Rattle.text_writer.specs.Cells.{cell}
 
--- a form that can be written: 64 columns at most, of 9 places at most, and a delimiter of 8 bytes at most
-pub record IsTextForm (form : TextForm) : Type 0 where
-  pub columns : length form.columns ≤ 64
-  pub delimiter : length form.delimiter ≤ 8
-  pub places : All (λ (c : Column). c.places ≤ 9) form.columns
+-- a form that can be written: its columns have at most 9 places
+abbrev pub IsTextForm : TextForm → Type 0
+IsTextForm form = All (λ (c : Column). c.places ≤ 9) form.columns
 
 -- the texts of the columns with the delimiter between them
 abbrev pub joined : (delimiter : List ℕ) (text : Column → List ℕ) (columns : List Column) → List ℕ

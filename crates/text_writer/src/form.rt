@@ -1,7 +1,6 @@
 //! The form of a text file.
 
-ghost use Rattle.std.specs.Prelude.{◌≡◌, List};
-ghost use Rattle.text_writer.specs.declared.form.Column.{Column as ColumnSeen};
+ghost use Rattle.std.specs.Prelude.{◌≡◌, ◌≤◌, length};
 
 use cloud_points::Dim;
 use file_devices::Name;
@@ -18,21 +17,27 @@ pub struct Column {
     pub places: u32,
 }
 
-/// The columns of a text file, which contracts see as a list.
+/// The columns of a text file, at most 64, which contracts see as a list.
 #[derive(Drop)]
 pub struct ColumnList {
     items: Vec<Column>,
 }
 
 impl Model for ColumnList {
+    ghost use Rattle.std.specs.Prelude.{List, ◌≤◌, length};
+    ghost use Rattle.text_writer.specs.declared.form.Column.{Column as ColumnSeen};
+
     ghost Value = { List ColumnSeen };
 
     ghost view = { λ l. l.items.items };
+
+    ghost invariant = { λ l. length l.items.items ≤ 64 };
 }
 
 impl ColumnList {
     /// The list of these columns. It takes no memory.
     pub fn new(columns: Vec<Column>) -> Self
+        requires { length columns.items ≤ 64 }
         ensures { result ≡ columns.items }
     {
         ColumnList { items: columns }
@@ -40,7 +45,8 @@ impl ColumnList {
 
     /// The columns, in their order.
     pub fn as_slice(&self) -> &[Column]
-        ensures { result.now ≡ self.now }
+        ensures columns { result.now ≡ self.now }
+        ensures few { length result.now ≤ 64 }
     {
         self.items.as_slice()
     }
@@ -53,13 +59,47 @@ impl ColumnList {
     }
 }
 
+/// What stands between two columns, at most 8 bytes, which contracts see as the list of them.
+#[derive(Drop)]
+pub struct Separator {
+    text: Name,
+}
+
+impl Model for Separator {
+    ghost use Rattle.std.specs.Prelude.{ℕ, List, ◌≤◌, length};
+
+    ghost Value = { List ℕ };
+
+    ghost view = { λ s. s.text };
+
+    ghost invariant = { λ s. length s.text ≤ 8 };
+}
+
+impl Separator {
+    /// This text. It takes no memory.
+    pub fn new(text: Name) -> Self
+        requires { length text ≤ 8 }
+        ensures { result ≡ text }
+    {
+        Separator { text }
+    }
+
+    /// The text.
+    pub fn as_str(&self) -> &str
+        ensures text { result.now ≡ self.now }
+        ensures short { length result.now ≤ 8 }
+    {
+        self.text.as_str()
+    }
+}
+
 /// The form of a text file.
 #[derive(Drop)]
 pub struct TextForm {
     /// The columns of a line, from the first.
     pub columns: ColumnList,
     /// What stands between two columns.
-    pub delimiter: Name,
+    pub delimiter: Separator,
     /// Whether the names in the header line stand in double quotes.
     pub quote_header: bool,
     /// Whether there is a header line.
@@ -68,7 +108,7 @@ pub struct TextForm {
 
 /// Why a writer couldn't begin.
 #[derive(Clone, Copy, Debug, PartialEq, Eq)]
-pub enum BeginErr {
+pub enum TextBeginErr {
     /// The sink failed.
     Failed,
     /// There was no memory for the header line or the buffer of lines.

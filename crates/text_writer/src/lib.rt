@@ -8,6 +8,6 @@ mod laws;
 mod lines;
 mod writer;
 
-pub use form::{BeginErr, Column, ColumnList, TextForm};
+pub use form::{Column, ColumnList, Separator, TextBeginErr, TextForm};
 pub use laws::{held_text_grows, text_grows, whole_numbers_are_whole};
 pub use writer::TextWriter;

@@ -1,6 +1,6 @@
 //! The writer.
 
-ghost use Rattle.std.specs.Prelude.{◌≡◌, ◌+◌, ◌-◌, ◌*◌, ◌<◌, ◌≤◌, ◌++◌, [], List, Some, true, length, vec_len, IfOk, IfErr, OnOk, OnErr};
+ghost use Rattle.std.specs.Prelude.{◌≡◌, ◌+◌, ◌-◌, ◌*◌, ◌<◌, ◌≤◌, ◌++◌, [], List, Some, true, is_ok, length, vec_len, IfOk, IfErr, OnOk, OnErr};
 ghost use Rattle.std.specs.List.{flat_map};
 ghost use Rattle.cloud_points.specs.declared.point.Point.{Point};
 ghost use Rattle.file_devices.specs.Counts.{HasCause, Rose};
@@ -10,7 +10,7 @@ ghost use Rattle.text_writer.specs.TextOutput.{IsTextForm, header_line, text_lin
 
 use crate::header::header_line;
 use crate::lines::{lines_in, put_lines};
-use crate::{BeginErr, TextForm};
+use crate::{TextBeginErr, TextForm};
 use cloud_points::Point;
 use file_devices::{Failed, Sink};
 use std::alloc::Global;
@@ -34,7 +34,7 @@ impl<K: Sink> TextWriter<K> {
     ///
     /// A refusal gives the sink back. It is `Failed` only where the sink failed, and a beginning of the line was appended
     /// then. It is `Memory` only where there is none for the line or for the lines of points, and the sink is unchanged.
-    pub fn begin(alloc: Global, sink: K, form: TextForm) -> Result<TextWriter<K>, (K, BeginErr)>
+    pub fn begin(alloc: Global, sink: K, form: TextForm) -> Result<TextWriter<K>, (K, TextBeginErr)>
         requires { IsTextForm form }
         ensures ok { IfOk result (λ w. Appends (K.bytes sink) (header_line form) (K.bytes w.sink)) }
         ensures holds { IfOk result (λ w. IsAsTold (K.bytes sink) (Some [])
@@ -42,27 +42,28 @@ impl<K: Sink> TextWriter<K> {
         ensures form { IfOk result (λ w. w.form ≡ form) }
         ensures later { IfOk result (λ w. K.faults sink ≤ K.faults w.sink) }
         ensures part { IfErr result (λ e. AppendsPart (K.bytes sink) (header_line form) (K.bytes e.0)) }
-        ensures failed { IfErr result (λ e. e.1 ≡ BeginErr.Failed → Rose (K.faults sink) (K.faults e.0)) }
-        ensures unchanged { IfErr result (λ e. e.1 ≡ BeginErr.Memory → e.0 ≡ sink) }
+        ensures failed { IfErr result (λ e. e.1 ≡ TextBeginErr.Failed → Rose (K.faults sink) (K.faults e.0)) }
+        ensures unchanged { IfErr result (λ e. e.1 ≡ TextBeginErr.Memory → e.0 ≡ sink) }
         ensures count { IfErr result (λ e. K.faults sink ≤ K.faults e.0) }
     {
         let Ok(line) = header_line(alloc, &form) else {
-            return Err((sink, BeginErr::Memory));
+            return Err((sink, TextBeginErr::Memory));
         };
         let Ok(buffer) = vec![in alloc; 0u8; ROOM] else {
-            return Err((sink, BeginErr::Memory));
+            return Err((sink, TextBeginErr::Memory));
         };
         let mut sink = sink;
         match put_header(line.as_slice(), &mut sink) {
             Ok(()) => Ok(TextWriter { sink, form, buffer }),
-            Err(Failed) => Err((sink, BeginErr::Failed)),
+            Err(Failed) => Err((sink, TextBeginErr::Failed)),
         }
     }
 
-    /// Appends a line for each point, in their order. It takes no memory.
+    /// Appends a line for each point, in their order. It takes no memory. No points change nothing.
     ///
     /// It is `Failed` only where the sink failed. A prefix of the lines was appended then.
     pub fn put(&mut self, points: &[Point]) -> Result<(), Failed>
+        ensures idle { points.now ≡ [] → (is_ok result ≡ true) × (self.new ≡ self.old) }
         ensures ok { OnOk result (Appends (K.bytes self.old.sink)
             (flat_map (text_line self.old.form) points.now) (K.bytes self.new.sink)) }
         ensures part { OnErr result (AppendsPart (K.bytes self.old.sink)
@@ -73,6 +74,9 @@ impl<K: Sink> TextWriter<K> {
         ensures form { self.new.form ≡ self.old.form }
         ensures cause { HasCause (K.faults self.old.sink) (K.faults self.new.sink) result }
     {
+        if points.is_empty() {
+            return Ok(());
+        }
         put_points(points, &self.form, &mut self.buffer, &mut self.sink)
     }
 

@@ -12,7 +12,7 @@ use Rattle.serde_json.specs.Read.{number_of}
 use Rattle.ieee_words.specs.DecimalOfWord.{decimal_of_word, scale_of_word}
 use Rattle.las_header.specs.declared.form.Format.{Format}
 use Rattle.las_header.specs.declared.form.Format.TheVariants.{F0, F6}
-use Rattle.las_header.specs.declared.faults.Axis.TheVariants.{X}
+use Rattle.las_header.specs.declared.faults.HeaderAxis.TheVariants.{X}
 use Rattle.las_header.specs.declared.faults.HeaderFault.TheVariants.{NotLas, VersionNotRead, HeaderSize, Compressed, FormatNotRead, ScaleNotDecimal}
 use Rattle.las_header.specs.Headers.{block_of, record_format, scales_of, offsets_of, header_with, header_in}
 use Rattle.las_vlr.specs.declared.entry.VlrFault.TheVariants.{TooManyVlrs, VlrPastPoints, EvlrPastEnd}

@@ -5,7 +5,7 @@
 ghost use Rattle.std.specs.Prelude.{◌≡◌, ◌∷◌, [], ℕ, List, take, codes, None, Ok, Err, IsOk};
 ghost use Rattle.file_devices.specs.Named.{Names};
 ghost use Rattle.file_devices.specs.declared.devices.Op.{Op};
-ghost use Rattle.las_header.specs.declared.faults.Axis.{Axis};
+ghost use Rattle.las_header.specs.declared.faults.HeaderAxis.{HeaderAxis};
 ghost use Rattle.las_header.specs.declared.faults.HeaderFault.{HeaderFault};
 ghost use Rattle.las_vlr.specs.declared.entry.VlrFault.{VlrFault};
 ghost use Rattle.cloud_points.specs.declared.faults.PointFault.{PointFault};
@@ -58,7 +58,7 @@ pub fn files_are_refused()
     ensures last_byte_missing { answer run_p (files (take 414 file_a)) ≡ Err (Refusal.Data 0 (Fault.Point (PointFault.Cut 1))) }
     ensures no_record_whole { answer run_p (files (take 394 file_a)) ≡ Err (Refusal.Data 0 (Fault.Point (PointFault.Cut 0))) }
     ensures compressed_points { answer run_p (files file_compressed) ≡ Err (Refusal.Data 0 (Fault.Header HeaderFault.Compressed)) }
-    ensures neighbour_of_a_scale { answer run_p (files file_of_neighbour) ≡ Err (Refusal.Data 0 (Fault.Header (HeaderFault.ScaleNotDecimal Axis.X))) }
+    ensures neighbour_of_a_scale { answer run_p (files file_of_neighbour) ≡ Err (Refusal.Data 0 (Fault.Header (HeaderFault.ScaleNotDecimal HeaderAxis.X))) }
     ensures vlr_past_points { answer run_p (files file_of_a_vlr) ≡ Err (Refusal.Data 0 (Fault.Vlr (VlrFault.VlrPastPoints 0))) }
     ensures too_many_vlrs { answer run_p (files file_of_many_vlrs) ≡ Err (Refusal.Data 0 (Fault.Vlr VlrFault.TooManyVlrs)) }
     ensures evlr_past_end { answer run_p (files file_of_a_far_evlr) ≡ Err (Refusal.Data 0 (Fault.Vlr (VlrFault.EvlrPastEnd 0))) }

@@ -5,7 +5,7 @@ use cloud_points::{Dim, MOST_POINTS, Point};
 use decimal_coords::Scale;
 use file_devices::{MemOut, SureOut};
 use las_header::{Format, is_version, takes_format};
-use las_writer::{BeginErr, ChunkErr, LasWriter, PutFault, RecordFault, RefusedPoint};
+use las_writer::{ChunkErr, LasBeginErr, LasWriter, PutFault, RecordFault, RefusedPoint};
 use std::alloc::Global;
 
 /// Pieces of a file without points, in format 3, and their places.
@@ -162,7 +162,7 @@ fn failing(alloc: Global, call: u64) -> Option<[bool; 3]> {
             drop(writer.release());
             Some([false, put, finished])
         }
-        Err((_, e)) => Some([e == BeginErr::Failed, false, false]),
+        Err((_, e)) => Some([e == LasBeginErr::Failed, false, false]),
     }
 }
 

@@ -1,7 +1,7 @@
 //! Header blocks and their first faults, nearly all from an independent reading of the standard.
 
 use las_header::HeaderFault::*;
-use las_header::{Axis, HeaderFault};
+use las_header::{HeaderAxis, HeaderFault};
 
 /// A field of the header block: its place and its bytes.
 #[derive(Clone, Copy)]
@@ -289,7 +289,7 @@ pub(super) const BLOCKS: [(Option<HeaderFault>, &[Edits]); 17] = [
         ],
     ),
     (
-        Some(ScaleNotPositive(Axis::X)),
+        Some(ScaleNotPositive(HeaderAxis::X)),
         &[&[
             (VLRS, 0xFFFF_FFFF),
             (FORMAT, 2),
@@ -298,14 +298,14 @@ pub(super) const BLOCKS: [(Option<HeaderFault>, &[Edits]); 17] = [
         ]],
     ),
     (
-        Some(ScaleNotPositive(Axis::Y)),
+        Some(ScaleNotPositive(HeaderAxis::Y)),
         &[
             &[(FORMAT, 7), (LENGTH, 36), (Y_SCALE, MINUS_CENT)],
             &[(Y_SCALE, 0)],
         ],
     ),
     (
-        Some(ScaleNotPositive(Axis::Z)),
+        Some(ScaleNotPositive(HeaderAxis::Z)),
         &[
             &[
                 (FORMAT, 3),
@@ -318,7 +318,7 @@ pub(super) const BLOCKS: [(Option<HeaderFault>, &[Edits]); 17] = [
         ],
     ),
     (
-        Some(ScaleNotDecimal(Axis::X)),
+        Some(ScaleNotDecimal(HeaderAxis::X)),
         &[
             &[(FORMAT, 2), (LENGTH, 26), (X_SCALE, BELOW_CENT)],
             &[
@@ -343,7 +343,7 @@ pub(super) const BLOCKS: [(Option<HeaderFault>, &[Edits]); 17] = [
         ],
     ),
     (
-        Some(ScaleNotDecimal(Axis::Y)),
+        Some(ScaleNotDecimal(HeaderAxis::Y)),
         &[
             &[(Y_SCALE, 0x3E0E_EC7B_D512_B572)],
             &[
@@ -363,7 +363,7 @@ pub(super) const BLOCKS: [(Option<HeaderFault>, &[Edits]); 17] = [
         ],
     ),
     (
-        Some(ScaleNotDecimal(Axis::Z)),
+        Some(ScaleNotDecimal(HeaderAxis::Z)),
         &[
             &[
                 (POINTS_AT, 0xFFFF_FFFF),
@@ -382,21 +382,21 @@ pub(super) const BLOCKS: [(Option<HeaderFault>, &[Edits]); 17] = [
         ],
     ),
     (
-        Some(OffsetOutOfRange(Axis::X)),
+        Some(OffsetOutOfRange(HeaderAxis::X)),
         &[
             &[(POINTS_AT, 0x8000_0000), (X_OFFSET, MINUS_BILLION)],
             &[(FORMAT, 8), (LENGTH, 38), (X_OFFSET, BILLION)],
         ],
     ),
     (
-        Some(OffsetOutOfRange(Axis::Y)),
+        Some(OffsetOutOfRange(HeaderAxis::Y)),
         &[
             &[(Y_OFFSET, HUGE), (Z_OFFSET, MINUS_ZERO)],
             &[(Y_OFFSET, BILLION)],
         ],
     ),
     (
-        Some(OffsetOutOfRange(Axis::Z)),
+        Some(OffsetOutOfRange(HeaderAxis::Z)),
         &[&[(Z_OFFSET, MINUS_NO_NUMBER)], &[(Z_OFFSET, INFINITE)]],
     ),
 ];

@@ -1,6 +1,4 @@
 use Rattle.std.proofs.Common.{◌≡◌, ◌<◌, ◌^◌, [], List, None, Some, true, subst, append-nil}
-use Rattle.std.proofs.lemmas.Result.{on_ok_weaker}
-use Rattle.std.specs.Prelude.{OnOk}
 use Rattle.std.specs.List.{flat_map}
 use Rattle.cloud_points.specs.declared.point.Point.{Point}
 use Rattle.file_devices.specs.Content.{Appends}
@@ -19,10 +17,8 @@ returns-clause-ok g c =
     let start : points_at parts.form < 2 ^ 32 = subst (λ n. n < 2 ^ 32) parts.behind c.known_u32.ensures in
     let extended : Appends (g.K.Sink.bytes parts.sink) (evlrs_bytes parts.form) (g.K.Sink.bytes c.put_evlrs.new.sink) =
     subst (λ vlrs. Appends (g.K.Sink.bytes parts.sink) (flat_map evlr_bytes vlrs) (g.K.Sink.bytes c.put_evlrs.new.sink)) c.file_evlrs.ensures c.in_ok-put_evlrs.ensures.ok in
-    subst (λ now. OnOk c.append.result ((points : List Point) → holds_las (g.K.Sink.bytes now.sink) now.form now.totals points ≡ true → refusal now.form 0 points ≡ None → IsAsTold (g.K.Sink.bytes c.append.new.self) (Some (las_output now.form points)))) c.self.view_is
-    (on_ok_weaker c.append.result
-    (λ flushed points h none.
+    subst (λ now. (points : List Point) → holds_las (g.K.Sink.bytes now.sink) now.form now.totals points ≡ true → refusal now.form 0 points ≡ None → IsAsTold (g.K.Sink.bytes c.append.new.self) (Some (las_output now.form points))) c.self.view_is
+    (λ points h none.
     let out = las_output parts.form points in
     let told = finished parts.form points parts.totals _ _ _ c.known_fields.ensures parts.decided start (held_parts _ parts.form parts.totals points none h) extended c.in_ok-patch_header.ensures.ok c.patch_header.ensures.size in
-    subst (λ l. IsAsTold (g.K.Sink.bytes c.append.new.self) (Some l)) (append-nil out) (told_more _ _ out [] flushed told))
-    c.append.ensures.ok)
+    subst (λ l. IsAsTold (g.K.Sink.bytes c.append.new.self) (Some l)) (append-nil out) (told_more _ _ out [] c.in_ok-append.ensures.ok told))

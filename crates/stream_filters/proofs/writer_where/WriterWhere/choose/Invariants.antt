@@ -2,7 +2,7 @@ use Rattle.std.proofs.Common.{◌≡◌, ◌≤◌, length, take, drop}
 use Rattle.std.specs.Prelude.{filter}
 use Rattle.stage_meanings.specs.Conditions.{passes}
 use Rattle.stage_meanings.specs.Filters.{is_true, first_unjudged}
-use Rattle.stream_filters.proofs.written.Written.choose.Given as goal
+use Rattle.stream_filters.proofs.writer_where.WriterWhere.choose.Given as goal
 
 -- those that were chosen, and the first without a value among the others
 abbrev pub invariant-loop-at : goal.invariant-loop-at

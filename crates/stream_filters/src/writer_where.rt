@@ -34,17 +34,17 @@ fn put_if(into: &mut Spread, written: bool, p: Point)
 
 /// A writer's `where`, and how many points stood before the next one. The points for which it holds are written.
 #[derive(Drop)]
-pub struct Written {
+pub struct WriterWhere {
     only: Option<Bound>,
     number: u64,
 }
 
-impl Written {
+impl WriterWhere {
     /// By this `where`, or all points where there is none.
     pub fn new(only: Option<Bound>) -> Self
         ensures { result ≡ record { only = only; number = 0 } }
     {
-        Written { only, number: 0 }
+        WriterWhere { only, number: 0 }
     }
 
     /// The `where`.
