@@ -5,8 +5,8 @@ use Rattle.cloud_points.specs.declared.faults.PointFault.{PointFault}
 use Rattle.cloud_points.specs.Flows.{Flow}
 use Rattle.expr_lang.specs.Formula.{Formula}
 use Rattle.expr_eval.specs.Bindings.{assign_of, dim_of}
-use Rattle.stage_options.specs.Binding.{bound, bound_where, limit_of}
-use Rattle.stage_options.specs.Ferries.{with_targets, ferries_bound}
+use Rattle.name_binding.specs.Binding.{bound, bound_where, limit_of}
+use Rattle.name_binding.specs.Ferries.{with_targets, ferries_bound}
 use Rattle.stage_options.specs.declared.options.Options.{Options}
 use Rattle.stage_options.specs.declared.options.Options.TheVariants.{ReadersLas, FiltersRange, FiltersCrop, FiltersAssign, FiltersFerry, FiltersExpression, FiltersDecimation, FiltersHead, FiltersReturns, FiltersMerge, FiltersSort, FiltersTail, FiltersGroupby, WritersLas, WritersText}
 use Rattle.forward_rules.specs.Forwarded.{ReadFile, form_of}

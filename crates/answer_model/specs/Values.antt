@@ -14,8 +14,8 @@ use Rattle.forward_rules.specs.Forwarded.{ReadFile}
 use Rattle.stage_names.specs.declared.faults.PipeFault.{PipeFault}
 use Rattle.stage_names.specs.declared.kinds.KindName.TheVariants as kind
 use Rattle.pipeline_json.specs.Lists.{has}
-use Rattle.stage_options.specs.Binding.{binding_fault}
-use Rattle.stage_options.specs.Ferries.{names_behind, adds}
+use Rattle.name_binding.specs.Binding.{binding_fault}
+use Rattle.name_binding.specs.Ferries.{names_behind, adds}
 use Rattle.stage_options.specs.Roles.{Role, Writes, role_of, is_reading, target_of}
 use Rattle.stage_options.specs.declared.options.Options.{Options}
 use Rattle.stage_options.specs.declared.options.Options.TheVariants.{ReadersLas}

@@ -2,7 +2,8 @@
 use Rattle.std.proofs.Common.{◌≡◌, ◌∙◌, ◌<◌, ◌≤◌, ◌+◌, ◌⊎◌, inl, inr, ℕ, suc, List, [], ◌∷◌, ◌++◌, length, take, drop, Option, Some, None, option_and_then, Result, Ok, Err, ok_or, ap, subst, refl, sym, arith}
 use Rattle.std.proofs.lemmas.List.{append-nil, append_assoc, take-append-drop, take_all, take-take}
 use Rattle.command_words.specs.Commands.{Command, IsCommand, CanGoOn}
-use Rattle.command_words.specs.Machine.{State, start, step, ended, command_from, command_of, and_then}
+use Rattle.command_words.specs.Machine.{State, start, step, ended, command_from, command_of}
+use Rattle.text_bytes.specs.Steps.{and_then}
 use Rattle.command_words.specs.Laws.{IsPlace}
 use Rattle.command_words.proofs.Runs.{state_after, after_both, leads}
 use Rattle.command_words.proofs.Fronts.{at_start, front_after, is_ended, goes_on}

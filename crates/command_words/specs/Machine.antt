@@ -1,5 +1,6 @@
 -- The reader of a command, a word at a time.
-use Rattle.std.specs.Prelude.{◌+◌, ℕ, Bool, true, false, not, is_none, unwrap_or, List, [], ◌∷◌, codes, bytes_eq, Option, Some, None, option_map, option_and_then, Result, Ok, Err, ok_or, if◌then◌else◌}
+use Rattle.std.specs.Prelude.{◌+◌, ℕ, Bool, true, false, not, is_none, unwrap_or, List, [], ◌∷◌, codes, bytes_eq, Option, Some, None, option_map, option_and_then, Result, ok_or, if◌then◌else◌}
+use Rattle.text_bytes.specs.Steps.{and_then}
 use Rattle.command_words.specs.Numbers.{number_in}
 use Rattle.command_words.specs.Options.{least_of, most_of}
 use Rattle.command_words.specs.Commands.{Command, run, plan, gen, trial, help, version, command_in, is_name, most_count}
@@ -120,10 +121,6 @@ ended (counted n) = None
 ended (options task given) = Some (command_for task (filled given))
 ended (setting task given s) = None
 ended (done c) = Some c
-
-abbrev pub and_then : {X Y : Type 0} → Result X ℕ → (X → Result Y ℕ) → Result Y ℕ
-and_then (Ok x) f = f x
-and_then (Err k) f = Err k
 
 -- the command of a state at a place and the words behind it, or the place of the first word that is wrong or missing
 abbrev pub command_from : State → ℕ → List (List ℕ) → Result Command ℕ

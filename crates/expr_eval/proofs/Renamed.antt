@@ -7,10 +7,11 @@ use Rattle.cloud_points.specs.declared.dims.Dim.{Dim}
 use Rattle.cloud_points.specs.declared.dims.Dim.TheVariants.{X}
 use Rattle.cloud_points.specs.declared.dims.Kind.{Kind}
 use Rattle.cloud_points.specs.declared.dims.Kind.TheVariants.{Fixed, Whole, Word}
+use Rattle.text_bytes.specs.Steps.{and_then}
 use Rattle.expr_lang.specs.Formula.{Formula, number, name, minus, not, binary, renamed}
 use Rattle.expr_eval.specs.declared.bind.BindErr.{BindErr}
 use Rattle.expr_eval.specs.declared.bind.BindErr.TheVariants.{Unknown}
-use Rattle.expr_eval.specs.Bindings.{numeric_dim, held_dim, bound_dim, and_then, bound_in, dim_of}
+use Rattle.expr_eval.specs.Bindings.{numeric_dim, held_dim, bound_dim, bound_in, dim_of}
 
 -- the dimension that a name is bound to
 pub dim_bound : (has : Dim → Bool) (names : List (List ℕ)) (n : List ℕ) (d : Dim) → bound_dim has names n ≡ Ok d → d ≡ dim_of names n

@@ -7,6 +7,7 @@ use Rattle.cloud_points.specs.declared.dims.Dim.{Dim}
 use Rattle.cloud_points.specs.declared.dims.Dim.TheVariants.{X}
 use Rattle.cloud_points.specs.declared.dims.Kind.{Kind}
 use Rattle.cloud_points.specs.declared.dims.Kind.TheVariants.{Fixed, Whole, Word}
+use Rattle.text_bytes.specs.Steps.{and_then}
 use Rattle.expr_lang.specs.declared.expr.Assign.{Assign}
 use Rattle.expr_lang.specs.Formula.{Formula, renamed, number, name, minus, not, binary}
 use Rattle.expr_eval.specs.declared.assignment.Assignment.{Assignment}
@@ -30,10 +31,6 @@ abbrev pub bound_dim : (Dim → Bool) → List (List ℕ) → List ℕ → Resul
 bound_dim has names n = held_dim has n (dim_in n names)
 
 -- ---- a formula, of whose refusals the first from left to right is answered
-
-abbrev pub and_then : {A B : Type 0} → Result A BindErr → (A → Result B BindErr) → Result B BindErr
-and_then (Ok x) f = f x
-and_then (Err e) f = Err e
 
 abbrev pub bound_in : (Dim → Bool) → List (List ℕ) → Formula (List ℕ) → Result (Formula Dim) BindErr
 bound_in has names (number n) = Ok (number n)

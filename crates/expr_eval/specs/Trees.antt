@@ -1,6 +1,6 @@
 -- The formula of a tree over dimensions.
 use Rattle.cloud_points.specs.declared.dims.Dim as declared
-use Rattle.expr_lang.specs.declared.op.Op.TheVariants as op
+use Rattle.expr_lang.specs.declared.op.BinaryOp.TheVariants as op
 use Rattle.expr_lang.specs.Formula.{Formula, number, name, minus, not, binary}
 use Rattle.expr_eval.specs.declared.bound.BoundTree.{BoundTree}
 use Rattle.expr_eval.specs.declared.bound.BoundTree.TheVariants.{Number, Dim, Negative', Not', Or', And', Equal', Different', AtMost', AtLeast', Below', Above', Sum', Difference', Product', Quotient'}

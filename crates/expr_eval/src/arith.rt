@@ -5,7 +5,7 @@ ghost use Rattle.expr_eval.specs.Values.{within_limit, product, quotient, rounde
 
 use crate::nanos::rounded;
 use exact_numbers::half_away;
-use expr_lang::Op;
+use expr_lang::BinaryOp;
 
 /// Why an expression has no value at a point.
 #[derive(Clone, Copy, Debug, PartialEq, Eq, Drop)]
@@ -90,17 +90,17 @@ pub fn divide(x: i128, y: i128) -> Result<i128, ArithFault>
 }
 
 /// What an operation makes of two values. One that isn't of arithmetic makes 0.
-pub fn computed(op: Op, x: i128, y: i128) -> Result<i128, ArithFault>
+pub fn computed(op: BinaryOp, x: i128, y: i128) -> Result<i128, ArithFault>
     requires left { unsigned_abs x ≤ 10 ^ 27 }
     requires right { unsigned_abs y ≤ 10 ^ 27 }
     ensures value { result ≡ computed op x y }
     ensures small { IfOk result (λ r. unsigned_abs r ≤ 10 ^ 27) }
 {
     match op {
-        Op::Plus => limited(x + y),
-        Op::Minus => limited(x - y),
-        Op::Times => multiply(x, y),
-        Op::Over => divide(x, y),
+        BinaryOp::Plus => limited(x + y),
+        BinaryOp::Minus => limited(x - y),
+        BinaryOp::Times => multiply(x, y),
+        BinaryOp::Over => divide(x, y),
         _ => Ok(0),
     }
 }

@@ -12,7 +12,7 @@ ghost use Rattle.expr_eval.specs.declared.bind.BindErr.TheVariants.{Memory};
 
 use crate::bound::{Bound, BoundTree};
 use cloud_points::{Dim, ExtraNames, Kind, Layout, dim_of};
-use expr_lang::{Expr, ExprTree, Op};
+use expr_lang::{BinaryOp, Expr, ExprTree};
 use file_devices::Name;
 use std::alloc::{AllocError, Global};
 
@@ -70,7 +70,7 @@ enum Form<'a> {
     Name(&'a Name),
     Negative(&'a ExprTree),
     Not(&'a ExprTree),
-    Pair(Op, &'a ExprTree, &'a ExprTree),
+    Pair(BinaryOp, &'a ExprTree, &'a ExprTree),
 }
 
 fn form_of(e: &ExprTree) -> Form<'_>
@@ -81,37 +81,37 @@ fn form_of(e: &ExprTree) -> Form<'_>
         ExprTree::Name(name) => Form::Name(name),
         ExprTree::Negative(a) => Form::Negative(a),
         ExprTree::Not(a) => Form::Not(a),
-        ExprTree::Or(a, b) => Form::Pair(Op::Or, a, b),
-        ExprTree::And(a, b) => Form::Pair(Op::And, a, b),
-        ExprTree::Equal(a, b) => Form::Pair(Op::Equal, a, b),
-        ExprTree::Different(a, b) => Form::Pair(Op::Different, a, b),
-        ExprTree::AtMost(a, b) => Form::Pair(Op::AtMost, a, b),
-        ExprTree::AtLeast(a, b) => Form::Pair(Op::AtLeast, a, b),
-        ExprTree::Below(a, b) => Form::Pair(Op::Below, a, b),
-        ExprTree::Above(a, b) => Form::Pair(Op::Above, a, b),
-        ExprTree::Sum(a, b) => Form::Pair(Op::Plus, a, b),
-        ExprTree::Difference(a, b) => Form::Pair(Op::Minus, a, b),
-        ExprTree::Product(a, b) => Form::Pair(Op::Times, a, b),
-        ExprTree::Quotient(a, b) => Form::Pair(Op::Over, a, b),
+        ExprTree::Or(a, b) => Form::Pair(BinaryOp::Or, a, b),
+        ExprTree::And(a, b) => Form::Pair(BinaryOp::And, a, b),
+        ExprTree::Equal(a, b) => Form::Pair(BinaryOp::Equal, a, b),
+        ExprTree::Different(a, b) => Form::Pair(BinaryOp::Different, a, b),
+        ExprTree::AtMost(a, b) => Form::Pair(BinaryOp::AtMost, a, b),
+        ExprTree::AtLeast(a, b) => Form::Pair(BinaryOp::AtLeast, a, b),
+        ExprTree::Below(a, b) => Form::Pair(BinaryOp::Below, a, b),
+        ExprTree::Above(a, b) => Form::Pair(BinaryOp::Above, a, b),
+        ExprTree::Sum(a, b) => Form::Pair(BinaryOp::Plus, a, b),
+        ExprTree::Difference(a, b) => Form::Pair(BinaryOp::Minus, a, b),
+        ExprTree::Product(a, b) => Form::Pair(BinaryOp::Times, a, b),
+        ExprTree::Quotient(a, b) => Form::Pair(BinaryOp::Over, a, b),
     }
 }
 
-fn with_operator(op: Op, a: Box<BoundTree>, b: Box<BoundTree>) -> BoundTree
+fn with_operator(op: BinaryOp, a: Box<BoundTree>, b: Box<BoundTree>) -> BoundTree
     ensures { formula_of result ≡ formula.binary op (formula_of a.value) (formula_of b.value) }
 {
     match op {
-        Op::Or => BoundTree::Or(a, b),
-        Op::And => BoundTree::And(a, b),
-        Op::Equal => BoundTree::Equal(a, b),
-        Op::Different => BoundTree::Different(a, b),
-        Op::AtMost => BoundTree::AtMost(a, b),
-        Op::AtLeast => BoundTree::AtLeast(a, b),
-        Op::Below => BoundTree::Below(a, b),
-        Op::Above => BoundTree::Above(a, b),
-        Op::Plus => BoundTree::Sum(a, b),
-        Op::Minus => BoundTree::Difference(a, b),
-        Op::Times => BoundTree::Product(a, b),
-        Op::Over => BoundTree::Quotient(a, b),
+        BinaryOp::Or => BoundTree::Or(a, b),
+        BinaryOp::And => BoundTree::And(a, b),
+        BinaryOp::Equal => BoundTree::Equal(a, b),
+        BinaryOp::Different => BoundTree::Different(a, b),
+        BinaryOp::AtMost => BoundTree::AtMost(a, b),
+        BinaryOp::AtLeast => BoundTree::AtLeast(a, b),
+        BinaryOp::Below => BoundTree::Below(a, b),
+        BinaryOp::Above => BoundTree::Above(a, b),
+        BinaryOp::Plus => BoundTree::Sum(a, b),
+        BinaryOp::Minus => BoundTree::Difference(a, b),
+        BinaryOp::Times => BoundTree::Product(a, b),
+        BinaryOp::Over => BoundTree::Quotient(a, b),
     }
 }
 

@@ -8,7 +8,7 @@ ghost use Rattle.expr_lang.specs.Formula.{minus, not, binary};
 use crate::arith::{ArithFault, computed};
 use crate::bound::{Bound, BoundTree};
 use cloud_points::Point;
-use expr_lang::Op;
+use expr_lang::BinaryOp;
 
 /// The value of a tree at a point.
 ///
@@ -23,10 +23,10 @@ fn tree_value(e: &BoundTree, p: &Point) -> Result<i128, ArithFault>
         BoundTree::Number(n) => Ok(*n as i128),
         BoundTree::Dim(dim) => Ok(p.get(*dim)),
         BoundTree::Negative(a) => negative_value(a, p),
-        BoundTree::Sum(a, b) => pair_value(Op::Plus, a, b, p),
-        BoundTree::Difference(a, b) => pair_value(Op::Minus, a, b, p),
-        BoundTree::Product(a, b) => pair_value(Op::Times, a, b, p),
-        BoundTree::Quotient(a, b) => pair_value(Op::Over, a, b, p),
+        BoundTree::Sum(a, b) => pair_value(BinaryOp::Plus, a, b, p),
+        BoundTree::Difference(a, b) => pair_value(BinaryOp::Minus, a, b, p),
+        BoundTree::Product(a, b) => pair_value(BinaryOp::Times, a, b, p),
+        BoundTree::Quotient(a, b) => pair_value(BinaryOp::Over, a, b, p),
         _ => Ok(0),
     }
 }
@@ -43,7 +43,7 @@ fn negative_value(a: &BoundTree, p: &Point) -> Result<i128, ArithFault>
 
 /// The value of an operation on the values of two trees.
 #[cycle(values)]
-fn pair_value(op: Op, a: &BoundTree, b: &BoundTree, p: &Point) -> Result<i128, ArithFault>
+fn pair_value(op: BinaryOp, a: &BoundTree, b: &BoundTree, p: &Point) -> Result<i128, ArithFault>
     ensures value { result ≡ both (value_of (formula_of a.now) p.now) (value_of (formula_of b.now) p.now) (computed op) }
     ensures small { IfOk result (λ v. unsigned_abs v ≤ 10 ^ 27) }
 {
@@ -53,22 +53,22 @@ fn pair_value(op: Op, a: &BoundTree, b: &BoundTree, p: &Point) -> Result<i128, A
 }
 
 /// Whether a comparison holds of two values.
-fn compares(op: Op, x: i128, y: i128) -> bool
+fn compares(op: BinaryOp, x: i128, y: i128) -> bool
     ensures { result ≡ compares op x y }
 {
     match op {
-        Op::Equal => x == y,
-        Op::Different => x != y,
-        Op::AtMost => x <= y,
-        Op::AtLeast => y <= x,
-        Op::Below => x < y,
-        Op::Above => y < x,
+        BinaryOp::Equal => x == y,
+        BinaryOp::Different => x != y,
+        BinaryOp::AtMost => x <= y,
+        BinaryOp::AtLeast => y <= x,
+        BinaryOp::Below => x < y,
+        BinaryOp::Above => y < x,
         _ => false,
     }
 }
 
 /// Whether a comparison holds of the values of two trees.
-fn pair_holds(op: Op, a: &BoundTree, b: &BoundTree, p: &Point) -> Result<bool, ArithFault>
+fn pair_holds(op: BinaryOp, a: &BoundTree, b: &BoundTree, p: &Point) -> Result<bool, ArithFault>
     ensures { result ≡ judged op (formula_of a.now) (formula_of b.now) p.now }
 {
     let x = tree_value(a, p)?;
@@ -86,12 +86,12 @@ fn tree_holds(e: &BoundTree, p: &Point) -> Result<bool, ArithFault>
         BoundTree::Not(a) => not_holds(a, p),
         BoundTree::Or(a, b) => or_holds(a, b, p),
         BoundTree::And(a, b) => and_holds(a, b, p),
-        BoundTree::Equal(a, b) => pair_holds(Op::Equal, a, b, p),
-        BoundTree::Different(a, b) => pair_holds(Op::Different, a, b, p),
-        BoundTree::AtMost(a, b) => pair_holds(Op::AtMost, a, b, p),
-        BoundTree::AtLeast(a, b) => pair_holds(Op::AtLeast, a, b, p),
-        BoundTree::Below(a, b) => pair_holds(Op::Below, a, b, p),
-        BoundTree::Above(a, b) => pair_holds(Op::Above, a, b, p),
+        BoundTree::Equal(a, b) => pair_holds(BinaryOp::Equal, a, b, p),
+        BoundTree::Different(a, b) => pair_holds(BinaryOp::Different, a, b, p),
+        BoundTree::AtMost(a, b) => pair_holds(BinaryOp::AtMost, a, b, p),
+        BoundTree::AtLeast(a, b) => pair_holds(BinaryOp::AtLeast, a, b, p),
+        BoundTree::Below(a, b) => pair_holds(BinaryOp::Below, a, b, p),
+        BoundTree::Above(a, b) => pair_holds(BinaryOp::Above, a, b, p),
         _ => Ok(false),
     }
 }
@@ -108,7 +108,7 @@ fn not_holds(a: &BoundTree, p: &Point) -> Result<bool, ArithFault>
 /// Whether `a || b` holds.
 #[cycle(conditions)]
 fn or_holds(a: &BoundTree, b: &BoundTree, p: &Point) -> Result<bool, ArithFault>
-    ensures { result ≡ holds_at (binary Op.Or (formula_of a.now) (formula_of b.now)) p.now }
+    ensures { result ≡ holds_at (binary BinaryOp.Or (formula_of a.now) (formula_of b.now)) p.now }
 {
     let x = tree_holds(a, p)?;
     if x { Ok(true) } else { tree_holds(b, p) }
@@ -117,7 +117,7 @@ fn or_holds(a: &BoundTree, b: &BoundTree, p: &Point) -> Result<bool, ArithFault>
 /// Whether `a && b` holds.
 #[cycle(conditions)]
 fn and_holds(a: &BoundTree, b: &BoundTree, p: &Point) -> Result<bool, ArithFault>
-    ensures { result ≡ holds_at (binary Op.And (formula_of a.now) (formula_of b.now)) p.now }
+    ensures { result ≡ holds_at (binary BinaryOp.And (formula_of a.now) (formula_of b.now)) p.now }
 {
     let x = tree_holds(a, p)?;
     if x { tree_holds(b, p) } else { Ok(false) }

@@ -17,13 +17,13 @@ const BITS_64: u128 = 18_446_744_073_709_551_616;
 
 /// What a step of a division gives.
 #[derive(Clone, Copy)]
-struct Step {
+struct Divided {
     quotient: u64,
     rest: u64,
 }
 
 /// The next 32 bits of a dividend, behind what is left of those before them.
-fn next_step(rest: u64, bits: u64) -> Step
+fn next_step(rest: u64, bits: u64) -> Divided
     requires rest { rest < 10 ^ 9 }
     requires bits { bits < 2 ^ 32 }
     ensures whole { result.quotient * 10 ^ 9 + result.rest ≡ rest * 2 ^ 32 + bits }
@@ -31,7 +31,7 @@ fn next_step(rest: u64, bits: u64) -> Step
     ensures few { result.quotient < 2 ^ 32 }
 {
     let part = rest * BITS_32 + bits;
-    Step {
+    Divided {
         quotient: part / NANO,
         rest: part % NANO,
     }
@@ -43,7 +43,7 @@ fn by_nano(size: u128) -> u128
 {
     let high = (size / BITS_64) as u64;
     let low = (size % BITS_64) as u64;
-    let first = Step {
+    let first = Divided {
         quotient: high / NANO,
         rest: high % NANO,
     };

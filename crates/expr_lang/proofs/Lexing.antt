@@ -2,10 +2,11 @@
 use Rattle.std.proofs.Common.{◌≡◌, ℕ, zero, suc, ◌<◌, ◌+◌, ◌-◌, arith, refl, ap, subst, ◌∙◌, List, [], ◌∷◌, drop, Bool, true, false, if◌then◌else◌}
 use Rattle.std.specs.List.{prefix_len}
 use Rattle.std.specs.Prelude.{Option, Some, None}
-use Rattle.expr_lang.specs.declared.op.Op.{Op}
+use Rattle.expr_lang.specs.declared.op.BinaryOp.{BinaryOp}
 use Rattle.expr_lang.specs.declared.token.Placed.{Placed}
 use Rattle.expr_lang.specs.Grammar.{placed}
-use Rattle.expr_lang.specs.Lexical.{is_space, is_letter, is_digit, is_word, pair_op, pair_or_byte, symbol, word_lexeme, number_lexeme, first_token, IsLexed, at_end, at_space, at_token}
+use Rattle.expr_lang.specs.Lexical.{pair_op, pair_or_byte, symbol, word_lexeme, number_lexeme, first_token, IsLexed, at_end, at_space, at_token}
+use Rattle.text_bytes.specs.Bytes.{is_space, is_letter, is_digit, is_word}
 use Rattle.expr_lang.specs.Tokens.{tokens_behind, tokens_of}
 use Rattle.expr_lang.proofs.Spans.{letter_word}
 
@@ -15,7 +16,7 @@ symbol_some : (b : ℕ) (bs : List ℕ) → 0 < (symbol b bs).size
 symbol_some b [] = omega arith
 symbol_some b (d ∷ bs) = go (pair_op b d)
   where
-    go : (o : Option Op) → 0 < (pair_or_byte o b).size
+    go : (o : Option BinaryOp) → 0 < (pair_or_byte o b).size
     go None = omega arith
     go (Some o) = omega arith
 

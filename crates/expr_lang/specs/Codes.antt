@@ -2,11 +2,11 @@
 use Rattle.std.specs.Prelude.{◌≡◌, ℕ, ℤ, pos, ◌==◌, if◌then◌else◌, ◌⊎◌, List, [], ◌∷◌, ◌++◌}
 use Rattle.std.proofs.Common.{refl, ap, sym, ◌∙◌, inl, inr, append_assoc, append-nil}
 use Rattle.std.specs.Coded.{Coded, code_by, coded⊎, coded_ℕ, coded_ℤ, coded_list}
-use Rattle.expr_lang.specs.declared.op.Op.{Op}
-use Rattle.expr_lang.specs.declared.op.Op.TheVariants.{Or, And, Equal, Different, AtMost, AtLeast, Below, Above, Plus, Minus, Times, Over}
+use Rattle.expr_lang.specs.declared.op.BinaryOp.{BinaryOp}
+use Rattle.expr_lang.specs.declared.op.BinaryOp.TheVariants.{Or, And, Equal, Different, AtMost, AtLeast, Below, Above, Plus, Minus, Times, Over}
 use Rattle.expr_lang.specs.Formula.{Formula, number, name, minus, not, binary}
 
-abbrev op_number : Op → ℕ
+abbrev op_number : BinaryOp → ℕ
 op_number Or = 2
 op_number And = 3
 op_number Equal = 4
@@ -20,7 +20,7 @@ op_number Minus = 11
 op_number Times = 12
 op_number Over = 13
 
-abbrev op_numbered : ℕ → Op
+abbrev op_numbered : ℕ → BinaryOp
 op_numbered n = if n == 2 then Or
     else (if n == 3 then And
     else (if n == 4 then Equal
@@ -50,7 +50,7 @@ module _ {N : Type 0} where
   one_taken f [] = []
   one_taken f (a ∷ st) = f a ∷ st
 
-  abbrev two_taken : Op → List (Formula N) → List (Formula N)
+  abbrev two_taken : BinaryOp → List (Formula N) → List (Formula N)
   two_taken o [] = []
   two_taken o (b ∷ []) = []
   two_taken o (b ∷ a ∷ st) = binary o a b ∷ st
@@ -68,7 +68,7 @@ module _ {N : Type 0} where
   last_read [] = number (pos 0)
   last_read (f ∷ st) = f
 
-  operator_read : (o : Op) (a b : Formula N) (st : List (Formula N)) → read_part (inr (op_number o)) (b ∷ a ∷ st) ≡ binary o a b ∷ st
+  operator_read : (o : BinaryOp) (a b : Formula N) (st : List (Formula N)) → read_part (inr (op_number o)) (b ∷ a ∷ st) ≡ binary o a b ∷ st
   operator_read Or a b st = refl
   operator_read And a b st = refl
   operator_read Equal a b st = refl

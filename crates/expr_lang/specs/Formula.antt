@@ -1,7 +1,7 @@
 -- What an expression says, apart from where it lies in memory.
 use Rattle.std.specs.Prelude.{ℤ, Bool, true, false}
-use Rattle.expr_lang.specs.declared.op.Op.{Op}
-use Rattle.expr_lang.specs.declared.op.Op.TheVariants.{Or, And, Plus, Minus, Times, Over}
+use Rattle.expr_lang.specs.declared.op.BinaryOp.{BinaryOp}
+use Rattle.expr_lang.specs.declared.op.BinaryOp.TheVariants.{Or, And, Plus, Minus, Times, Over}
 
 -- a formula over names of some kind; its numbers are in nanounits
 pub data Formula (N : Type 0) : Type 0 where
@@ -9,10 +9,10 @@ pub data Formula (N : Type 0) : Type 0 where
   name : N → Formula N
   minus : Formula N → Formula N
   not : Formula N → Formula N
-  binary : Op → Formula N → Formula N → Formula N
+  binary : BinaryOp → Formula N → Formula N → Formula N
 
 -- whether an operator makes a condition, and not a value
-abbrev pub makes_condition : Op → Bool
+abbrev pub makes_condition : BinaryOp → Bool
 makes_condition Plus = false
 makes_condition Minus = false
 makes_condition Times = false
@@ -20,7 +20,7 @@ makes_condition Over = false
 makes_condition _ = true
 
 -- whether an operator takes conditions, and not values
-abbrev pub takes_conditions : Op → Bool
+abbrev pub takes_conditions : BinaryOp → Bool
 takes_conditions Or = true
 takes_conditions And = true
 takes_conditions _ = false

@@ -2,7 +2,8 @@
 use Rattle.std.specs.Prelude.{ℕ, ◌+◌, ◌-◌, zero, suc, List, [], ◌∷◌, if◌then◌else◌}
 use Rattle.expr_lang.specs.declared.token.Placed.{Placed}
 use Rattle.expr_lang.specs.Grammar.{placed}
-use Rattle.expr_lang.specs.Lexical.{is_space, first_token}
+use Rattle.expr_lang.specs.Lexical.{first_token}
+use Rattle.text_bytes.specs.Bytes.{is_space}
 
 -- the tokens of bytes that begin at a place, of which the first `size` belong to the token before them
 abbrev pub tokens_behind : ℕ → ℕ → List ℕ → List Placed

@@ -1,6 +1,6 @@
 -- The formula of a tree.
 use Rattle.std.specs.Prelude.{List, ℕ}
-use Rattle.expr_lang.specs.declared.op.Op.TheVariants as op
+use Rattle.expr_lang.specs.declared.op.BinaryOp.TheVariants as op
 use Rattle.expr_lang.specs.declared.expr.ExprTree.{ExprTree}
 use Rattle.expr_lang.specs.declared.expr.ExprTree.TheVariants.{Number, Name, Negative', Not', Or', And', Equal', Different', AtMost', AtLeast', Below', Above', Sum', Difference', Product', Quotient'}
 use Rattle.expr_lang.specs.Formula.{Formula, number, name, minus, not, binary}

@@ -9,7 +9,7 @@ ghost use Rattle.expr_lang.specs.Seen.{operand_of};
 ghost use Rattle.expr_lang.specs.declared.fault.ExprKind.{ExprKind};
 
 use crate::fault::ExprKind;
-use crate::frame::Part;
+use crate::frame::OperandTree;
 use crate::read::{ReadErr, read};
 use crate::token::{Placed, Token};
 use file_devices::Name;
@@ -21,11 +21,11 @@ pub struct AssignParts {
     /// The name before `=`.
     pub target: Name,
     /// The operand behind it.
-    pub value: Part,
+    pub value: OperandTree,
     /// How many tokens that operand has.
     pub size: usize,
     /// The operand behind WHERE.
-    pub only: Option<Part>,
+    pub only: Option<OperandTree>,
 }
 
 /// The fault of a token that no assignment has there.
@@ -62,7 +62,7 @@ fn head(alloc: Global, tokens: &[Placed]) -> Result<Name, ReadErr>
 }
 
 /// The operand behind WHERE, which stands behind the value's tokens, up to the end.
-fn only(alloc: Global, tokens: &[Placed], size: usize) -> Result<Part, ReadErr>
+fn only(alloc: Global, tokens: &[Placed], size: usize) -> Result<OperandTree, ReadErr>
     requires { size + 2 < length tokens.now }
     ensures ok { (n : List ℕ) (v : Operand) → IfOk result (λ p. parts n v size (Some (operand_of p))
         ≡ with_only n v size (length tokens.now) (reading start 0 (drop (size + 3) tokens.now))) }

@@ -3,42 +3,18 @@
 ghost use Rattle.std.specs.Prelude.{◌≡◌, ◌≤◌, length};
 ghost use Rattle.std.specs.List.{prefix_len};
 ghost use Rattle.expr_lang.specs.Lexical as lexical;
+ghost use Rattle.text_bytes.specs.Bytes.{is_digit, is_word};
 
-/// Whether a byte is a space, a tab, or the end of a line.
-pub fn is_space(b: u8) -> bool
-    ensures { result ≡ lexical.is_space b }
-{
-    b == b' ' || b == b'\t' || b == b'\n' || b == b'\r'
-}
-
-/// Whether a byte is a letter or `_`.
-pub fn is_letter(b: u8) -> bool
-    ensures { result ≡ lexical.is_letter b }
-{
-    (b'a' <= b && b <= b'z') || (b'A' <= b && b <= b'Z') || b == b'_'
-}
-
-/// Whether a byte is a digit.
-pub fn is_digit(b: u8) -> bool
-    ensures { result ≡ lexical.is_digit b }
-{
-    b'0' <= b && b <= b'9'
-}
-
-fn is_word(b: u8) -> bool
-    ensures { result ≡ lexical.is_word b }
-{
-    is_letter(b) || is_digit(b)
-}
+use text_bytes::{is_digit, is_word};
 
 fn words_counted(bytes: &[u8]) -> usize
-    ensures { result ≡ prefix_len lexical.is_word bytes.now }
+    ensures { result ≡ prefix_len is_word bytes.now }
 {
     bytes.iter().take_while(|b| is_word(**b)).count()
 }
 
 fn digits_counted(bytes: &[u8]) -> usize
-    ensures { result ≡ prefix_len lexical.is_digit bytes.now }
+    ensures { result ≡ prefix_len is_digit bytes.now }
 {
     bytes.iter().take_while(|b| is_digit(**b)).count()
 }
@@ -46,7 +22,7 @@ fn digits_counted(bytes: &[u8]) -> usize
 /// How many of the first bytes are letters, digits or `_`.
 #[tactic(auto, using(crate::proofs::Spans::word_within))]
 pub fn word_len(bytes: &[u8]) -> usize
-    ensures value { result ≡ prefix_len lexical.is_word bytes.now }
+    ensures value { result ≡ prefix_len is_word bytes.now }
     ensures within { result ≤ length bytes.now }
 {
     words_counted(bytes)
@@ -55,7 +31,7 @@ pub fn word_len(bytes: &[u8]) -> usize
 /// How many of the first bytes are digits.
 #[tactic(auto, using(crate::proofs::Spans::digits_within))]
 fn digits_len(bytes: &[u8]) -> usize
-    ensures value { result ≡ prefix_len lexical.is_digit bytes.now }
+    ensures value { result ≡ prefix_len is_digit bytes.now }
     ensures within { result ≤ length bytes.now }
 {
     digits_counted(bytes)

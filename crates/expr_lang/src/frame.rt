@@ -8,13 +8,13 @@ ghost use Rattle.expr_lang.specs.Seen.{operand_of};
 ghost use Rattle.expr_lang.specs.Trees.{formula_of};
 
 use crate::expr::ExprTree;
-use crate::op::{Op, is_of_conditions};
+use crate::op::{BinaryOp, is_of_conditions};
 use file_devices::Name;
 use std::alloc::{AllocError, Global};
 
 /// An operand that was read.
 #[derive(Drop)]
-pub struct Part {
+pub struct OperandTree {
     /// Its tree.
     pub tree: ExprTree,
     /// The place of its first operator with an operand of the wrong sort.
@@ -23,7 +23,7 @@ pub struct Part {
 
 /// What waits for an operand.
 #[derive(Drop)]
-pub enum Frame {
+pub enum Pending {
     /// An open parenthesis.
     Bracket,
     /// A `-` before one operand, with its place.
@@ -31,7 +31,7 @@ pub enum Frame {
     /// A `!`, with its place.
     Denial(usize),
     /// An operator with its left operand and its place.
-    Left(Part, usize, Op),
+    Left(OperandTree, usize, BinaryOp),
 }
 
 /// Whether the expression of a tree is a condition.
@@ -66,48 +66,48 @@ fn at_if(is_so: bool, at: usize) -> Option<usize>
 }
 
 /// An operand of one number.
-pub fn number_part(n: i64) -> Part
+pub fn number_part(n: i64) -> OperandTree
     ensures { operand_of result ≡ bare (number n) }
 {
-    Part {
+    OperandTree {
         tree: ExprTree::Number(n),
         wrong: None,
     }
 }
 
 /// An operand of one name, which is copied.
-pub fn name_part(alloc: Global, n: &Name) -> Result<Part, AllocError>
+pub fn name_part(alloc: Global, n: &Name) -> Result<OperandTree, AllocError>
     ensures { IfOk result (λ p. operand_of p ≡ bare (name n.now)) }
 {
     let name = n.try_copy(alloc)?;
-    Ok(Part {
+    Ok(OperandTree {
         tree: ExprTree::Name(name),
         wrong: None,
     })
 }
 
 /// The negative of an operand, with the place of its sign.
-pub fn negative(alloc: Global, at: usize, part: Part) -> Result<Part, AllocError>
+pub fn negative(alloc: Global, at: usize, part: OperandTree) -> Result<OperandTree, AllocError>
     ensures { IfOk result (λ p. operand_of p ≡ minus_at at (operand_of part)) }
 {
     let own = at_if(is_a_condition(&part.tree), at);
     let wrong = first_of(own, part.wrong);
     let tree = ExprTree::Negative(Box::new(alloc, part.tree)?);
-    Ok(Part { tree, wrong })
+    Ok(OperandTree { tree, wrong })
 }
 
 /// The denial of an operand, with the place of its `!`.
-pub fn denial(alloc: Global, at: usize, part: Part) -> Result<Part, AllocError>
+pub fn denial(alloc: Global, at: usize, part: OperandTree) -> Result<OperandTree, AllocError>
     ensures { IfOk result (λ p. operand_of p ≡ not_at at (operand_of part)) }
 {
     let own = at_if(!is_a_condition(&part.tree), at);
     let wrong = first_of(own, part.wrong);
     let tree = ExprTree::Not(Box::new(alloc, part.tree)?);
-    Ok(Part { tree, wrong })
+    Ok(OperandTree { tree, wrong })
 }
 
 /// Whether one of two operands is of another sort than the operator takes.
-fn is_a_misfit(op: Op, a: &Part, b: &Part) -> bool
+fn is_a_misfit(op: BinaryOp, a: &OperandTree, b: &OperandTree) -> bool
     ensures { result ≡ is_misfit op (operand_of a.now) (operand_of b.now) }
 {
     let a = is_a_condition(&a.tree);
@@ -120,31 +120,37 @@ fn is_a_misfit(op: Op, a: &Part, b: &Part) -> bool
 }
 
 /// The tree of an operator between two trees.
-fn with_operator(op: Op, a: Box<ExprTree>, b: Box<ExprTree>) -> ExprTree
+fn with_operator(op: BinaryOp, a: Box<ExprTree>, b: Box<ExprTree>) -> ExprTree
     ensures { formula_of result ≡ formula.binary op (formula_of a.value) (formula_of b.value) }
 {
     match op {
-        Op::Or => ExprTree::Or(a, b),
-        Op::And => ExprTree::And(a, b),
-        Op::Equal => ExprTree::Equal(a, b),
-        Op::Different => ExprTree::Different(a, b),
-        Op::AtMost => ExprTree::AtMost(a, b),
-        Op::AtLeast => ExprTree::AtLeast(a, b),
-        Op::Below => ExprTree::Below(a, b),
-        Op::Above => ExprTree::Above(a, b),
-        Op::Plus => ExprTree::Sum(a, b),
-        Op::Minus => ExprTree::Difference(a, b),
-        Op::Times => ExprTree::Product(a, b),
-        Op::Over => ExprTree::Quotient(a, b),
+        BinaryOp::Or => ExprTree::Or(a, b),
+        BinaryOp::And => ExprTree::And(a, b),
+        BinaryOp::Equal => ExprTree::Equal(a, b),
+        BinaryOp::Different => ExprTree::Different(a, b),
+        BinaryOp::AtMost => ExprTree::AtMost(a, b),
+        BinaryOp::AtLeast => ExprTree::AtLeast(a, b),
+        BinaryOp::Below => ExprTree::Below(a, b),
+        BinaryOp::Above => ExprTree::Above(a, b),
+        BinaryOp::Plus => ExprTree::Sum(a, b),
+        BinaryOp::Minus => ExprTree::Difference(a, b),
+        BinaryOp::Times => ExprTree::Product(a, b),
+        BinaryOp::Over => ExprTree::Quotient(a, b),
     }
 }
 
 /// Two operands with an operator between them, and its place.
-pub fn join(alloc: Global, at: usize, op: Op, a: Part, b: Part) -> Result<Part, AllocError>
+pub fn join(
+    alloc: Global,
+    at: usize,
+    op: BinaryOp,
+    a: OperandTree,
+    b: OperandTree,
+) -> Result<OperandTree, AllocError>
     ensures { IfOk result (λ p. operand_of p ≡ binary_at at op (operand_of a) (operand_of b)) }
 {
     let own = at_if(is_a_misfit(op, &a, &b), at);
     let wrong = first_of(a.wrong, first_of(own, b.wrong));
     let tree = with_operator(op, Box::new(alloc, a.tree)?, Box::new(alloc, b.tree)?);
-    Ok(Part { tree, wrong })
+    Ok(OperandTree { tree, wrong })
 }

@@ -19,5 +19,5 @@ mod token;
 pub use expr::{Assign, Expr, ExprTree};
 pub use fault::{ExprErr, ExprFault, ExprKind};
 pub use laws::{texts_are_read, texts_have_one_answer};
-pub use op::Op;
+pub use op::BinaryOp;
 pub use parse::{parse_assign, parse_expr};

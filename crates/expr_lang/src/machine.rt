@@ -5,8 +5,8 @@ ghost use Rattle.expr_lang.specs.Machine as machine;
 ghost use Rattle.expr_lang.specs.Seen.{operand_of, state_of, waits};
 ghost use Rattle.expr_lang.specs.declared.machine.StepErr.TheVariants.{Memory};
 
-use crate::frame::{Frame, Part, denial, join, name_part, negative, number_part};
-use crate::op::{Op, left_level_of, level_of};
+use crate::frame::{OperandTree, Pending, denial, join, name_part, negative, number_part};
+use crate::op::{BinaryOp, left_level_of, level_of};
 use crate::token::Token;
 use std::alloc::{AllocError, Global};
 
@@ -31,15 +31,15 @@ impl From<AllocError> for StepErr {
 pub fn close(
     alloc: Global,
     least: u8,
-    frames: &mut Vec<Frame>,
-    mut part: Part,
-) -> Result<Part, AllocError>
+    frames: &mut Vec<Pending>,
+    mut part: OperandTree,
+) -> Result<OperandTree, AllocError>
     ensures { IfOk result
         (λ p. state_of frames.new.items (Some p) ≡ machine.close least (waits frames.old.items) (operand_of part)) }
 {
     while let Some(frame) = frames.pop() {
         match frame {
-            Frame::Left(left, at, op) if level_of(op) >= least => {
+            Pending::Left(left, at, op) if level_of(op) >= least => {
                 part = join(alloc, at, op, left, part)?;
             }
             frame => {
@@ -52,14 +52,18 @@ pub fn close(
 }
 
 /// A whole operand: the operators before it take it.
-fn finish(alloc: Global, frames: &mut Vec<Frame>, mut part: Part) -> Result<Part, AllocError>
+fn finish(
+    alloc: Global,
+    frames: &mut Vec<Pending>,
+    mut part: OperandTree,
+) -> Result<OperandTree, AllocError>
     ensures { IfOk result
         (λ p. state_of frames.new.items (Some p) ≡ machine.finish (waits frames.old.items) (operand_of part)) }
 {
     while let Some(frame) = frames.pop() {
         match frame {
-            Frame::Denial(at) => part = denial(alloc, at, part)?,
-            Frame::Sign(at) => part = negative(alloc, at, part)?,
+            Pending::Denial(at) => part = denial(alloc, at, part)?,
+            Pending::Sign(at) => part = negative(alloc, at, part)?,
             frame => {
                 frames.push_reserved(frame);
                 return Ok(part);
@@ -70,7 +74,7 @@ fn finish(alloc: Global, frames: &mut Vec<Frame>, mut part: Part) -> Result<Part
 }
 
 /// One more that waits, the innermost.
-fn put(frames: &mut Vec<Frame>, frame: Frame) -> Result<(), AllocError>
+fn put(frames: &mut Vec<Pending>, frame: Pending) -> Result<(), AllocError>
     ensures { OnOk result (frames.new.items ≡ frames.old.items ++ frame ∷ []) }
 {
     frames.push(frame)?;
@@ -78,30 +82,39 @@ fn put(frames: &mut Vec<Frame>, frame: Frame) -> Result<(), AllocError>
 }
 
 /// An operator behind its closed left operand.
-fn push_operator(at: usize, op: Op, frames: &mut Vec<Frame>, part: Part) -> Result<(), StepErr>
+fn push_operator(
+    at: usize,
+    op: BinaryOp,
+    frames: &mut Vec<Pending>,
+    part: OperandTree,
+) -> Result<(), StepErr>
     ensures ok { OnOk result
         (machine.pushed at op (state_of frames.old.items (Some part)) ≡ state_of frames.new.items None) }
     ensures unexpected { IsErrOf result StepErr.Unexpected
         → machine.pushed at op (state_of frames.old.items (Some part)) ≡ machine.dead }
 {
-    if let Some(Frame::Left(_, _, before)) = frames.last() {
+    if let Some(Pending::Left(_, _, before)) = frames.last() {
         if level_of(*before) >= level_of(op) {
             return Err(StepErr::Unexpected);
         }
     }
-    put(frames, Frame::Left(part, at, op))?;
+    put(frames, Pending::Left(part, at, op))?;
     Ok(())
 }
 
 /// The operand inside a parenthesis that closes.
-fn unwrap_operand(alloc: Global, frames: &mut Vec<Frame>, part: Part) -> Result<Part, StepErr>
+fn unwrap_operand(
+    alloc: Global,
+    frames: &mut Vec<Pending>,
+    part: OperandTree,
+) -> Result<OperandTree, StepErr>
     ensures ok { IfOk result
         (λ p. machine.unwrapped (state_of frames.old.items (Some part)) ≡ state_of frames.new.items (Some p)) }
     ensures unexpected { IsErrOf result StepErr.Unexpected
         → machine.unwrapped (state_of frames.old.items (Some part)) ≡ machine.dead }
 {
     match frames.pop() {
-        Some(Frame::Bracket) => Ok(finish(alloc, frames, part)?),
+        Some(Pending::Bracket) => Ok(finish(alloc, frames, part)?),
         _ => Err(StepErr::Unexpected),
     }
 }
@@ -109,11 +122,11 @@ fn unwrap_operand(alloc: Global, frames: &mut Vec<Frame>, part: Part) -> Result<
 /// One more token, which stands at a place.
 pub fn step(
     alloc: Global,
-    frames: &mut Vec<Frame>,
-    part: Option<Part>,
+    frames: &mut Vec<Pending>,
+    part: Option<OperandTree>,
     at: usize,
     token: &Token,
-) -> Result<Option<Part>, StepErr>
+) -> Result<Option<OperandTree>, StepErr>
     ensures ok { IfOk result
         (λ p. machine.stepped (state_of frames.old.items part) at token.now ≡ state_of frames.new.items p) }
     ensures unexpected { IsErrOf result StepErr.Unexpected
@@ -126,9 +139,9 @@ pub fn step(
                 let name = name_part(alloc, n)?;
                 return Ok(Some(finish(alloc, frames, name)?));
             }
-            Token::Not => put(frames, Frame::Denial(at))?,
-            Token::Operator(Op::Minus) => put(frames, Frame::Sign(at))?,
-            Token::Open => put(frames, Frame::Bracket)?,
+            Token::Not => put(frames, Pending::Denial(at))?,
+            Token::Operator(BinaryOp::Minus) => put(frames, Pending::Sign(at))?,
+            Token::Open => put(frames, Pending::Bracket)?,
             _ => return Err(StepErr::Unexpected),
         }
         return Ok(None);

@@ -12,7 +12,7 @@ ghost use Rattle.expr_lang.specs.declared.fault.ExprFault.{ExprFault};
 use crate::assign::read_assignment;
 use crate::expr::{Assign, Expr};
 use crate::fault::{ExprErr, ExprFault, ExprKind};
-use crate::frame::Part;
+use crate::frame::OperandTree;
 use crate::read::{ReadErr, read};
 use crate::sorts::{assignment_misfit, condition_misfit, place_of};
 use crate::split::tokens;
@@ -53,7 +53,7 @@ fn condition(alloc: Global, tokens: &[Placed], end: usize) -> Result<Expr, ExprE
 }
 
 /// The condition behind WHERE.
-fn limit_expr(only: Option<Part>) -> Option<Expr>
+fn limit_expr(only: Option<OperandTree>) -> Option<Expr>
     ensures { result ≡ option_map formula_in (option_map operand_of only) }
 {
     match only {

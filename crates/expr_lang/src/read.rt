@@ -9,7 +9,7 @@ ghost use Rattle.expr_lang.specs.declared.fault.ExprKind.{ExprKind};
 ghost use Rattle.expr_lang.specs.declared.read.ReadErr.TheVariants.{Memory};
 
 use crate::fault::ExprKind;
-use crate::frame::{Frame, Part};
+use crate::frame::{OperandTree, Pending};
 use crate::machine::{StepErr, close, step};
 use crate::nesting::is_deep;
 use crate::token::{Placed, Token};
@@ -19,7 +19,7 @@ use std::alloc::{AllocError, Global};
 #[derive(Drop)]
 pub struct Stretch {
     /// The operand.
-    pub part: Part,
+    pub part: OperandTree,
     /// Its tokens.
     pub size: usize,
 }
@@ -62,7 +62,11 @@ fn is_the_where(token: &Token) -> bool
 }
 
 /// The operand, where no operator, sign or parenthesis waits for more.
-fn whole(alloc: Global, frames: &mut Vec<Frame>, part: Option<Part>) -> Result<Part, StepErr>
+fn whole(
+    alloc: Global,
+    frames: &mut Vec<Pending>,
+    part: Option<OperandTree>,
+) -> Result<OperandTree, StepErr>
     ensures ok { IfOk result
         (λ p. machine.whole (machine.closed 1 (state_of frames.old.items part)) ≡ Some (operand_of p)) }
     ensures unexpected { IsErrOf result StepErr.Unexpected
@@ -82,8 +86,8 @@ fn whole(alloc: Global, frames: &mut Vec<Frame>, part: Option<Part>) -> Result<P
 /// The operand that ends at a token.
 fn ended(
     alloc: Global,
-    mut frames: Vec<Frame>,
-    part: Option<Part>,
+    mut frames: Vec<Pending>,
+    part: Option<OperandTree>,
     size: usize,
 ) -> Result<Stretch, ReadErr>
     ensures ok { IfOk result

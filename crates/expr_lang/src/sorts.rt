@@ -6,7 +6,7 @@ ghost use Rattle.expr_lang.specs.Seen.{operand_of};
 ghost use Rattle.expr_lang.specs.Texts.{place_at, condition_sorts, only_wrong, is_only_misfit, assignment_sorts};
 
 use crate::assign::AssignParts;
-use crate::frame::{Part, first_of, is_a_condition};
+use crate::frame::{OperandTree, first_of, is_a_condition};
 use crate::token::Placed;
 
 /// The place of a token, or of the end.
@@ -20,7 +20,7 @@ pub fn place_of(tokens: &[Placed], k: usize, end: usize) -> usize
 }
 
 /// The place of the first fault of sorts where all tokens are this operand, which is to be a condition.
-pub fn condition_misfit(tokens: &[Placed], part: &Part) -> Option<usize>
+pub fn condition_misfit(tokens: &[Placed], part: &OperandTree) -> Option<usize>
     ensures { result ≡ condition_sorts tokens.now (operand_of part.now) }
 {
     let own = if is_a_condition(&part.tree) {
@@ -32,7 +32,7 @@ pub fn condition_misfit(tokens: &[Placed], part: &Part) -> Option<usize>
 }
 
 /// Whether a value stands behind WHERE.
-fn is_limit_misfit(only: &Option<Part>) -> bool
+fn is_limit_misfit(only: &Option<OperandTree>) -> bool
     ensures { result ≡ is_only_misfit (option_map operand_of only.now) }
 {
     match only {
@@ -42,7 +42,7 @@ fn is_limit_misfit(only: &Option<Part>) -> bool
 }
 
 /// The place of the first fault of sorts behind WHERE.
-fn limit_wrong(only: &Option<Part>) -> Option<usize>
+fn limit_wrong(only: &Option<OperandTree>) -> Option<usize>
     ensures { result ≡ only_wrong (option_map operand_of only.now) }
 {
     match only {

@@ -3,26 +3,28 @@
 ghost use Rattle.std.specs.Prelude.{◌≡◌, ◌+◌, ◌-◌, ◌<◌, ◌≤◌, length, drop, take, IfOk, true, slice_index};
 ghost use Rattle.decimal_coords.specs.DecimalOfText.{decimal_of_text};
 ghost use Rattle.expr_lang.specs.Lexical as lexical;
+ghost use Rattle.text_bytes.specs.Bytes.{is_letter, is_digit};
 ghost use Rattle.expr_lang.specs.Tokens.{tokens_of};
 
-use crate::counts::{is_digit, is_letter, is_space, number_len, word_len};
-use crate::op::Op;
+use crate::counts::{number_len, word_len};
+use crate::op::BinaryOp;
 use crate::token::{Lexeme, Placed, Token};
 use decimal_coords::parse_decimal;
 use file_devices::Name;
 use std::alloc::{AllocError, Global};
+use text_bytes::{is_digit, is_letter, is_space};
 
 /// The operator of two bytes.
-fn pair_op(first: u8, second: u8) -> Option<Op>
+fn pair_op(first: u8, second: u8) -> Option<BinaryOp>
     ensures { result ≡ lexical.pair_op first second }
 {
     match (first, second) {
-        (b'|', b'|') => Some(Op::Or),
-        (b'&', b'&') => Some(Op::And),
-        (b'=', b'=') => Some(Op::Equal),
-        (b'!', b'=') => Some(Op::Different),
-        (b'<', b'=') => Some(Op::AtMost),
-        (b'>', b'=') => Some(Op::AtLeast),
+        (b'|', b'|') => Some(BinaryOp::Or),
+        (b'&', b'&') => Some(BinaryOp::And),
+        (b'=', b'=') => Some(BinaryOp::Equal),
+        (b'!', b'=') => Some(BinaryOp::Different),
+        (b'<', b'=') => Some(BinaryOp::AtMost),
+        (b'>', b'=') => Some(BinaryOp::AtLeast),
         _ => None,
     }
 }
@@ -32,12 +34,12 @@ fn byte_token(byte: u8) -> Token
     ensures { result ≡ lexical.byte_token byte }
 {
     match byte {
-        b'<' => Token::Operator(Op::Below),
-        b'>' => Token::Operator(Op::Above),
-        b'+' => Token::Operator(Op::Plus),
-        b'-' => Token::Operator(Op::Minus),
-        b'*' => Token::Operator(Op::Times),
-        b'/' => Token::Operator(Op::Over),
+        b'<' => Token::Operator(BinaryOp::Below),
+        b'>' => Token::Operator(BinaryOp::Above),
+        b'+' => Token::Operator(BinaryOp::Plus),
+        b'-' => Token::Operator(BinaryOp::Minus),
+        b'*' => Token::Operator(BinaryOp::Times),
+        b'/' => Token::Operator(BinaryOp::Over),
         b'!' => Token::Not,
         b'(' => Token::Open,
         b')' => Token::Close,
@@ -109,7 +111,7 @@ fn number_token(number: &str) -> Token
 /// The token that begins at a letter.
 fn word_at(alloc: Global, text: &str, at: usize) -> Result<Lexeme, AllocError>
     requires within { at < length text.now }
-    requires letter { lexical.is_letter (slice_index text.now at) ≡ true }
+    requires letter { is_letter (slice_index text.now at) ≡ true }
     ensures token { IfOk result (λ t. t ≡ lexical.word_lexeme (drop at text.now)) }
     ensures within { IfOk result (λ t. at + t.size ≤ length text.now) }
     ensures some { IfOk result (λ t. 0 < t.size) }
@@ -122,7 +124,7 @@ fn word_at(alloc: Global, text: &str, at: usize) -> Result<Lexeme, AllocError>
 /// The token that begins at a digit.
 fn number_at(text: &str, at: usize) -> Lexeme
     requires within { at < length text.now }
-    requires digit { lexical.is_digit (slice_index text.now at) ≡ true }
+    requires digit { is_digit (slice_index text.now at) ≡ true }
     ensures token { result ≡ lexical.number_lexeme (drop at text.now) }
     ensures within { at + result.size ≤ length text.now }
     ensures some { 0 < result.size }

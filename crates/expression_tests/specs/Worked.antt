@@ -5,7 +5,7 @@ use Rattle.cloud_points.specs.Points.{zero_point}
 use Rattle.decimal_coords.specs.DecimalOfText.{decimal_of_text}
 use Rattle.expr_eval.specs.Bindings.{dim_of}
 use Rattle.expr_eval.specs.Values.{holds_at, value_of}
-use Rattle.expr_lang.specs.declared.op.Op.TheVariants.{Or, And, Above, Equal, Times, Over}
+use Rattle.expr_lang.specs.declared.op.BinaryOp.TheVariants.{Or, And, Above, Equal, Times, Over}
 use Rattle.expr_lang.specs.Formula.{number, name, not, binary, renamed}
 use Rattle.expr_lang.specs.Said.{condition_of, assignment_of_text}
 

@@ -6,7 +6,7 @@ use Rattle.stage_names.specs.declared.faults.PipeFault.{PipeFault}
 use Rattle.pipeline_json.specs.Stages.{Stage}
 use Rattle.pipeline_json.specs.Trees.{tree_of}
 use Rattle.stage_options.specs.declared.stage.StageSpec.{StageSpec}
-use Rattle.stage_options.specs.TypedTree.{typed_tree}
+use Rattle.stage_typing.specs.TypedTree.{typed_tree}
 use Rattle.stage_planner.specs.Plans.{plan_of}
 use Rattle.run_report.specs.declared.refusal.Place.TheVariants.{PipelineFile}
 use Rattle.run_report.specs.declared.refusal.Refusal.{Refusal}

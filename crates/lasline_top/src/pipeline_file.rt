@@ -15,7 +15,8 @@ use file_devices::{DeviceErr, Files, Op, WholeErr, read_whole};
 use pipeline_json::{MOST_BYTES, read_pipeline};
 use run_report::{Place, Refusal};
 use stage_names::{PipeErr, PipeFault};
-use stage_options::{Tree, type_tree};
+use stage_options::Tree;
+use stage_typing::type_tree;
 use std::alloc::Global;
 
 /// The text in a pipeline's file. One of more than `MOST_BYTES` is a fault of the pipeline, and isn't read to its end. The file is

@@ -1,7 +1,7 @@
 -- what the words of a box show while it is read
 use Rattle.std.specs.Prelude.{ℕ, zero, suc, ℤ, ◌≡◌, List, [], ◌∷◌, Option, Some, None}
-use Rattle.limits_text.specs.declared.control.Axis.{Axis}
-use Rattle.limits_text.specs.declared.control.Axis.TheVariants.{X, Y, Z}
+use Rattle.limits_text.specs.declared.control.PairAxis.{PairAxis}
+use Rattle.limits_text.specs.declared.control.PairAxis.TheVariants.{X, Y, Z}
 use Rattle.limits_text.specs.declared.control.Control.{Control}
 use Rattle.limits_text.specs.declared.control.Control.TheVariants.{Box, Pair, PairLow, PairComma, PairHigh, PairClose, Paired, End}
 use Rattle.limits_text.specs.declared.bounds.Sides.{Sides}
@@ -19,22 +19,22 @@ IsAt (suc n) p (w ∷ ws) = IsAt n p ws
 abbrev pub behind_pair : ℤ × ℤ → List Piece → List Piece
 behind_pair p ps = sign 93 ∷ number p.1 ∷ sign 44 ∷ number p.0 ∷ sign 91 ∷ ps
 
-abbrev pub before : Axis → Sides → List Piece
+abbrev pub before : PairAxis → Sides → List Piece
 before X f = sign 40 ∷ []
 before Y f = sign 44 ∷ behind_pair f.x (sign 40 ∷ [])
 before Z f = sign 44 ∷ behind_pair f.y (sign 44 ∷ behind_pair f.x (sign 40 ∷ []))
 
-abbrev pub AreBefore : Axis → Sides → Type 0
+abbrev pub AreBefore : PairAxis → Sides → Type 0
 AreBefore X f = f.z ≡ None
 AreBefore Y f = (f.z ≡ None) × IsInOrder f.x
 AreBefore Z f = IsInOrder f.x × IsInOrder f.y
 
-abbrev pub AreSides : Axis → Sides → Type 0
+abbrev pub AreSides : PairAxis → Sides → Type 0
 AreSides X f = (f.z ≡ None) × IsInOrder f.x
 AreSides Y f = (f.z ≡ None) × IsInOrder f.x × IsInOrder f.y
 AreSides Z f = (f.z ≡ Some (side Z f)) × IsInOrder f.x × IsInOrder f.y × IsInOrder (side Z f)
 
-abbrev pub AreToBe : Axis → Sides → Type 0
+abbrev pub AreToBe : PairAxis → Sides → Type 0
 AreToBe X f = f.z ≡ None
 AreToBe Y f = (f.z ≡ None) × IsInOrder f.x
 AreToBe Z f = (f.z ≡ Some (side Z f)) × IsInOrder f.x × IsInOrder f.y

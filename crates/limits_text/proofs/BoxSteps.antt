@@ -4,12 +4,12 @@ use Rattle.std.specs.Prelude.{◌==◌, ℤ, Option, Some, None, IfSome, is_some
 use Rattle.std.proofs.lemmas.Bool.{true≢false, cases_Bool, eqb-true}
 use Rattle.std.proofs.lemmas.List.{reverse-reverse}
 use Rattle.std.specs.Int.Signed.{lt_z_no}
-use Rattle.limits_text.specs.declared.control.Kind.{Kind}
-use Rattle.limits_text.specs.declared.control.Kind.TheVariants as kind
-use Rattle.limits_text.specs.declared.control.Axis.TheVariants.{X, Y, Z}
+use Rattle.limits_text.specs.declared.control.WordKind.{WordKind}
+use Rattle.limits_text.specs.declared.control.WordKind.TheVariants as kind
+use Rattle.limits_text.specs.declared.control.PairAxis.TheVariants.{X, Y, Z}
 use Rattle.limits_text.specs.declared.control.Control.{Control}
 use Rattle.limits_text.specs.declared.control.Control.TheVariants.{Box, Pair, PairLow, PairComma, PairHigh, PairClose, Paired, High, Close, Ranged, End}
-use Rattle.limits_text.specs.declared.steps.Step.{Step}
+use Rattle.limits_text.specs.declared.steps.NextWord.{NextWord}
 use Rattle.limits_text.specs.declared.bounds.Sides.{Sides}
 use Rattle.limits_text.specs.Words.{Word, front_of, words_in}
 use Rattle.limits_text.specs.Follows.{behind, is_end}
@@ -28,11 +28,11 @@ as_sign bs b n s e = s ∙ ap (λ x. x ∷ []) (eqb-true b n e)
 in_order : (a b : ℤ) → int_lt b a ≡ false → a ≤ℤ b
 in_order a b e = lt_z_no {a = b} {b = a} (rw e tt)
 
-pub box_step : (c : Control) (t : Step) (f : Sides) (w : Word) (ws : List Word) → IsBoxFront c f ws → is_reversed c f ≡ false → w.at ≡ t.start → IsShown (piece_of c t.kind t.value w.bytes) w
+pub box_step : (c : Control) (t : NextWord) (f : Sides) (w : Word) (ws : List Word) → IsBoxFront c f ws → is_reversed c f ≡ false → w.at ≡ t.start → IsShown (piece_of c t.kind t.value w.bytes) w
     → IfSome (behind c t.kind) (λ d. IsBoxFront d (sides_with c t f) (w ∷ ws))
 box_step c t f w ws h r a s = go c t.kind h r s
   where
-    go : (c : Control) (k : Kind) → IsBoxFront c f ws → is_reversed c f ≡ false → IsShown (piece_of c k t.value w.bytes) w → IfSome (behind c k) (λ d. IsBoxFront d (sides_with c t f) (w ∷ ws))
+    go : (c : Control) (k : WordKind) → IsBoxFront c f ws → is_reversed c f ≡ false → IsShown (piece_of c k t.value w.bytes) w → IfSome (behind c k) (λ d. IsBoxFront d (sides_with c t f) (w ∷ ws))
     go Box kind.Name h r s = tt
     go Box kind.Number h r s = tt
     go Box (kind.Sign b) h r s = elim (cases_Bool (b == 40)) [
@@ -125,13 +125,13 @@ close_sign (Paired Y) f ws e h = absurd (true≢false (sym e))
 close_sign (Paired Z) f ws e h = absurd (true≢false (sym e))
 close_sign _ f ws e h = absurd (true≢false (sym e))
 
-pub box_taken : (c : Control) (text : List ℕ) (at : ℕ) (f : Sides) (s : Step) → IsTaken Box c text at s → IsBoxFront c f (words_in (front_of (take at text))) → is_reversed c f ≡ false
+pub box_taken : (c : Control) (text : List ℕ) (at : ℕ) (f : Sides) (s : NextWord) → IsTaken Box c text at s → IsBoxFront c f (words_in (front_of (take at text))) → is_reversed c f ≡ false
     → IsBoxFront s.control (sides_with c s f) (words_in (front_of (take s.end text)))
 box_taken c text at f s t h r =
     let g = box_step c s f (word_to text s.start s.end) (words_in (front_of (take at text))) h r refl (taken_shown Box c text at s t) in
     rw t.words (rw t.behind at g)
 
-pub box_right : (c : Control) (text : List ℕ) (at : ℕ) (f : Sides) (s : Step) → IsTaken Box c text at s → IsBoxFront c f (words_in (front_of (take at text))) → is_reversed c f ≡ false
+pub box_right : (c : Control) (text : List ℕ) (at : ℕ) (f : Sides) (s : NextWord) → IsTaken Box c text at s → IsBoxFront c f (words_in (front_of (take at text))) → is_reversed c f ≡ false
     → first_wrong Box (words_in (front_of (take at text))) ≡ None → first_wrong Box (words_in (front_of (take s.end text))) ≡ None
 box_right c text at f s t h r o = taken_right Box c text at s t o (no_limit Box (words_in (front_of (take at text))) (λ n. refl)) go
   where
@@ -141,7 +141,7 @@ box_right c text at f s t h r o = taken_right Box c text at s t o (no_limit Box 
       | inr e ↦ rw e refl
     ]
 
-reversed_close : (c : Control) (f : Sides) (k : Kind) → is_reversed c f ≡ true → is_some (behind c k) ≡ true → k ≡ kind.Sign 93
+reversed_close : (c : Control) (f : Sides) (k : WordKind) → is_reversed c f ≡ true → is_some (behind c k) ≡ true → k ≡ kind.Sign 93
 reversed_close (PairClose x) f kind.Name r e = absurd (true≢false (sym e))
 reversed_close (PairClose x) f kind.Number r e = absurd (true≢false (sym e))
 reversed_close (PairClose x) f (kind.Sign b) r e = elim (cases_Bool (b == 93)) [
@@ -150,7 +150,7 @@ reversed_close (PairClose x) f (kind.Sign b) r e = elim (cases_Bool (b == 93)) [
 ]
 reversed_close _ f k r e = absurd (true≢false (sym r))
 
-pub box_fault : (c : Control) (text : List ℕ) (at : ℕ) (f : Sides) (s : Step) → IsTaken Box c text at s → IsBoxFront c f (words_in (front_of (take at text))) → is_reversed c f ≡ true
+pub box_fault : (c : Control) (text : List ℕ) (at : ℕ) (f : Sides) (s : NextWord) → IsTaken Box c text at s → IsBoxFront c f (words_in (front_of (take at text))) → is_reversed c f ≡ true
     → first_wrong Box (words_in (front_of (take at text))) ≡ None → IsFault Box text f.pair
 box_fault c text at f s t h r o =
     let k = reversed_close c f s.kind r (rw t.behind refl) in

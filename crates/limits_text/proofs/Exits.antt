@@ -3,10 +3,11 @@ use Rattle.std.proofs.Common.{◌⊎◌, zero, suc, ◌≡◌, ℕ, ◌+◌, ◌
 use Rattle.std.specs.Prelude.{IsTrue, Ok, Result, ℤ, ◌&&◌, ◌||◌, ◌==◌, not, Some, None, is_some, slice_index, slice_range}
 use Rattle.std.proofs.lemmas.Bool.{true≢false, cases_Bool, cases_lt, ne_eqb, eq-eqb, and_from}
 use Rattle.std.proofs.lemmas.List.{take_all}
-use Rattle.limits_text.specs.declared.control.Kind.{Kind}
-use Rattle.limits_text.specs.declared.control.Kind.TheVariants.{Name, Number, Sign}
+use Rattle.limits_text.specs.declared.control.WordKind.{WordKind}
+use Rattle.limits_text.specs.declared.control.WordKind.TheVariants.{Name, Number, Sign}
 use Rattle.limits_text.specs.declared.control.Control.{Control}
-use Rattle.limits_text.specs.Words.{Word, Front, gap, inside, grown, front_of, words_in, is_gap, goes_on, joins, kind_of, kind_from, is_space, IsCut}
+use Rattle.limits_text.specs.Words.{Word, Front, gap, inside, grown, front_of, words_in, is_gap, goes_on, joins, kind_of, kind_from, IsCut}
+use Rattle.text_bytes.specs.Bytes.{is_space}
 use Rattle.decimal_coords.specs.Scanning.{accepts, run}
 use Rattle.decimal_coords.specs.DecimalOfText.{is_dead, decimal_of_text}
 use Rattle.decimal_coords.specs.declared.scan.Scan.TheVariants.{Start}
@@ -138,7 +139,7 @@ pub and_false : (a : Bool) → (a && false) ≡ false
 and_false true = refl
 and_false false = refl
 
-pub unfit_kind : (c : Control) (text : List ℕ) (place : ℕ) (k : Kind) → place < length text → k ≡ kind_from (slice_index text place) → behind c k ≡ None → fits c (word_to text place (place + 1)) ≡ false
+pub unfit_kind : (c : Control) (text : List ℕ) (place : ℕ) (k : WordKind) → place < length text → k ≡ kind_from (slice_index text place) → behind c k ≡ None → fits c (word_to text place (place + 1)) ≡ false
 unfit_kind c text place k h e n = rw (kind_slice text place (place + 1) (omega arith) (omega arith), ← e, n) refl
 
 pub unfit_name : (c : Control) (text : List ℕ) (place q : ℕ) (ks : List ℕ) → place < q → q ≤ length text → kind_from (slice_index text place) ≡ Name → keyword c ≡ Some ks
@@ -231,7 +232,7 @@ stands_number c text place q k s a = rw (k, s) a
 pub stands_sign : (c : Control) (text : List ℕ) (place q b : ℕ) → kind_of (slice_range text place q) ≡ Sign b → stands c (kind_of (slice_range text place q)) (word_to text place q) ≡ true
 stands_sign c text place q b k = rw k refl
 
-pub standing : (c d : Control) (text : List ℕ) (place q : ℕ) (k : Kind) → kind_of (slice_range text place q) ≡ k → behind c k ≡ Some d
+pub standing : (c d : Control) (text : List ℕ) (place q : ℕ) (k : WordKind) → kind_of (slice_range text place q) ≡ k → behind c k ≡ Some d
     → stands c (kind_of (slice_range text place q)) (word_to text place q) ≡ true → behind_word c (word_to text place q) ≡ Some d
 standing c d text place q k e n s = rw (s, e) n
 
@@ -264,7 +265,7 @@ spaced_is text at place t l g b f h = elim (cases_lt at place) [
       | inr q ↦ omega arith
     ]) ∙ sym (b (omega arith))
 
-pub taken_whole : (start c d : Control) (text : List ℕ) (place q : ℕ) (k : Kind) (v : ℤ) → IsBefore start c text place → place < q → q ≤ length text
+pub taken_whole : (start c d : Control) (text : List ℕ) (place q : ℕ) (k : WordKind) (v : ℤ) → IsBefore start c text place → place < q → q ≤ length text
     → IsWordTo text place q → IsCut text q → k ≡ kind_from (slice_index text place) → behind c k ≡ Some d
     → (k ≡ Name → is_name (keyword c) (slice_range text place q) ≡ true)
     → (k ≡ Number → (is_gap (front_of (take place text)) || not (wants_space c)) ≡ true)
@@ -291,7 +292,7 @@ taken_whole start c d text place q k v b a h w t e n name apart value sign first
     z : kind_of (slice_range text place q) ≡ k
     z = kind_slice text place q a h ∙ sym e
 
-    go : (l : Kind) → k ≡ l → stands c (kind_of (slice_range text place q)) (word_to text place q) ≡ true
+    go : (l : WordKind) → k ≡ l → stands c (kind_of (slice_range text place q)) (word_to text place q) ≡ true
     go Name y = stands_name c text place q (z ∙ y) (name y)
     go Number y = stands_number c text place q (z ∙ y) (apart y) (value_accepts (slice_range text place q) v (value y))
     go (Sign s) y = stands_sign c text place q s (z ∙ y)

@@ -8,11 +8,12 @@ use Rattle.decimal_coords.specs.Scanning.{after, run, is_digit}
 use Rattle.decimal_coords.specs.DecimalOfText.{is_dead}
 use Rattle.decimal_coords.specs.declared.scan.Scan.{Scan}
 use Rattle.decimal_coords.specs.declared.scan.Scan.TheVariants as scan
-use Rattle.limits_text.specs.declared.control.Kind.TheVariants.{Name, Number, Sign}
+use Rattle.limits_text.specs.declared.control.WordKind.TheVariants.{Name, Number, Sign}
 use Rattle.limits_text.specs.declared.scan.Digits.{Digits}
 use Rattle.limits_text.specs.declared.scan.Digits.TheVariants.{Start, Signed, Whole, Point, Places}
 use Rattle.limits_text.specs.Digits.{scan_of}
-use Rattle.limits_text.specs.Words.{is_letter, Front, gap, inside, grown, grown_by, front_of, words_in, is_gap, goes_on, joins, kind_of, kind_from, is_space, word, IsCut}
+use Rattle.limits_text.specs.Words.{Front, gap, inside, grown, grown_by, front_of, words_in, is_gap, goes_on, joins, kind_of, kind_from, word, IsCut}
+use Rattle.text_bytes.specs.Bytes.{is_letter, is_space}
 use Rattle.limits_text.specs.Behind.{IsWordTo}
 use Rattle.limits_text.proofs.Alive.{grown-append}
 use Rattle.decimal_coords.proofs.Scanned.{run-append}

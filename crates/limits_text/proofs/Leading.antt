@@ -5,16 +5,17 @@ use Rattle.std.proofs.lemmas.Bool.{true≢false, cases_Bool, eqb-true, and_parts
 use Rattle.decimal_coords.specs.DecimalOfText.{decimal_of_text}
 use Rattle.decimal_coords.specs.Scanning.{accepts, run, is_digit}
 use Rattle.decimal_coords.specs.declared.scan.Scan.TheVariants as scan
-use Rattle.limits_text.specs.declared.control.Kind.{Kind}
-use Rattle.limits_text.specs.declared.control.Kind.TheVariants as kind
-use Rattle.limits_text.specs.declared.control.Axis.{Axis}
-use Rattle.limits_text.specs.declared.control.Axis.TheVariants.{X, Y, Z}
+use Rattle.limits_text.specs.declared.control.WordKind.{WordKind}
+use Rattle.limits_text.specs.declared.control.WordKind.TheVariants as kind
+use Rattle.limits_text.specs.declared.control.PairAxis.{PairAxis}
+use Rattle.limits_text.specs.declared.control.PairAxis.TheVariants.{X, Y, Z}
 use Rattle.limits_text.specs.declared.control.Control.{Control}
 use Rattle.limits_text.specs.declared.control.Control.TheVariants.{Name, Named, Negated, Low, Colon, High, Close, Ranged, Box, Pair, PairLow, PairComma, PairHigh, PairClose, Paired, Polygon, Shape, Ring, CornerX, CornerY, Corner, ShapeEnd, Point, PointOpen, PointX, PointY, PointClose, End}
 use Rattle.limits_text.specs.declared.shapes.Box3.{Box3}
 use Rattle.limits_text.specs.declared.shapes.Interval.{Interval}
 use Rattle.limits_text.specs.declared.shapes.NamedRange.{NamedRange}
-use Rattle.limits_text.specs.Words.{Word, kind_of, kind_from, is_letter}
+use Rattle.limits_text.specs.Words.{Word, kind_of, kind_from}
+use Rattle.text_bytes.specs.Bytes.{is_letter}
 use Rattle.limits_text.specs.Follows.{small, begins as begins_with, behind, behind_word, control, keyword, is_name, wants_space}
 use Rattle.limits_text.specs.Wrong.{is_comma, commas}
 use Rattle.limits_text.specs.Pieces as piece
@@ -25,7 +26,7 @@ use Rattle.limits_text.proofs.RangeFronts.{behind_name, behind_end, behind_open,
 use Rattle.limits_text.proofs.Exits.{value_accepts}
 
 -- the sort of the word that shows it
-abbrev pub kind_shown : Piece → Kind
+abbrev pub kind_shown : Piece → WordKind
 kind_shown (sign b) = kind.Sign b
 kind_shown (name n) = kind.Name
 kind_shown (piece.keyword ks) = kind.Name
@@ -140,7 +141,7 @@ comma_pieces [] = 0
 comma_pieces (p ∷ ps) = if is_comma_piece p then comma_pieces ps + 1 else comma_pieces ps
 
 -- a word of another sort is no comma
-other_comma : (w : Word) (k : Kind) → kind_of w.bytes ≡ k → (k ≡ kind.Sign 44 → ⊥) → is_comma w ≡ false
+other_comma : (w : Word) (k : WordKind) → kind_of w.bytes ≡ k → (k ≡ kind.Sign 44 → ⊥) → is_comma w ≡ false
 other_comma w k e n = no_comma w.bytes (λ z. n (sym e ∙ ap kind_of z))
 
 no_name : kind.Name ≡ kind.Sign 44 → ⊥
@@ -186,7 +187,7 @@ polygon_leads ps i = (ShapeEnd, (Corner, behind_corner_leads ps i, refl, refl), 
 
 -- ---- boxes
 
-pair_leads : (k : Axis) (p : ℤ × ℤ) (ps : List Piece) → Leads Box ps (Pair k) → Leads Box (behind_pair p ps) (Paired k)
+pair_leads : (k : PairAxis) (p : ℤ × ℤ) (ps : List Piece) → Leads Box ps (Pair k) → Leads Box (behind_pair p ps) (Paired k)
 pair_leads X p ps l = (PairClose X, (PairHigh X, (PairComma X, (PairLow X, (Pair X, l, refl, refl), refl, refl), refl, refl), refl, refl), refl, refl)
 pair_leads Y p ps l = (PairClose Y, (PairHigh Y, (PairComma Y, (PairLow Y, (Pair Y, l, refl, refl), refl, refl), refl, refl), refl, refl), refl, refl)
 pair_leads Z p ps l = (PairClose Z, (PairHigh Z, (PairComma Z, (PairLow Z, (Pair Z, l, refl, refl), refl, refl), refl, refl), refl, refl), refl, refl)

@@ -4,7 +4,8 @@ use Rattle.std.specs.Prelude.{Option, Some, None, slice_index}
 use Rattle.std.proofs.lemmas.Bool.{cases_Bool, cases_lt}
 use Rattle.std.proofs.lemmas.List.{take_all, take-append-drop, take-take}
 use Rattle.limits_text.specs.declared.control.Control.{Control}
-use Rattle.limits_text.specs.Words.{Front, gap, inside, grown, front_of, words_in, goes_on, joins, is_space}
+use Rattle.limits_text.specs.Words.{Front, gap, inside, grown, front_of, words_in, goes_on, joins}
+use Rattle.text_bytes.specs.Bytes.{is_space}
 use Rattle.limits_text.specs.Wrong.{first_wrong, is_past}
 use Rattle.limits_text.specs.Fronts.{IsText, CanGoOn, StopsAt, IsStop, IsWrong, IsPast, IsFault}
 use Rattle.limits_text.proofs.Growing.{front_more, begun, size_front}

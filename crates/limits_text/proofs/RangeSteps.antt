@@ -5,11 +5,11 @@ use Rattle.std.specs.Str.{IsCharBoundary, IsUtf8}
 use Rattle.std.proofs.lemmas.Str.{IsCharBoundary-before_ascii, IsCharBoundary-after_ascii}
 use Rattle.std.proofs.lemmas.Bool.{true≢false, cases_Bool, eqb-true}
 use Rattle.std.proofs.lemmas.List.{reverse-append, reverse-reverse, length-reverse}
-use Rattle.limits_text.specs.declared.control.Kind.{Kind}
-use Rattle.limits_text.specs.declared.control.Kind.TheVariants as kind
+use Rattle.limits_text.specs.declared.control.WordKind.{WordKind}
+use Rattle.limits_text.specs.declared.control.WordKind.TheVariants as kind
 use Rattle.limits_text.specs.declared.control.Control.{Control}
 use Rattle.limits_text.specs.declared.control.Control.TheVariants.{Name, Named, Negated, Low, Colon, High, Close, Ranged, CornerX, End}
-use Rattle.limits_text.specs.declared.steps.Step.{Step}
+use Rattle.limits_text.specs.declared.steps.NextWord.{NextWord}
 use Rattle.limits_text.specs.declared.shapes.Interval.{Interval}
 use Rattle.limits_text.specs.declared.shapes.NamedRange.{NamedRange}
 use Rattle.limits_text.specs.Words.{Word, front_of, words_in}
@@ -36,7 +36,7 @@ closed : (i : Interval) (n : List ℕ) (cs : List NamedRange) (w : Word) (ws : L
     → IsRangeFront Ranged (reverse (cs ++ record { name = n; interval = i } ∷ [])) i n (w ∷ ws)
 closed i n cs w ws b s e h l = rw (reverse-append cs (record { name = n; interval = i } ∷ [])) ((s ∙ ap (λ x. x ∷ []) e, h), omega arith, tt)
 
-pub range_step : (c : Control) (l : Kind) (v : ℤ) (cs : List NamedRange) (i : Interval) (n : List ℕ) (w : Word) (ws : List Word) → IsRangeFront c (reverse cs) i n ws → are_full c (length cs) ≡ false
+pub range_step : (c : Control) (l : WordKind) (v : ℤ) (cs : List NamedRange) (i : Interval) (n : List ℕ) (w : Word) (ws : List Word) → IsRangeFront c (reverse cs) i n ws → are_full c (length cs) ≡ false
     → IsShown (piece_of c l v w.bytes) w
     → IfSome (behind c l) (λ d. IsRangeFront d (reverse (ranges_with c l n (interval_with c l v i) cs)) (interval_with c l v i) (name_with c w.bytes n) (w ∷ ws))
 range_step Name kind.Name v cs i n w ws h f s = ((s, h.0), omega (arith, below (length cs) f, length-reverse cs), refl)
@@ -112,19 +112,19 @@ range_past _ cs i n ws h e = rw e refl
 
 -- ---- the loop
 
-pub range_taken : (c : Control) (text : List ℕ) (at : ℕ) (cs : List NamedRange) (i : Interval) (n : List ℕ) (s : Step) → IsTaken Name c text at s → IsRangeFront c (reverse cs) i n (words_in (front_of (take at text)))
+pub range_taken : (c : Control) (text : List ℕ) (at : ℕ) (cs : List NamedRange) (i : Interval) (n : List ℕ) (s : NextWord) → IsTaken Name c text at s → IsRangeFront c (reverse cs) i n (words_in (front_of (take at text)))
     → are_full c (length cs) ≡ false
     → IsRangeFront s.control (reverse (ranges_with c s.kind n (interval_with c s.kind s.value i) cs)) (interval_with c s.kind s.value i) (name_with c (slice_range text s.start s.end) n) (words_in (front_of (take s.end text)))
 range_taken c text at cs i n s t h f =
     let g = range_step c s.kind s.value cs i n (word_to text s.start s.end) (words_in (front_of (take at text))) h f (taken_shown Name c text at s t) in
     rw t.words (rw t.behind at g)
 
-pub range_right : (c : Control) (text : List ℕ) (at : ℕ) (cs : List NamedRange) (i : Interval) (n : List ℕ) (s : Step) → IsTaken Name c text at s → IsRangeFront c (reverse cs) i n (words_in (front_of (take at text)))
+pub range_right : (c : Control) (text : List ℕ) (at : ℕ) (cs : List NamedRange) (i : Interval) (n : List ℕ) (s : NextWord) → IsTaken Name c text at s → IsRangeFront c (reverse cs) i n (words_in (front_of (take at text)))
     → control Name (words_in (front_of (take at text))) ≡ Some c → are_full c (length cs) ≡ false
     → first_wrong Name (words_in (front_of (take at text))) ≡ None → first_wrong Name (words_in (front_of (take s.end text))) ≡ None
 range_right c text at cs i n s t h e f o = taken_right Name c text at s t o (range_past c cs i n (words_in (front_of (take at text))) h e ∙ f) (λ b k. refl)
 
-name_kind : (k : Kind) → is_some (behind Name k) ≡ true → k ≡ kind.Name
+name_kind : (k : WordKind) → is_some (behind Name k) ≡ true → k ≡ kind.Name
 name_kind kind.Name e = refl
 name_kind kind.Number e = absurd (true≢false (sym e))
 name_kind (kind.Sign b) e = absurd (true≢false (sym e))
@@ -133,7 +133,7 @@ pub full_name : (c : Control) (n : ℕ) → are_full c n ≡ true → is_end c �
 full_name Name n e = refl
 full_name _ n e = absurd (true≢false (sym e))
 
-pub range_named : (c : Control) (text : List ℕ) (at from to : ℕ) (s : Step) → IsUtf8 text → IsTaken Name c text at s → IsNamed text from to
+pub range_named : (c : Control) (text : List ℕ) (at from to : ℕ) (s : NextWord) → IsUtf8 text → IsTaken Name c text at s → IsNamed text from to
     → IsNamed text (place_or c s.start from) (place_or c s.end to)
 range_named Name text at from to s u t n =
     let k = name_kind s.kind (ap is_some t.behind) in

@@ -8,8 +8,9 @@ use Rattle.decimal_coords.specs.declared.parse.DecFault.{DecFault}
 use Rattle.decimal_coords.specs.DecimalOfText.{decimal_of_text}
 use Rattle.decimal_coords.specs.Scanning.{accepts, run}
 use Rattle.decimal_coords.specs.declared.scan.Scan.TheVariants.{Start}
-use Rattle.limits_text.specs.declared.control.Kind.TheVariants as kind
-use Rattle.limits_text.specs.Words.{Word, is_letter, begins_number, kind_of}
+use Rattle.limits_text.specs.declared.control.WordKind.TheVariants as kind
+use Rattle.limits_text.specs.Words.{Word, begins_number, kind_of}
+use Rattle.text_bytes.specs.Bytes.{is_letter}
 use Rattle.limits_text.specs.Follows.{is_name}
 use Rattle.limits_text.specs.Pieces.{Piece, AreShown, sign, name, keyword, number, second, end_then, negation_then}
 use Rattle.limits_text.specs.Texts.{Reading, the_end, either, this_sign, this_word, begins_name, a_name, if_read, a_decimal, a_second, an_optional, one_of, perhaps}

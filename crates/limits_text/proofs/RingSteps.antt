@@ -3,11 +3,11 @@ use Rattle.std.proofs.Common.{◌≡◌, ℕ, zero, suc, ◌<◌, ◌≤◌, ari
 use Rattle.std.specs.Prelude.{◌&&◌, ◌==◌, not, nat_le, ℤ, Some, None, IfSome, reverse, codes, if◌then◌else◌}
 use Rattle.std.proofs.lemmas.Bool.{true≢false, cases_Bool, le-leb}
 use Rattle.std.proofs.lemmas.List.{reverse-append, reverse-reverse, length-reverse}
-use Rattle.limits_text.specs.declared.control.Kind.{Kind}
-use Rattle.limits_text.specs.declared.control.Kind.TheVariants as kind
+use Rattle.limits_text.specs.declared.control.WordKind.{WordKind}
+use Rattle.limits_text.specs.declared.control.WordKind.TheVariants as kind
 use Rattle.limits_text.specs.declared.control.Control.{Control}
 use Rattle.limits_text.specs.declared.control.Control.TheVariants.{Polygon, Name, Shape, Ring, CornerX, CornerY, Corner, ShapeEnd, Ranged, End}
-use Rattle.limits_text.specs.declared.steps.Step.{Step}
+use Rattle.limits_text.specs.declared.steps.NextWord.{NextWord}
 use Rattle.limits_text.specs.Words.{Word, front_of, words_in}
 use Rattle.limits_text.specs.Follows.{behind, is_end, control}
 use Rattle.limits_text.specs.Wrong.{first_wrong, wrong_ring, wrong_sign, ends_corner, corners, is_past, is_ring, is_last, is_same}
@@ -33,12 +33,12 @@ not_broken b false e h = absurd (true≢false (rw e at h))
 below : (n : ℕ) → nat_le 1024 n ≡ false → n < 1024
 below n e = grind arith
 
-pub ring_step : (c : Control) (t : Step) (cs : List (ℤ × ℤ)) (x : ℤ) (k : ℕ) (w : Word) (ws : List Word) → IsRingFront c (reverse cs) x k ws → is_full c (length cs) ≡ false
+pub ring_step : (c : Control) (t : NextWord) (cs : List (ℤ × ℤ)) (x : ℤ) (k : ℕ) (w : Word) (ws : List Word) → IsRingFront c (reverse cs) x k ws → is_full c (length cs) ≡ false
     → (ends_ring c t.kind && not (is_ring cs)) ≡ false → w.at ≡ t.start → IsShown (piece_of c t.kind t.value w.bytes) w
     → IfSome (behind c t.kind) (λ d. IsRingFront d (reverse (corners_with c t x cs)) (x_with c t x) (place_with c t k) (w ∷ ws))
 ring_step c t cs x k w ws h f r a s = go c t.kind h f r s
   where
-    go : (c : Control) (l : Kind) → IsRingFront c (reverse cs) x k ws → is_full c (length cs) ≡ false → (ends_ring c l && not (is_ring cs)) ≡ false → IsShown (piece_of c l t.value w.bytes) w
+    go : (c : Control) (l : WordKind) → IsRingFront c (reverse cs) x k ws → is_full c (length cs) ≡ false → (ends_ring c l && not (is_ring cs)) ≡ false → IsShown (piece_of c l t.value w.bytes) w
         → IfSome (behind c l) (λ d. IsRingFront d (reverse (corners_with c t x cs)) (x_with c t x) (place_with c t k) (w ∷ ws))
     go Polygon kind.Name h f r s = ((s, h.0), h.1)
     go Polygon kind.Number h f r s = tt
@@ -119,7 +119,7 @@ ring_wrong (p ∷ ps) k (y ∷ x ∷ ws) h i a = rw (corners_are (p ∷ ps) (y �
     go true = refl
     go false = refl
 
-pub ring_taken : (c : Control) (text : List ℕ) (at : ℕ) (cs : List (ℤ × ℤ)) (x : ℤ) (k : ℕ) (s : Step) → IsTaken Polygon c text at s → IsRingFront c (reverse cs) x k (words_in (front_of (take at text)))
+pub ring_taken : (c : Control) (text : List ℕ) (at : ℕ) (cs : List (ℤ × ℤ)) (x : ℤ) (k : ℕ) (s : NextWord) → IsTaken Polygon c text at s → IsRingFront c (reverse cs) x k (words_in (front_of (take at text)))
     → is_full c (length cs) ≡ false → (ends_ring c s.kind && not (is_ring cs)) ≡ false
     → IsRingFront s.control (reverse (corners_with c s x cs)) (x_with c s x) (place_with c s k) (words_in (front_of (take s.end text)))
 ring_taken c text at cs x k s t h f r =
@@ -144,20 +144,20 @@ close_ring _ cs x k b ws h e = rw e (go (b == 41))
     go true = refl
     go false = refl
 
-pub ring_right : (c : Control) (text : List ℕ) (at : ℕ) (cs : List (ℤ × ℤ)) (x : ℤ) (k : ℕ) (s : Step) → IsTaken Polygon c text at s → IsRingFront c (reverse cs) x k (words_in (front_of (take at text)))
+pub ring_right : (c : Control) (text : List ℕ) (at : ℕ) (cs : List (ℤ × ℤ)) (x : ℤ) (k : ℕ) (s : NextWord) → IsTaken Polygon c text at s → IsRingFront c (reverse cs) x k (words_in (front_of (take at text)))
     → control Polygon (words_in (front_of (take at text))) ≡ Some c → is_full c (length cs) ≡ false → (ends_ring c s.kind && not (is_ring cs)) ≡ false
     → first_wrong Polygon (words_in (front_of (take at text))) ≡ None → first_wrong Polygon (words_in (front_of (take s.end text))) ≡ None
 ring_right c text at cs x k s t h n f r o =
     taken_right Polygon c text at s t o (past_is c cs x k (words_in (front_of (take at text))) h n ∙ f)
     (λ b e. close_ring c cs x k b (words_in (front_of (take at text))) h n ∙ ap (λ u. if u then Some k else None) (ap (λ l. ends_ring c l && not (is_ring cs)) (sym e) ∙ r))
 
-broken_sign : (c : Control) (l : Kind) (t : Bool) → (ends_ring c l && t) ≡ true → (b : ℕ) × (l ≡ kind.Sign b)
+broken_sign : (c : Control) (l : WordKind) (t : Bool) → (ends_ring c l && t) ≡ true → (b : ℕ) × (l ≡ kind.Sign b)
 broken_sign Corner kind.Name t e = absurd (true≢false (sym e))
 broken_sign Corner kind.Number t e = absurd (true≢false (sym e))
 broken_sign Corner (kind.Sign b) t e = (b, refl)
 broken_sign _ l t e = absurd (true≢false (sym e))
 
-pub ring_fault : (c : Control) (text : List ℕ) (at : ℕ) (cs : List (ℤ × ℤ)) (x : ℤ) (k : ℕ) (s : Step) → IsTaken Polygon c text at s → IsRingFront c (reverse cs) x k (words_in (front_of (take at text)))
+pub ring_fault : (c : Control) (text : List ℕ) (at : ℕ) (cs : List (ℤ × ℤ)) (x : ℤ) (k : ℕ) (s : NextWord) → IsTaken Polygon c text at s → IsRingFront c (reverse cs) x k (words_in (front_of (take at text)))
     → control Polygon (words_in (front_of (take at text))) ≡ Some c → is_full c (length cs) ≡ false → (ends_ring c s.kind && not (is_ring cs)) ≡ true
     → first_wrong Polygon (words_in (front_of (take at text))) ≡ None → IsFault Polygon text k
 ring_fault c text at cs x k s t h n f r o =

@@ -3,11 +3,11 @@ use Rattle.std.proofs.Common.{◌≡◌, ℕ, sym, refl, ap, ◌∙◌, inl, inr
 use Rattle.std.specs.Prelude.{◌||◌, ◌==◌, not, ℤ, Ok, Option, Some, None, IfSome, slice_range, reverse}
 use Rattle.std.proofs.lemmas.Bool.{true≢false, cases_Bool, eqb-true}
 use Rattle.std.proofs.lemmas.List.{reverse-append}
-use Rattle.limits_text.specs.declared.control.Kind.{Kind}
-use Rattle.limits_text.specs.declared.control.Kind.TheVariants as kind
+use Rattle.limits_text.specs.declared.control.WordKind.{WordKind}
+use Rattle.limits_text.specs.declared.control.WordKind.TheVariants as kind
 use Rattle.limits_text.specs.declared.control.Control.{Control}
 use Rattle.limits_text.specs.declared.control.Control.TheVariants.{Point, PointOpen, PointX, PointY, PointClose, Ranged, End}
-use Rattle.limits_text.specs.declared.steps.Step.{Step}
+use Rattle.limits_text.specs.declared.steps.NextWord.{NextWord}
 use Rattle.limits_text.specs.Words.{Word, front_of, words_in, kind_of}
 use Rattle.limits_text.specs.Follows.{control, is_end, behind, keyword, wants_space, is_name}
 use Rattle.limits_text.specs.Wrong.{begins_part, first_wrong, wrong_word, wrong_sign, is_past, are_too_many, commas}
@@ -31,7 +31,7 @@ abbrev pub valued : Bool → ℤ → Piece
 valued true v = piece.second v
 valued false v = piece.number v
 
-abbrev pub piece_of : Control → Kind → ℤ → List ℕ → Piece
+abbrev pub piece_of : Control → WordKind → ℤ → List ℕ → Piece
 piece_of c kind.Name v bs = named (keyword c) bs
 piece_of c kind.Number v bs = valued (wants_space c) v
 piece_of c (kind.Sign b) v bs = piece.sign b
@@ -48,17 +48,17 @@ valued_shown true v w s e = (e, or_left w.spaced s)
     or_left false y = y
 valued_shown false v w s e = e
 
-pub taken_shown : (start c : Control) (text : List ℕ) (at : ℕ) (s : Step) → IsTaken start c text at s → IsShown (piece_of c s.kind s.value (slice_range text s.start s.end)) (word_to text s.start s.end)
+pub taken_shown : (start c : Control) (text : List ℕ) (at : ℕ) (s : NextWord) → IsTaken start c text at s → IsShown (piece_of c s.kind s.value (slice_range text s.start s.end)) (word_to text s.start s.end)
 taken_shown start c text at s t = go s.kind refl
   where
-    go : (k : Kind) → s.kind ≡ k → IsShown (piece_of c k s.value (slice_range text s.start s.end)) (word_to text s.start s.end)
+    go : (k : WordKind) → s.kind ≡ k → IsShown (piece_of c k s.value (slice_range text s.start s.end)) (word_to text s.start s.end)
     go kind.Name e = named_shown (keyword c) (word_to text s.start s.end) (t.kind ∙ e) (t.name e)
     go kind.Number e = valued_shown (wants_space c) s.value (word_to text s.start s.end) (t.spaced e) (t.value e)
     go (kind.Sign b) e = t.sign b e
 
 -- ---- a point
 
-pub point_step : (c : Control) (k : Kind) (p : ℤ × ℤ) (v : ℤ) (bs : List ℕ) (w : Word) (ws : List Word) → IsPointFront c p ws → IsShown (piece_of c k v bs) w
+pub point_step : (c : Control) (k : WordKind) (p : ℤ × ℤ) (v : ℤ) (bs : List ℕ) (w : Word) (ws : List Word) → IsPointFront c p ws → IsShown (piece_of c k v bs) w
     → IfSome (behind c k) (λ d. IsPointFront d (point_with c v p) (w ∷ ws))
 point_step Point kind.Name p v bs w ws h s = (s, h)
 point_step Point kind.Number p v bs w ws h s = tt
@@ -88,12 +88,12 @@ point_step _ k p v bs w ws h s = absurd h
 
 -- ---- any text
 
-pub taken_right : (start c : Control) (text : List ℕ) (at : ℕ) (s : Step) → IsTaken start c text at s → first_wrong start (words_in (front_of (take at text))) ≡ None
+pub taken_right : (start c : Control) (text : List ℕ) (at : ℕ) (s : NextWord) → IsTaken start c text at s → first_wrong start (words_in (front_of (take at text))) ≡ None
     → is_past start (words_in (front_of (take at text))) ≡ false → ((b : ℕ) → s.kind ≡ kind.Sign b → wrong_sign start b (words_in (front_of (take at text))) ≡ None)
     → first_wrong start (words_in (front_of (take s.end text))) ≡ None
 taken_right start c text at s t r p g = rw (t.words, r, p, t.kind) (go s.kind refl)
   where
-    go : (k : Kind) → s.kind ≡ k → wrong_word start k (word_to text s.start s.end) (words_in (front_of (take at text))) ≡ None
+    go : (k : WordKind) → s.kind ≡ k → wrong_word start k (word_to text s.start s.end) (words_in (front_of (take at text))) ≡ None
     go kind.Name e = refl
     go kind.Number e = rw (t.value e) refl
     go (kind.Sign b) e = g b e
@@ -113,13 +113,13 @@ shown_reverse [] (w ∷ ws) a = absurd a
 shown_reverse (p ∷ ps) [] a = absurd a
 shown_reverse (p ∷ ps) (w ∷ ws) a = rw (reverse-append (p ∷ []) ps, reverse-append (w ∷ []) ws) (shown_more (reverse ps) (p ∷ []) (reverse ws) (w ∷ []) (shown_reverse ps ws a.1) (a.0, tt))
 
-pub point_taken : (c : Control) (text : List ℕ) (at : ℕ) (p : ℤ × ℤ) (s : Step) → IsTaken Point c text at s → IsPointFront c p (words_in (front_of (take at text)))
+pub point_taken : (c : Control) (text : List ℕ) (at : ℕ) (p : ℤ × ℤ) (s : NextWord) → IsTaken Point c text at s → IsPointFront c p (words_in (front_of (take at text)))
     → IsPointFront s.control (point_with c s.value p) (words_in (front_of (take s.end text)))
 point_taken c text at p s t h =
     let g = point_step c s.kind p s.value (slice_range text s.start s.end) (word_to text s.start s.end) (words_in (front_of (take at text))) h (taken_shown Point c text at s t) in
     rw t.words (rw t.behind at g)
 
-pub point_right : (c : Control) (text : List ℕ) (at : ℕ) (s : Step) → IsTaken Point c text at s → first_wrong Point (words_in (front_of (take at text))) ≡ None → first_wrong Point (words_in (front_of (take s.end text))) ≡ None
+pub point_right : (c : Control) (text : List ℕ) (at : ℕ) (s : NextWord) → IsTaken Point c text at s → first_wrong Point (words_in (front_of (take at text))) ≡ None → first_wrong Point (words_in (front_of (take s.end text))) ≡ None
 point_right c text at s t r = taken_right Point c text at s t r (no_limit Point (words_in (front_of (take at text))) (λ n. refl)) (λ b e. refl)
 
 point_end : (c : Control) (p : ℤ × ℤ) (ws : List Word) → is_end c ≡ true → IsPointFront c p ws → AreShown (reverse (piece.point_pieces p)) ws
@@ -131,7 +131,7 @@ pub point_whole : (c : Control) (text : List ℕ) (at : ℕ) (p : ℤ × ℤ) �
 point_whole c text at p e w h = shown_reverse (reverse (piece.point_pieces p)) (words_in (front_of text)) (rw w (point_end c p (words_in (front_of (take at text))) e h))
 
 -- a value that the word makes wrong
-pub taken_wrong : (start c : Control) (text : List ℕ) (at : ℕ) (s : Step) (p : ℕ) → IsTaken start c text at s → first_wrong start (words_in (front_of (take at text))) ≡ None
+pub taken_wrong : (start c : Control) (text : List ℕ) (at : ℕ) (s : NextWord) (p : ℕ) → IsTaken start c text at s → first_wrong start (words_in (front_of (take at text))) ≡ None
     → is_past start (words_in (front_of (take at text))) ≡ false → (b : ℕ) → s.kind ≡ kind.Sign b → wrong_sign start b (words_in (front_of (take at text))) ≡ Some p
     → IsWrong start text p
 taken_wrong start c text at s p t r o b k e = record {

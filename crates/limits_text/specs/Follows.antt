@@ -4,9 +4,9 @@ use Rattle.std.specs.Bool.{then_some}
 use Rattle.decimal_coords.specs.Scanning.{accepts, run as scan}
 use Rattle.decimal_coords.specs.DecimalOfText.{is_dead}
 use Rattle.decimal_coords.specs.declared.scan.Scan.TheVariants.{Start}
-use Rattle.limits_text.specs.declared.control.Kind.{Kind}
-use Rattle.limits_text.specs.declared.control.Kind.TheVariants as kind
-use Rattle.limits_text.specs.declared.control.Axis.TheVariants.{X, Y, Z}
+use Rattle.limits_text.specs.declared.control.WordKind.{WordKind}
+use Rattle.limits_text.specs.declared.control.WordKind.TheVariants as kind
+use Rattle.limits_text.specs.declared.control.PairAxis.TheVariants.{X, Y, Z}
 use Rattle.limits_text.specs.declared.control.Control.{Control}
 use Rattle.limits_text.specs.declared.control.Control.TheVariants.{Name, Named, Negated, Low, Colon, High, Close, Ranged, Box, Pair, PairLow, PairComma, PairHigh, PairClose, Paired, Polygon, Shape, Ring, CornerX, CornerY, Corner, ShapeEnd, Point, PointOpen, PointX, PointY, PointClose, End}
 use Rattle.limits_text.specs.Words.{Word, Front, gap, inside, kind_of}
@@ -55,7 +55,7 @@ behind_number PointX = Some PointY
 behind_number PointY = Some PointClose
 behind_number _ = None
 
-abbrev pub behind : Control → Kind → Option Control
+abbrev pub behind : Control → WordKind → Option Control
 behind c kind.Name = behind_name c
 behind c kind.Number = behind_number c
 behind c (kind.Sign b) = behind_sign c b
@@ -90,13 +90,13 @@ is_name None bs = true
 is_name (Some ks) bs = begins bs ks && length bs == length ks
 
 -- a word of this sort may begin so
-abbrev pub may_stand : Control → Kind → Word → Bool
+abbrev pub may_stand : Control → WordKind → Word → Bool
 may_stand c kind.Name w = may_name (keyword c) w.bytes
 may_stand c kind.Number w = (w.spaced || not (wants_space c)) && not (is_dead (scan Start w.bytes))
 may_stand c (kind.Sign b) w = true
 
 -- it may stand there as it is
-abbrev pub stands : Control → Kind → Word → Bool
+abbrev pub stands : Control → WordKind → Word → Bool
 stands c kind.Name w = is_name (keyword c) w.bytes
 stands c kind.Number w = (w.spaced || not (wants_space c)) && accepts (scan Start w.bytes)
 stands c (kind.Sign b) w = true

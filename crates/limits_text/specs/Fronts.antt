@@ -1,7 +1,8 @@
 -- where a text stops being the front of one of its grammar, and its fault
 use Rattle.std.specs.Prelude.{ℕ, ◌+◌, ◌<◌, ◌≤◌, ◌≡◌, ◌⊎◌, List, ◌++◌, take, length, slice_index, true, false, Some, None}
 use Rattle.limits_text.specs.declared.control.Control.{Control}
-use Rattle.limits_text.specs.Words.{front_of, words_in, is_gap, is_space, IsCut}
+use Rattle.limits_text.specs.Words.{front_of, words_in, is_gap, IsCut}
+use Rattle.text_bytes.specs.Bytes.{is_space}
 use Rattle.limits_text.specs.Follows.{is_whole, control}
 use Rattle.limits_text.specs.Wrong.{first_wrong, is_past}
 

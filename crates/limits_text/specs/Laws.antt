@@ -1,5 +1,5 @@
 -- laws of texts
-use Rattle.std.specs.Prelude.{◌≡◌, ◌↔◌, ℕ, List, Option, Some}
+use Rattle.std.specs.Prelude.{◌≡◌, ◌↔◌, ℕ, List, Option, Some, None}
 use Rattle.limits_text.specs.declared.control.Control.{Control}
 use Rattle.limits_text.specs.Fronts.{IsFault}
 
@@ -9,3 +9,12 @@ IsReadAs {V} shows says = (text : List ℕ) (v : V) → (says text ≡ Some v) �
 
 abbrev pub HasOneFault : Control → Type 0
 HasOneFault start = (text : List ℕ) (a b : ℕ) → IsFault start text a → IsFault start text b → a ≡ b
+
+-- where a text has a fault it says nothing
+abbrev pub SaysNothing : {V : Type 0} → Control → (List ℕ → Option V) → Type 0
+SaysNothing start says = (text : List ℕ) (at : ℕ) → IsFault start text at → says text ≡ None
+
+-- where a text says nothing it has a fault
+abbrev pub IsSaidOrFaulty : {V : Type 0} → Control → List ℕ → Option V → Type 0
+IsSaidOrFaulty start text (Some v) = Unit {0}
+IsSaidOrFaulty start text None = (at : ℕ) × IsFault start text at

@@ -1,7 +1,7 @@
 -- the grammars as they are written: the pieces that the text of a value shows
 use Rattle.std.specs.Prelude.{ℕ, ℤ, ◌≡◌, ◌≤◌, ◌≤ℤ◌, List, [], ◌∷◌, ◌++◌, length, reverse, codes, Bool, true, if◌then◌else◌, Option, Some, None, Ok}
 use Rattle.decimal_coords.specs.DecimalOfText.{decimal_of_text}
-use Rattle.limits_text.specs.declared.control.Kind.TheVariants as kind
+use Rattle.limits_text.specs.declared.control.WordKind.TheVariants as kind
 use Rattle.limits_text.specs.declared.shapes.Box3.{Box3}
 use Rattle.limits_text.specs.declared.shapes.NamedRange.{NamedRange}
 use Rattle.limits_text.specs.Words.{Word, front_of, words_in, kind_of}

@@ -3,8 +3,8 @@ use Rattle.std.specs.Prelude.{ℕ, ◌≤◌, ℤ, List, [], ◌∷◌, ◌++◌
 use Rattle.std.specs.Str.{IsCharBoundary}
 use Rattle.limits_text.specs.declared.control.Control.{Control}
 use Rattle.limits_text.specs.declared.control.Control.TheVariants.{Name, Named, Negated, Low, High, Close}
-use Rattle.limits_text.specs.declared.control.Kind.{Kind}
-use Rattle.limits_text.specs.declared.control.Kind.TheVariants as kind
+use Rattle.limits_text.specs.declared.control.WordKind.{WordKind}
+use Rattle.limits_text.specs.declared.control.WordKind.TheVariants as kind
 use Rattle.limits_text.specs.declared.shapes.Interval.{Interval}
 use Rattle.limits_text.specs.declared.shapes.NamedRange.{NamedRange}
 
@@ -26,13 +26,13 @@ with_sign Close b i = record i { high_in = b == 93 }
 with_sign _ b i = i
 
 -- with a word, where c came before it
-abbrev pub interval_with : Control → Kind → ℤ → Interval → Interval
+abbrev pub interval_with : Control → WordKind → ℤ → Interval → Interval
 interval_with c kind.Name v i = any_interval
 interval_with c kind.Number v i = with_end c v i
 interval_with c (kind.Sign b) v i = with_sign c b i
 
 -- the word ends a range
-abbrev pub ends_range : Control → Kind → Bool
+abbrev pub ends_range : Control → WordKind → Bool
 ends_range High (kind.Sign b) = true
 ends_range Close (kind.Sign b) = true
 ends_range _ l = false
@@ -41,7 +41,7 @@ abbrev pub name_with : Control → List ℕ → List ℕ → List ℕ
 name_with Name bs n = bs
 name_with _ bs n = n
 
-abbrev pub ranges_with : Control → Kind → List ℕ → Interval → List NamedRange → List NamedRange
+abbrev pub ranges_with : Control → WordKind → List ℕ → Interval → List NamedRange → List NamedRange
 ranges_with c l n i rs = if ends_range c l then rs ++ record { name = n; interval = i } ∷ [] else rs
 
 -- the name of a range comes next

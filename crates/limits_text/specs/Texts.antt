@@ -6,7 +6,8 @@ use Rattle.decimal_coords.specs.declared.parse.DecFault.{DecFault}
 use Rattle.decimal_coords.specs.DecimalOfText.{decimal_of_text}
 use Rattle.limits_text.specs.declared.shapes.Box3.{Box3}
 use Rattle.limits_text.specs.declared.shapes.NamedRange.{NamedRange}
-use Rattle.limits_text.specs.Words.{Word, is_letter}
+use Rattle.limits_text.specs.Words.{Word}
+use Rattle.text_bytes.specs.Bytes.{is_letter}
 use Rattle.limits_text.specs.Follows.{is_name}
 use Rattle.limits_text.specs.Wrong.{is_ring}
 use Rattle.limits_text.specs.Pieces.{words_of}

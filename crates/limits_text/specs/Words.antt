@@ -1,32 +1,27 @@
 -- the words of a text: names, numbers and signs, and the spaces between them
 use Rattle.std.specs.Prelude.{ℕ, ◌+◌, ◌<◌, ◌≡◌, List, [], ◌∷◌, ◌++◌, take, length, slice_index, Bool, true, false, not, ◌&&◌, ◌||◌, ◌==◌, nat_le, if◌then◌else◌}
-use Rattle.decimal_coords.specs.Scanning.{is_digit, after, run as scan}
+use Rattle.text_bytes.specs.Bytes.{is_space, is_digit, is_letter, is_word}
+use Rattle.decimal_coords.specs.Scanning.{after, run as scan}
 use Rattle.decimal_coords.specs.DecimalOfText.{is_dead}
 use Rattle.decimal_coords.specs.declared.scan.Scan.TheVariants.{Start}
-use Rattle.limits_text.specs.declared.control.Kind.{Kind}
-use Rattle.limits_text.specs.declared.control.Kind.TheVariants.{Name, Number, Sign}
-
-abbrev pub is_space : ℕ → Bool
-is_space b = b == 32 || b == 9 || b == 10 || b == 13
-
-abbrev pub is_letter : ℕ → Bool
-is_letter b = (nat_le 65 b && nat_le b 90) || (nat_le 97 b && nat_le b 122) || b == 95
+use Rattle.limits_text.specs.declared.control.WordKind.{WordKind}
+use Rattle.limits_text.specs.declared.control.WordKind.TheVariants.{Name, Number, Sign}
 
 abbrev pub begins_number : ℕ → Bool
 begins_number b = is_digit b || b == 43 || b == 45 || b == 46
 
 -- the sort of a word that begins so
-abbrev pub kind_from : ℕ → Kind
+abbrev pub kind_from : ℕ → WordKind
 kind_from b = if is_letter b then Name else (if begins_number b then Number else Sign b)
 
-abbrev pub kind_of : List ℕ → Kind
+abbrev pub kind_of : List ℕ → WordKind
 kind_of [] = Sign 0
 kind_of (b ∷ bs) = kind_from b
 
 -- a word of this sort, with these bytes so far, goes on with the byte: a name with a letter, a digit or `_`,
 -- and a number where it stays the front of a decimal
-abbrev pub joins_kind : Kind → List ℕ → ℕ → Bool
-joins_kind Name bs b = is_letter b || is_digit b
+abbrev pub joins_kind : WordKind → List ℕ → ℕ → Bool
+joins_kind Name bs b = is_word b
 joins_kind Number bs b = not (is_dead (after (scan Start bs) b))
 joins_kind (Sign s) bs b = false
 

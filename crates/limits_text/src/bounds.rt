@@ -7,10 +7,10 @@ ghost use Rattle.limits_text.specs.Texts.{bounds_of};
 ghost use Rattle.limits_text.specs.Held.{IsBoxHeld};
 ghost use Rattle.limits_text.specs.Boxes.{with_side, side, sides_with, is_reversed};
 
-use crate::control::{Axis, Control};
+use crate::control::{Control, PairAxis};
 use crate::faults::TextFault;
 use crate::shapes::Box3;
-use crate::steps::{Step, next_word};
+use crate::steps::{NextWord, next_word};
 
 /// What was read of a box, in nanounits.
 #[derive(Clone, Copy)]
@@ -25,31 +25,31 @@ pub(crate) struct Sides {
 }
 
 /// With the pair of this axis.
-fn with_side(axis: Axis, low: i64, high: i64, sides: &Sides) -> Sides
+fn with_side(axis: PairAxis, low: i64, high: i64, sides: &Sides) -> Sides
     ensures { result ≡ with_side axis (low, high) sides.now }
 {
     let mut sides = *sides;
     match axis {
-        Axis::X => sides.x = (low, high),
-        Axis::Y => sides.y = (low, high),
-        Axis::Z => sides.z = Some((low, high)),
+        PairAxis::X => sides.x = (low, high),
+        PairAxis::Y => sides.y = (low, high),
+        PairAxis::Z => sides.z = Some((low, high)),
     }
     sides
 }
 
 /// The pair of this axis.
-fn side(axis: Axis, sides: &Sides) -> (i64, i64)
+fn side(axis: PairAxis, sides: &Sides) -> (i64, i64)
     ensures { result ≡ side axis sides.now }
 {
     match axis {
-        Axis::X => sides.x,
-        Axis::Y => sides.y,
-        Axis::Z => sides.z.unwrap_or((0, 0)),
+        PairAxis::X => sides.x,
+        PairAxis::Y => sides.y,
+        PairAxis::Z => sides.z.unwrap_or((0, 0)),
     }
 }
 
 /// With a word, where `control` came before it.
-fn sides_with(control: Control, step: &Step, sides: &Sides) -> Sides
+fn sides_with(control: Control, step: &NextWord, sides: &Sides) -> Sides
     ensures { result ≡ sides_with control step.now sides.now }
 {
     let mut new = *sides;

@@ -26,17 +26,17 @@ pub enum Control {
     /// A box: `(`.
     Box,
     /// The `[` of a pair.
-    Pair(Axis),
+    Pair(PairAxis),
     /// The first decimal of a pair.
-    PairLow(Axis),
+    PairLow(PairAxis),
     /// The `,` of a pair.
-    PairComma(Axis),
+    PairComma(PairAxis),
     /// The second decimal of a pair.
-    PairHigh(Axis),
+    PairHigh(PairAxis),
     /// The `]` of a pair.
-    PairClose(Axis),
+    PairClose(PairAxis),
     /// Behind a pair: `,` and a further pair, or `)`.
-    Paired(Axis),
+    Paired(PairAxis),
 
     /// The word POLYGON.
     Polygon,
@@ -70,7 +70,7 @@ pub enum Control {
 
 /// The axis of a pair's coordinates.
 #[derive(Clone, Copy, Debug, PartialEq, Eq)]
-pub enum Axis {
+pub enum PairAxis {
     /// The first pair's.
     X,
     /// The second pair's.
@@ -81,7 +81,7 @@ pub enum Axis {
 
 /// The sort of a word.
 #[derive(Clone, Copy, Debug, PartialEq, Eq)]
-pub enum Kind {
+pub enum WordKind {
     /// Letters, digits and `_`, no digit first.
     Name,
     /// The front of a decimal.
@@ -104,13 +104,13 @@ fn behind_sign(control: Control, sign: u8) -> Option<Control>
         Control::Low | Control::Colon => (sign == b':').then_some(Control::High),
         Control::High | Control::Close => (sign == b']' || sign == b')').then_some(Control::Ranged),
         Control::Ranged => (sign == b',').then_some(Control::Name),
-        Control::Box => (sign == b'(').then_some(Control::Pair(Axis::X)),
+        Control::Box => (sign == b'(').then_some(Control::Pair(PairAxis::X)),
         Control::Pair(axis) => (sign == b'[').then_some(Control::PairLow(axis)),
         Control::PairComma(axis) => (sign == b',').then_some(Control::PairHigh(axis)),
         Control::PairClose(axis) => (sign == b']').then_some(Control::Paired(axis)),
-        Control::Paired(Axis::X) => (sign == b',').then_some(Control::Pair(Axis::Y)),
-        Control::Paired(Axis::Y) => match sign {
-            b',' => Some(Control::Pair(Axis::Z)),
+        Control::Paired(PairAxis::X) => (sign == b',').then_some(Control::Pair(PairAxis::Y)),
+        Control::Paired(PairAxis::Y) => match sign {
+            b',' => Some(Control::Pair(PairAxis::Z)),
             b')' => Some(Control::End),
             _ => None,
         },
@@ -122,7 +122,7 @@ fn behind_sign(control: Control, sign: u8) -> Option<Control>
             _ => None,
         },
         Control::PointOpen => (sign == b'(').then_some(Control::PointX),
-        Control::Paired(Axis::Z) | Control::ShapeEnd | Control::PointClose => {
+        Control::Paired(PairAxis::Z) | Control::ShapeEnd | Control::PointClose => {
             (sign == b')').then_some(Control::End)
         }
         _ => None,
@@ -159,13 +159,13 @@ fn behind_number(control: Control) -> Option<Control>
 }
 
 /// What may come behind a word of this sort.
-pub(crate) fn behind(control: Control, kind: Kind) -> Option<Control>
+pub(crate) fn behind(control: Control, kind: WordKind) -> Option<Control>
     ensures { result ≡ behind control kind }
 {
     match kind {
-        Kind::Name => behind_name(control),
-        Kind::Number => behind_number(control),
-        Kind::Sign(sign) => behind_sign(control, sign),
+        WordKind::Name => behind_name(control),
+        WordKind::Number => behind_number(control),
+        WordKind::Sign(sign) => behind_sign(control, sign),
     }
 }
 

@@ -9,10 +9,10 @@ ghost use Rattle.limits_text.specs.Held.{IsHeld};
 
 use crate::control::Control;
 use crate::faults::TextFault;
-use crate::steps::{Step, next_word};
+use crate::steps::{NextWord, next_word};
 
 /// With the value of a word, where `control` came before it.
-fn point_with(control: Control, step: &Step, point: (i64, i64)) -> (i64, i64)
+fn point_with(control: Control, step: &NextWord, point: (i64, i64)) -> (i64, i64)
     ensures { result ≡ point_with control step.now.value point }
 {
     match control {

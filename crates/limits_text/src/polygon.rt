@@ -7,10 +7,10 @@ ghost use Rattle.limits_text.specs.Pieces.{IsPolygonText};
 ghost use Rattle.limits_text.specs.Texts.{polygon_of};
 ghost use Rattle.limits_text.specs.Rings.{is_full, ends_ring, x_with, place_with, corners_with};
 
-use crate::control::{Control, Kind};
+use crate::control::{Control, WordKind};
 use crate::faults::{TextErr, TextFault};
 use crate::shapes::Polygon;
-use crate::steps::{Step, next_word, past_limit};
+use crate::steps::{NextWord, next_word, past_limit};
 use std::alloc::{AllocError, Global};
 
 /// The most corners.
@@ -52,21 +52,21 @@ fn is_full(control: Control, count: usize) -> bool
 }
 
 /// Whether the word ends the ring.
-fn ends_ring(control: Control, kind: Kind) -> bool
+fn ends_ring(control: Control, kind: WordKind) -> bool
     ensures { result ≡ ends_ring control kind }
 {
-    matches!(control, Control::Corner) && matches!(kind, Kind::Sign(b')'))
+    matches!(control, Control::Corner) && matches!(kind, WordKind::Sign(b')'))
 }
 
 /// Whether the word ends a ring that isn't one.
-fn is_broken(control: Control, kind: Kind, corners: &[(i64, i64)]) -> bool
+fn is_broken(control: Control, kind: WordKind, corners: &[(i64, i64)]) -> bool
     ensures { result ≡ (ends_ring control kind && not (is_ring corners.now)) }
 {
     ends_ring(control, kind) && !is_ring(corners)
 }
 
 /// Adds a word, where `control` came before it.
-fn add_word(ring: &mut Ring, control: Control, step: &Step) -> Result<(), AllocError>
+fn add_word(ring: &mut Ring, control: Control, step: &NextWord) -> Result<(), AllocError>
     ensures corners { OnOk result (ring.new.corners.items
         ≡ corners_with control step.now ring.old.x ring.old.corners.items) }
     ensures x { OnOk result (ring.new.x ≡ x_with control step.now ring.old.x) }

@@ -6,10 +6,10 @@ ghost use Rattle.limits_text.specs.Pieces.{IsRangesText};
 ghost use Rattle.limits_text.specs.Texts.{ranges_of};
 ghost use Rattle.limits_text.specs.Ranges.{any_interval, with_end, with_sign, interval_with, ends_range, name_with, ranges_with, begins_range, are_full, place_or, IsNamed};
 
-use crate::control::{Control, Kind};
+use crate::control::{Control, WordKind};
 use crate::faults::TextErr;
 use crate::shapes::{Interval, NamedRange, RangeList};
-use crate::steps::{Step, next_word, past_limit};
+use crate::steps::{NextWord, next_word, past_limit};
 use file_devices::Name;
 use std::alloc::{AllocError, Global};
 
@@ -69,13 +69,13 @@ fn with_sign(control: Control, sign: u8, interval: &Interval) -> Interval
 }
 
 /// With a word, where `control` came before it.
-fn interval_with(control: Control, step: &Step, interval: &Interval) -> Interval
+fn interval_with(control: Control, step: &NextWord, interval: &Interval) -> Interval
     ensures { result ≡ interval_with control step.now.kind step.now.value interval.now }
 {
     match step.kind {
-        Kind::Name => any_interval(),
-        Kind::Number => with_end(control, step.value, interval),
-        Kind::Sign(sign) => with_sign(control, sign, interval),
+        WordKind::Name => any_interval(),
+        WordKind::Number => with_end(control, step.value, interval),
+        WordKind::Sign(sign) => with_sign(control, sign, interval),
     }
 }
 
@@ -94,10 +94,10 @@ fn are_full(control: Control, count: usize) -> bool
 }
 
 /// Whether the word ends a range.
-fn ends_range(control: Control, kind: Kind) -> bool
+fn ends_range(control: Control, kind: WordKind) -> bool
     ensures { result ≡ ends_range control kind }
 {
-    matches!(control, Control::High | Control::Close) && matches!(kind, Kind::Sign(_))
+    matches!(control, Control::High | Control::Close) && matches!(kind, WordKind::Sign(_))
 }
 
 /// Adds a word, where `control` came before it.
@@ -106,7 +106,7 @@ fn add_word(
     text: &str,
     draft: &mut Draft,
     control: Control,
-    step: &Step,
+    step: &NextWord,
 ) -> Result<(), AllocError>
     requires named { IsNamed text.now draft.old.from draft.old.to }
     ensures interval { OnOk result (draft.new.interval

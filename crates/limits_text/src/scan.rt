@@ -1,14 +1,16 @@
 //! Words: where one begins and ends.
 
 ghost use Rattle.std.specs.Prelude.{◌≡◌, ℕ, ◌-◌, ◌<◌, ◌≤◌, ◌||◌, not, length, take, slice_index, slice_range, ◌∷◌, [], true, false, IfSome, IfNone};
-ghost use Rattle.decimal_coords.specs.Scanning.{after, is_digit, run};
+ghost use Rattle.decimal_coords.specs.Scanning.{after, run};
 ghost use Rattle.decimal_coords.specs.DecimalOfText.{is_dead};
 ghost use Rattle.decimal_coords.specs.declared.scan.Scan.TheVariants.{Start, Dead};
-ghost use Rattle.limits_text.specs.Words.{is_space, is_letter, kind_from, front_of, words_in, is_gap, IsCut};
+ghost use Rattle.limits_text.specs.Words.{kind_from, front_of, words_in, is_gap, IsCut};
+ghost use Rattle.text_bytes.specs.Bytes.{is_space};
 ghost use Rattle.limits_text.specs.Digits.{scan_of};
 ghost use Rattle.limits_text.specs.Behind.{IsWordTo};
 
-use crate::control::Kind;
+use crate::control::WordKind;
+use text_bytes::{is_digit, is_letter, is_space, is_word};
 
 /// What was read of a decimal.
 #[derive(Clone, Copy)]
@@ -21,48 +23,17 @@ pub(crate) enum Digits {
     Places,
 }
 
-/// Whether a byte is a space.
-fn is_space(b: u8) -> bool
-    ensures { result ≡ is_space b }
-{
-    b == b' ' || b == b'\t' || b == b'\n' || b == b'\r'
-}
-
-/// Whether a name may begin with a byte.
-fn is_letter(b: u8) -> bool
-    ensures value { result ≡ is_letter b }
-    ensures ascii { result ≡ true → b < 128 }
-{
-    (b'A' <= b && b <= b'Z') || (b'a' <= b && b <= b'z') || b == b'_'
-}
-
-/// Whether a byte is a decimal digit.
-fn is_digit(b: u8) -> bool
-    ensures value { result ≡ is_digit b }
-    ensures ascii { result ≡ true → b < 128 }
-{
-    b'0' <= b && b <= b'9'
-}
-
-/// Whether a name goes on with it.
-fn is_name_byte(b: u8) -> bool
-    ensures value { result ≡ (is_letter b || is_digit b) }
-    ensures ascii { result ≡ true → b < 128 }
-{
-    is_letter(b) || is_digit(b)
-}
-
 /// The sort of a word that begins so.
-pub(crate) fn kind_from(b: u8) -> Kind
+pub(crate) fn kind_from(b: u8) -> WordKind
     ensures value { result ≡ kind_from b }
-    ensures ascii { result ≡ Kind.Name → b < 128 }
+    ensures ascii { result ≡ WordKind.Name → b < 128 }
 {
     if is_letter(b) {
-        Kind::Name
+        WordKind::Name
     } else if is_digit(b) || b == b'+' || b == b'-' || b == b'.' {
-        Kind::Number
+        WordKind::Number
     } else {
-        Kind::Sign(b)
+        WordKind::Sign(b)
     }
 }
 
@@ -116,7 +87,7 @@ fn name_end(text: &[u8], start: usize) -> usize
     requires cut { IsCut text.now start }
     requires stops { is_space (slice_index text.now start) ≡ false }
     requires ascii { slice_index text.now start < 128 }
-    requires name { kind_from (slice_index text.now start) ≡ Kind.Name }
+    requires name { kind_from (slice_index text.now start) ≡ WordKind.Name }
     ensures low { start < result }
     ensures within { result ≤ length text.now }
     ensures cut { IsCut text.now result }
@@ -124,7 +95,7 @@ fn name_end(text: &[u8], start: usize) -> usize
     ensures word { (k : ℕ) → start < k → k ≤ result → IsWordTo text.now start k }
 {
     let mut end = start + 1;
-    while end < text.len() && is_name_byte(text[end]) {
+    while end < text.len() && is_word(text[end]) {
         end += 1;
     }
     end
@@ -135,7 +106,7 @@ fn number_end(text: &[u8], start: usize) -> usize
     requires within { start < length text.now }
     requires cut { IsCut text.now start }
     requires stops { is_space (slice_index text.now start) ≡ false }
-    requires number { kind_from (slice_index text.now start) ≡ Kind.Number }
+    requires number { kind_from (slice_index text.now start) ≡ WordKind.Number }
     ensures low { start < result }
     ensures within { result ≤ length text.now }
     ensures cut { IsCut text.now result }
@@ -156,24 +127,24 @@ fn number_end(text: &[u8], start: usize) -> usize
 }
 
 /// Where the word ends that begins at `start`.
-pub(crate) fn word_end(text: &[u8], start: usize, kind: Kind) -> usize
+pub(crate) fn word_end(text: &[u8], start: usize, kind: WordKind) -> usize
     requires within { start < length text.now }
     requires cut { IsCut text.now start }
     requires stops { is_space (slice_index text.now start) ≡ false }
     requires kind { kind ≡ kind_from (slice_index text.now start) }
-    requires ascii { kind ≡ Kind.Name → slice_index text.now start < 128 }
+    requires ascii { kind ≡ WordKind.Name → slice_index text.now start < 128 }
     ensures low { start < result }
     ensures within { result ≤ length text.now }
     ensures cut { IsCut text.now result }
-    ensures lives { kind ≡ Kind.Number → not (is_dead (run Start (slice_range text.now start result))) ≡ true }
-    ensures ascii { kind ≡ Kind.Number → slice_index text.now (result - 1) < 128 }
-    ensures letters { kind ≡ Kind.Name → slice_index text.now (result - 1) < 128 }
-    ensures sign { (b : ℕ) → kind ≡ Kind.Sign b → slice_range text.now start result ≡ b ∷ [] }
+    ensures lives { kind ≡ WordKind.Number → not (is_dead (run Start (slice_range text.now start result))) ≡ true }
+    ensures ascii { kind ≡ WordKind.Number → slice_index text.now (result - 1) < 128 }
+    ensures letters { kind ≡ WordKind.Name → slice_index text.now (result - 1) < 128 }
+    ensures sign { (b : ℕ) → kind ≡ WordKind.Sign b → slice_range text.now start result ≡ b ∷ [] }
     ensures word { (k : ℕ) → start < k → k ≤ result → IsWordTo text.now start k }
 {
     match kind {
-        Kind::Name => name_end(text, start),
-        Kind::Number => number_end(text, start),
-        Kind::Sign(_) => start + 1,
+        WordKind::Name => name_end(text, start),
+        WordKind::Number => number_end(text, start),
+        WordKind::Sign(_) => start + 1,
     }
 }

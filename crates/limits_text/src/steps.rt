@@ -11,17 +11,17 @@ ghost use Rattle.limits_text.specs.Fronts.{IsText, IsFault, IsReached, IsBefore}
 ghost use Rattle.limits_text.specs.Behind.{IsWordTo};
 ghost use Rattle.limits_text.specs.Taken.{IsTaken};
 
-use crate::control::{Control, Kind, behind, is_end, keyword, wants_space};
+use crate::control::{Control, WordKind, behind, is_end, keyword, wants_space};
 use crate::faults::TextFault;
 use crate::scan::{kind_from, skip, word_end};
 use decimal_coords::{DecFault, parse_decimal};
 
 /// A word that may stand where it does.
 #[derive(Clone, Copy)]
-pub(crate) struct Step {
+pub(crate) struct NextWord {
     pub start: usize,
     pub end: usize,
-    pub kind: Kind,
+    pub kind: WordKind,
     /// The value of a number.
     pub value: i64,
     /// What may come behind it.
@@ -65,8 +65,8 @@ fn check_name(
     requires within { end ≤ length text.now }
     requires cut { IsCut text.now end }
     requires word { (k : ℕ) → place < k → k ≤ end → IsWordTo text.now place k }
-    requires name { kind_from (slice_index text.now place) ≡ Kind.Name }
-    requires may { is_some (behind control Kind.Name) ≡ true }
+    requires name { kind_from (slice_index text.now place) ≡ WordKind.Name }
+    requires may { is_some (behind control WordKind.Name) ≡ true }
     ensures ok { OnOk result (is_name (keyword control) (slice_range text.now place end) ≡ true) }
     ensures fault { IfErr result (λ f. IsFault start text.now f.at) }
 {
@@ -104,8 +104,8 @@ fn read_number(
     requires within { end ≤ length text.now }
     requires cut { IsCut text.now end }
     requires word { IsWordTo text.now place end }
-    requires number { kind_from (slice_index text.now place) ≡ Kind.Number }
-    requires may { is_some (behind control Kind.Number) ≡ true }
+    requires number { kind_from (slice_index text.now place) ≡ WordKind.Number }
+    requires may { is_some (behind control WordKind.Number) ≡ true }
     requires spaced { (is_gap (front_of (take place text.now)) || not (wants_space control)) ≡ true }
     requires lives { not (is_dead (run Start (slice_range text.now place end))) ≡ true }
     requires ascii { slice_index text.now (end - 1) < 128 }
@@ -133,7 +133,7 @@ fn check_word(
     control: Control,
     place: usize,
     end: usize,
-    kind: Kind,
+    kind: WordKind,
     spaced: bool,
 ) -> Result<i64, TextFault>
     requires before { IsBefore start control text.now place }
@@ -144,28 +144,28 @@ fn check_word(
     requires kind { kind ≡ kind_from (slice_index text.now place) }
     requires may { is_some (behind control kind) ≡ true }
     requires spaced { spaced ≡ is_gap (front_of (take place text.now)) }
-    requires lives { kind ≡ Kind.Number → not (is_dead (run Start (slice_range text.now place end))) ≡ true }
-    requires ascii { kind ≡ Kind.Number → slice_index text.now (end - 1) < 128 }
-    ensures name { kind ≡ Kind.Name
+    requires lives { kind ≡ WordKind.Number → not (is_dead (run Start (slice_range text.now place end))) ≡ true }
+    requires ascii { kind ≡ WordKind.Number → slice_index text.now (end - 1) < 128 }
+    ensures name { kind ≡ WordKind.Name
         → OnOk result (is_name (keyword control) (slice_range text.now place end) ≡ true) }
-    ensures apart { kind ≡ Kind.Number
+    ensures apart { kind ≡ WordKind.Number
         → OnOk result ((is_gap (front_of (take place text.now)) || not (wants_space control)) ≡ true) }
-    ensures value { kind ≡ Kind.Number
+    ensures value { kind ≡ WordKind.Number
         → IfOk result (λ n. decimal_of_text (slice_range text.now place end) ≡ Ok n) }
     ensures fault { IfErr result (λ f. IsFault start text.now f.at) }
 {
     match kind {
-        Kind::Name => match check_name(text.as_bytes(), start, control, place, end) {
+        WordKind::Name => match check_name(text.as_bytes(), start, control, place, end) {
             Ok(()) => Ok(0),
             Err(fault) => Err(fault),
         },
-        Kind::Number => {
+        WordKind::Number => {
             if !is_apart(control, spaced) {
                 return Err(TextFault { at: place });
             }
             read_number(text, start, control, place, end)
         }
-        Kind::Sign(_) => Ok(0),
+        WordKind::Sign(_) => Ok(0),
     }
 }
 
@@ -176,7 +176,7 @@ fn word_at(
     control: Control,
     place: usize,
     spaced: bool,
-) -> Result<Step, TextFault>
+) -> Result<NextWord, TextFault>
     requires before { IsBefore start control text.now place }
     requires within { place < length text.now }
     requires spaced { spaced ≡ is_gap (front_of (take place text.now)) }
@@ -190,7 +190,7 @@ fn word_at(
     };
     let end = word_end(bytes, place, kind);
     match check_word(text, start, control, place, end, kind, spaced) {
-        Ok(value) => Ok(Step {
+        Ok(value) => Ok(NextWord {
             start: place,
             end,
             kind,
@@ -214,13 +214,13 @@ pub(crate) fn next_word(
     start: Control,
     control: Control,
     at: usize,
-) -> Result<Option<Step>, TextFault>
+) -> Result<Option<NextWord>, TextFault>
     requires reached { IsReached start control text.now at }
     requires right { first_wrong start (words_in (front_of (take at text.now))) ≡ None }
     requires room { is_past start (words_in (front_of (take at text.now))) ≡ false }
     ensures whole { result ≡ Ok None → IsText start text.now × (is_end control ≡ true)
         × (words_in (front_of text.now) ≡ words_in (front_of (take at text.now))) }
-    ensures word { (s : Step) → result ≡ Ok (Some s) → IsTaken start control text.now at s }
+    ensures word { (s : NextWord) → result ≡ Ok (Some s) → IsTaken start control text.now at s }
     ensures fault { IfErr result (λ f. IsFault start text.now f.at) }
 {
     let place = skip(text.as_bytes(), at);

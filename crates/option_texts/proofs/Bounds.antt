@@ -6,7 +6,8 @@ use Rattle.std.proofs.lemmas.Bool.{and_parts}
 use Rattle.std.specs.Char.{is_ascii_digit}
 use Rattle.std.specs.List.{before_first, after_first}
 use Rattle.option_texts.specs.declared.columns.NamedColumn.{NamedColumn}
-use Rattle.option_texts.specs.Parts.{parts_of, each_read, is_name, trimmed}
+use Rattle.option_texts.specs.Parts.{parts_of, each_read, trimmed}
+use Rattle.text_bytes.specs.Bytes.{is_name}
 use Rattle.option_texts.specs.Columns.{digit_of, column_with, column_of, columns_of, AreColumns, has_colon, is_colon}
 
 both_read : {X : Type 0} (o : Option X) (r : Option (List X)) (xs : List X) → option_and_then (λ x. option_map (λ ys. x ∷ ys) r) o ≡ Some xs

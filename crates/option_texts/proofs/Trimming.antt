@@ -1,11 +1,20 @@
 -- What is left once the spaces at the ends of a text are cut off.
 use Rattle.std.proofs.Common.{◌≡◌, ℕ, ◌-◌, ◌<◌, Bool, true, false, List, [], ◌∷◌, ◌++◌, length, take, drop, reverse, Option, Some, None, IfSome, refl, sym, ap, ◌∙◌, arith, rules, if◌then◌else◌}
-use Rattle.std.specs.Char.{IsScalar}
+use Rattle.std.specs.Char.{IsScalar, char_set_contains}
 use Rattle.std.specs.Str.Pattern.{FindsPrefixBy, FindsSuffixBy, CutsPrefixes, CutsSuffixes, IsFullyTrimmed, IsTrimStartMatches, IsTrimEndMatches}
 use Rattle.std.proofs.lemmas.Str.{encode_ascii, len_utf8_ascii}
 use Rattle.std.proofs.lemmas.List.{reverse-append, reverse-reverse, take-append-drop, drop_all}
 use Rattle.std.proofs.Math.Utf8.{encode}
-use Rattle.option_texts.specs.Parts.{is_space, skip_spaces}
+use Rattle.std.proofs.lemmas.Bool.Decides.{nat_tests}
+use Rattle.option_texts.specs.Parts.{skip_spaces}
+use Rattle.text_bytes.specs.Bytes.{is_space}
+
+-- a space, a tab, a line feed and a carriage return
+abbrev pub spaces : List ℕ
+spaces = 32 ∷ 9 ∷ 10 ∷ 13 ∷ []
+
+pub space_is : (b : ℕ) → char_set_contains spaces b ≡ is_space b
+space_is b = grind (arith, nat_tests)
 
 space_is_ascii : (c : ℕ) → is_space c ≡ true → c < 128
 space_is_ascii c h = grind arith

@@ -3,7 +3,8 @@ use Rattle.std.specs.Prelude.{ℕ, ◌-◌, ◌≤◌, Bool, ◌==◌, nat_le, n
 use Rattle.std.specs.List.{All, position_or_len, before_first, after_first}
 use Rattle.std.specs.Char.{is_ascii_digit}
 use Rattle.option_texts.specs.declared.columns.NamedColumn.{NamedColumn}
-use Rattle.option_texts.specs.Parts.{trimmed, parts_of, each_read, is_name}
+use Rattle.option_texts.specs.Parts.{trimmed, parts_of, each_read}
+use Rattle.text_bytes.specs.Bytes.{is_name}
 
 abbrev pub is_colon : ℕ → Bool
 is_colon b = b == 58

@@ -2,7 +2,8 @@
 use Rattle.std.specs.Prelude.{ℕ, Bool, ◌&&◌, ◌==◌, nat_le, nat_lt, List, [], ◌∷◌, length, Option, Some, None, if◌then◌else◌}
 use Rattle.std.specs.List.{position_or_len, before_first, after_first}
 use Rattle.option_texts.specs.declared.ferries.NamedFerry.{NamedFerry}
-use Rattle.option_texts.specs.Parts.{trimmed, parts_of, each_read, is_name}
+use Rattle.option_texts.specs.Parts.{trimmed, parts_of, each_read}
+use Rattle.text_bytes.specs.Bytes.{is_name}
 
 abbrev pub is_equals : ℕ → Bool
 is_equals b = b == 61

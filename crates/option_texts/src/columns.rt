@@ -6,10 +6,11 @@ ghost use Rattle.option_texts.specs.Columns.{digit_of, column_with, column_of, c
 ghost use Rattle.option_texts.specs.Parts.{parts_of};
 ghost use Rattle.option_texts.specs.declared.columns.NamedColumn.{NamedColumn as ColumnSeen};
 
-use crate::parts::{Part, has_few_parts, is_name, read_all, trimmed};
+use crate::parts::{ListPart, has_few_parts, read_all, trimmed};
 use file_devices::Name;
 use std::alloc::{AllocError, Global};
 use std::marker::Model;
+use text_bytes::is_name;
 
 /// A column of a list.
 #[derive(Drop)]
@@ -130,7 +131,7 @@ pub fn is_columns(text: &str) -> bool
     has_few_parts(text) && are_columns(text)
 }
 
-impl Part for NamedColumn {
+impl ListPart for NamedColumn {
     ghost read = { column_of };
 
     fn read(alloc: Global, part: &str) -> Result<Option<NamedColumn>, AllocError> {

@@ -3,10 +3,11 @@
 ghost use Rattle.std.specs.Prelude.{◌≡◌, [], Some, None, MatchOption, IfOk};
 ghost use Rattle.option_texts.specs.Ferries.{ferry_with, ferry_of, ferries_of};
 
-use crate::parts::{Part, has_few_parts, is_name, read_all, trimmed};
+use crate::parts::{ListPart, has_few_parts, read_all, trimmed};
 use file_devices::Name;
 use std::alloc::{AllocError, Global};
 use std::marker::Model;
+use text_bytes::is_name;
 
 /// From which dimension a value goes to which, by their names.
 #[derive(Drop)]
@@ -81,7 +82,7 @@ fn read_part<'a>(part: &'a str) -> Option<Ends<'a>>
     }
 }
 
-impl Part for NamedFerry {
+impl ListPart for NamedFerry {
     ghost read = { ferry_of };
 
     fn read(alloc: Global, part: &str) -> Result<Option<NamedFerry>, AllocError> {

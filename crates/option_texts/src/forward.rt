@@ -3,7 +3,7 @@
 ghost use Rattle.std.specs.Prelude.{◌≡◌, ◌++◌, ◌∷◌, [], ℕ, List, false, true, MatchOption, IfOk, is_some, bytes_eq};
 ghost use Rattle.option_texts.specs.Forward.{is_field, field_of, forward_of};
 
-use crate::parts::{Part, read_all, trimmed};
+use crate::parts::{ListPart, read_all, trimmed};
 use file_devices::Name;
 use std::alloc::{AllocError, Global};
 use std::marker::Model;
@@ -74,7 +74,7 @@ pub fn is_forward(text: &str) -> bool
     text.split(',').all(|part| is_field(trimmed(part)))
 }
 
-impl Part for Name {
+impl ListPart for Name {
     ghost read = { field_of };
 
     fn read(alloc: Global, part: &str) -> Result<Option<Name>, AllocError> {

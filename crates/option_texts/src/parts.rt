@@ -1,9 +1,7 @@
 //! Parts of a list in a text.
 
-ghost use Rattle.std.specs.Prelude.{◌≡◌, ◌||◌, ◌==◌, option_map, nat_le, length, IfOk};
-ghost use Rattle.std.specs.List.{list_all};
-ghost use Rattle.std.specs.Char.{is_ascii_alphanumeric};
-ghost use Rattle.option_texts.specs.Parts.{trimmed, is_name, parts_of, each_read};
+ghost use Rattle.std.specs.Prelude.{◌≡◌, option_map, nat_le, length, IfOk};
+ghost use Rattle.option_texts.specs.Parts.{trimmed, parts_of, each_read};
 
 use std::alloc::{AllocError, Global};
 
@@ -20,27 +18,6 @@ pub(crate) fn trimmed(text: &str) -> &str
     text.trim_start_matches(SPACES).trim_end_matches(SPACES)
 }
 
-/// Whether all bytes are letters, digits or `_`.
-fn are_word_bytes(bytes: &[u8]) -> bool
-    ensures { result ≡ list_all (λ c. is_ascii_alphanumeric c || c == 95) bytes.now }
-{
-    bytes
-        .iter()
-        .all(|b| b.is_ascii_alphanumeric() || *b == b'_')
-}
-
-/// Whether a text is a name: a letter or `_`, and then letters, digits and `_`.
-pub(crate) fn is_name(text: &str) -> bool
-    ensures { result ≡ is_name text.now }
-{
-    match text.as_bytes() {
-        [first, rest @ ..] => {
-            (first.is_ascii_alphabetic() || *first == b'_') && are_word_bytes(rest)
-        }
-        [] => false,
-    }
-}
-
 /// Whether a text has at most 64 parts.
 pub(crate) fn has_few_parts(text: &str) -> bool
     ensures { result ≡ nat_le (length (parts_of text.now)) 64 }
@@ -49,7 +26,7 @@ pub(crate) fn has_few_parts(text: &str) -> bool
 }
 
 /// What a part of a list stands for.
-pub(crate) trait Part: Sized + Drop {
+pub(crate) trait ListPart: Sized + Drop {
     ghost use Rattle.std.specs.Prelude.{ℕ, List, Option, IfOk};
 
     ghost read: { List ℕ → Option Self };
@@ -60,7 +37,7 @@ pub(crate) trait Part: Sized + Drop {
 }
 
 /// What the parts of a text stand for, where each stands for something. Refused only where memory is wanting.
-pub(crate) fn read_all<P: Part>(alloc: Global, text: &str) -> Result<Option<Vec<P>>, AllocError>
+pub(crate) fn read_all<P: ListPart>(alloc: Global, text: &str) -> Result<Option<Vec<P>>, AllocError>
     ensures { IfOk result (λ o. option_map (λ list. list.items) o ≡ each_read P.read (parts_of text.now)) }
 {
     let mut list = Vec::new(alloc);

@@ -2,7 +2,8 @@
 
 use pipeline_json::read_pipeline;
 use stage_names::{PipeErr, PipeFault};
-use stage_options::{Options, Role, Tree, type_tree};
+use stage_options::{Options, Role, Tree};
+use stage_typing::type_tree;
 use std::alloc::{AllocError, Global};
 use std::test::Fail;
 

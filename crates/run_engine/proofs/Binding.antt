@@ -5,8 +5,8 @@ use Rattle.std.proofs.lemmas.Option.{none-some, same_Some}
 use Rattle.cloud_points.specs.Layouts.{holds}
 use Rattle.las_reader.specs.declared.reader.LasReader.{LasReader}
 use Rattle.stage_names.specs.declared.faults.PipeFault.{PipeFault}
-use Rattle.stage_options.specs.Binding.{binding_fault}
-use Rattle.stage_options.specs.Ferries.{names_behind}
+use Rattle.name_binding.specs.Binding.{binding_fault}
+use Rattle.name_binding.specs.Ferries.{names_behind}
 use Rattle.stage_options.specs.declared.stage.StageSpec.{StageSpec}
 use Rattle.stage_forms.specs.declared.below.Below.{Below}
 use Rattle.stage_forms.specs.Below.{HaveReaders, IsTaken}

@@ -4,8 +4,8 @@ ghost use Rattle.std.specs.Prelude.{◌≡◌, ◌≤◌, ◌<◌, ◌||◌, len
 ghost use Rattle.cloud_points.specs.Layouts.{holds};
 ghost use Rattle.cloud_points.specs.declared.dims.Dim.{Dim};
 ghost use Rattle.pipeline_json.specs.Trees.{IsTree};
-ghost use Rattle.stage_options.specs.Binding.{binding_fault};
-ghost use Rattle.stage_options.specs.Ferries.{names_behind, adds};
+ghost use Rattle.name_binding.specs.Binding.{binding_fault};
+ghost use Rattle.name_binding.specs.Ferries.{names_behind, adds};
 ghost use Rattle.stage_options.specs.Roles.{role_of};
 ghost use Rattle.stage_options.specs.Shapes.{shapes};
 ghost use Rattle.stage_forms.specs.Below.{reads_in, AreReaders};
@@ -16,11 +16,12 @@ ghost use Rattle.run_engine.specs.Binding.{IsUnboundAt};
 use cloud_points::ExtraNames;
 use file_devices::Source;
 use las_reader::LasReader;
+use name_binding::bind;
 use run_report::Refusal;
 use stage_forms::{Below, next_below};
 use stage_kinds::StageForm;
 use stage_names::PipeErr;
-use stage_options::{StageSpec, bind};
+use stage_options::StageSpec;
 use stage_runs::stage_form;
 use std::alloc::Global;
 

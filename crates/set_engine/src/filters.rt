@@ -7,8 +7,8 @@ ghost use Rattle.stream_filters.specs.Kinds.{filtering_of};
 
 use crate::output::StageOutput;
 use expr_eval::Bound;
+use name_binding::BoundFilter;
 use set_filters::{Filtered, filter_views};
-use stage_options::BoundFilter;
 use std::alloc::{AllocError, Global};
 use stream_filters::{Condition, Crop, Filter, Head};
 use whole_filters::Views;

@@ -7,10 +7,10 @@ use Rattle.cloud_points.specs.declared.dims.Dim.TheVariants.{Red, Classification
 use Rattle.cloud_points.specs.declared.faults.PointFault.TheVariants as fault
 use Rattle.cloud_points.specs.declared.point.Point.{Point}
 use Rattle.expr_lang.specs.Formula.{Formula, number, name, binary}
-use Rattle.expr_lang.specs.declared.op.Op.TheVariants.{Equal, Plus}
+use Rattle.expr_lang.specs.declared.op.BinaryOp.TheVariants.{Equal, Plus}
 use Rattle.stage_meanings.specs.Filtering.{filtered, filtered_stop}
-use Rattle.stage_options.specs.declared.binding.BoundFilter.{BoundFilter}
-use Rattle.stage_options.specs.declared.binding.BoundFilter.TheVariants as filter
+use Rattle.name_binding.specs.declared.binding.BoundFilter.{BoundFilter}
+use Rattle.name_binding.specs.declared.binding.BoundFilter.TheVariants as filter
 use Rattle.set_filters.specs.Kinds.{filtering_of}
 use Rattle.set_filters.specs.Stops.{part}
 

@@ -7,8 +7,8 @@ use Rattle.stage_meanings.specs.Filtering.{Filtering, By, Merge}
 use Rattle.stage_meanings.specs.Filters.{Rule, Each, Places}
 use Rattle.stage_meanings.specs.Rules.{range, crop, assign, expression, decimation, head, returns, passing}
 use Rattle.stage_meanings.specs.declared.reason.Reason.{Reason}
-use Rattle.stage_options.specs.declared.binding.BoundFilter.{BoundFilter}
-use Rattle.stage_options.specs.declared.binding.BoundFilter.TheVariants as filter
+use Rattle.name_binding.specs.declared.binding.BoundFilter.{BoundFilter}
+use Rattle.name_binding.specs.declared.binding.BoundFilter.TheVariants as filter
 
 -- one row a filter: it judges by a rule the points that pass its `where`, or it merges all views
 abbrev pub filtering_of : BoundFilter → Option (Formula Dim) → Filtering

@@ -12,7 +12,7 @@ use crate::stops::{Span, before_stop, fault_of, first_stop};
 use crate::viewing::filter_view;
 use cloud_points::PointFault;
 use expr_eval::Bound;
-use stage_options::BoundFilter;
+use name_binding::BoundFilter;
 use std::alloc::{AllocError, Global};
 use whole_filters::Views;
 

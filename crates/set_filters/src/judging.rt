@@ -9,9 +9,9 @@ ghost use Rattle.set_filters.specs.Kinds.{rule_of, is_by_place, takes};
 
 use cloud_points::{Dim, Point};
 use expr_eval::{Assignment, Bound, holds, value};
+use name_binding::BoundFilter;
 use option_texts::Groups;
 use stage_meanings::Reason;
-use stage_options::BoundFilter;
 
 /// Whether the point passes a `where`; where there is none, each does.
 fn passes(only: &Option<Bound>, p: &Point) -> Result<bool, Reason>

@@ -11,8 +11,8 @@ ghost use Rattle.set_filters.specs.Stops.{number_at, numbered, IsIn, part, IsWit
 use crate::judging::at_point;
 use cloud_points::{Point, PointFault};
 use expr_eval::Bound;
+use name_binding::BoundFilter;
 use stage_meanings::Reason;
-use stage_options::BoundFilter;
 use whole_filters::Views;
 
 /// A point that can't be judged.

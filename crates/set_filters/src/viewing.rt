@@ -10,7 +10,7 @@ ghost use Rattle.set_filters.specs.Kinds.{rule_of, takes};
 use crate::judging::{given_for, is_by_place, is_passed, kept, takes};
 use cloud_points::Point;
 use expr_eval::Bound;
-use stage_options::BoundFilter;
+use name_binding::BoundFilter;
 use std::alloc::AllocError;
 use whole_filters::Views;
 

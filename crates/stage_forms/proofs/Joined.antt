@@ -13,7 +13,7 @@ use Rattle.forward_rules.specs.Forwarded.{ReadFile}
 use Rattle.las_reader.specs.declared.reader.LasReader.{LasReader}
 use Rattle.pipeline_json.specs.Lists.{has}
 use Rattle.point_formats.specs.Layouts.{dims_of, is_among}
-use Rattle.stage_options.specs.Ferries.{adds}
+use Rattle.name_binding.specs.Ferries.{adds}
 use Rattle.stage_options.specs.Roles.{is_reading}
 use Rattle.stage_options.specs.declared.stage.StageSpec.{StageSpec}
 use Rattle.answer_model.specs.Values.{Opened, IsDown, stage_at, role_at, options_at, reads_at, reads_with, dims_at, dims_with, names_at}

@@ -8,7 +8,7 @@ use Rattle.cloud_points.specs.declared.faults.PointFault.TheVariants as fault
 use Rattle.cloud_points.specs.declared.faults.StageFault.TheVariants as stage
 use Rattle.cloud_points.specs.declared.point.Point.{Point}
 use Rattle.expr_lang.specs.Formula.{Formula, number, name, binary}
-use Rattle.expr_lang.specs.declared.op.Op.TheVariants.{Equal, Plus, Over}
+use Rattle.expr_lang.specs.declared.op.BinaryOp.TheVariants.{Equal, Plus, Over}
 use Rattle.expr_eval.specs.declared.assignment.Assignment.{Assignment}
 use Rattle.stage_meanings.specs.declared.reason.Reason.{Reason}
 use Rattle.stage_meanings.specs.declared.reason.Reason.TheVariants.{DivideByZero, NotHeld, TooMany}

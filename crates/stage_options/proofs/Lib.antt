@@ -1,10 +1,1 @@
-pub mod Again
-pub mod Keys
-pub mod Named
-pub mod Own
-pub mod Elements
-pub mod Scales
-pub mod Shaped
-pub mod Steps
 pub mod Texts
-pub mod Others

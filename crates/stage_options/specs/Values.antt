@@ -1,14 +1,18 @@
 -- What a value of JSON is as an option.
-use Rattle.std.specs.Prelude.{ℕ, ℤ, pos, ◌*ℤ◌, unsigned_abs, ◌&&◌, ◌==◌, nat_le, nat_lt, Bool, true, false, not, List, length, codes, bytes_eq, Option, Some, None, option_and_then, if◌then◌else◌}
+use Rattle.std.specs.Prelude.{ℕ, ℤ, pos, ◌*ℤ◌, unsigned_abs, ◌&&◌, ◌==◌, nat_le, nat_lt, Bool, true, false, not, List, length, codes, bytes_eq, Option, Some, None, option_map, option_and_then, if◌then◌else◌}
 use Rattle.std.specs.List.{list_any, ends_with}
 use Rattle.std.specs.Result.{result_ok}
 use Rattle.std.specs.Str.{all_ascii_digits}
 use Rattle.std.specs.Str.Parse.{digits_value}
-use Rattle.serde_json.specs.Data.{Data, boolean, number, string}
-use Rattle.serde_json.specs.Find.{as_u64, as_i64}
+use Rattle.serde_json.specs.Data.{Data, boolean, number, string, Members}
+use Rattle.serde_json.specs.Find.{as_u64, as_i64, get_member}
 use Rattle.decimal_coords.specs.DecimalOfText.{decimal_of_text}
 use Rattle.las_header.specs.declared.form.Format.{Format}
 use Rattle.las_header.specs.Formats.{format_of}
+
+-- the value of an option. The file name stands beside the other members
+abbrev pub value_of : List ℕ → Option (List ℕ) → Members → Option Data
+value_of name filename ms = if bytes_eq name (codes "filename") then option_map string filename else get_member name ms
 
 -- ---- whole numbers below 2 ^ 32
 

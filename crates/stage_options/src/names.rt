@@ -1,9 +1,10 @@
 //! The names of files, such as the stages of a pipeline may have them.
 
-ghost use Rattle.std.specs.Prelude.{◌≡◌, ℕ, List, IsTrue};
+ghost use Rattle.std.specs.Prelude.{◌≡◌, ℕ, List, IsTrue, IfOk};
 ghost use Rattle.stage_options.specs.Values.{is_source, is_target};
 
 use file_devices::Name;
+use std::alloc::{AllocError, Global};
 use std::marker::Model;
 
 /// The name of a file that is read, which contracts see as the list of its bytes. It doesn't end as the name of a file that
@@ -76,4 +77,11 @@ impl TargetName {
     {
         self.name.as_str()
     }
+}
+
+/// A text as a name. Refused only where memory is wanting.
+pub fn name_from(alloc: Global, text: &str) -> Result<Name, AllocError>
+    ensures { IfOk result (λ name. name ≡ text.now) }
+{
+    Ok(Name::new(String::from_str(alloc, text)?))
 }

@@ -8,7 +8,7 @@ use stage_names::KindName;
 
 /// What an option may hold.
 #[derive(Clone, Copy, Drop)]
-pub(crate) enum Allowed {
+pub enum Allowed {
     /// A whole number from the first to the second.
     Whole(u32, u32),
 
@@ -69,7 +69,7 @@ pub(crate) enum Allowed {
 
 /// One option of a type, by its name and what it may hold.
 #[derive(Clone, Copy, Drop)]
-pub(crate) enum Rule {
+pub enum Rule {
     /// It has to be there.
     Required(&'static str, Allowed),
 
@@ -88,7 +88,7 @@ pub(crate) enum Rule {
 
 impl Rule {
     /// Its name.
-    pub(crate) fn name(&self) -> &'static str
+    pub fn name(&self) -> &'static str
         ensures { result.now ≡ (rule_view self.now).name }
     {
         match self {
@@ -101,7 +101,7 @@ impl Rule {
     }
 
     /// What it may hold.
-    pub(crate) fn allowed(&self) -> Allowed
+    pub fn allowed(&self) -> Allowed
         ensures { allowed_view result ≡ (rule_view self.now).allowed }
     {
         match self {
@@ -223,7 +223,7 @@ const WRITERS_TEXT: &[Rule] = &[
 ];
 
 /// The options of a type, in the order in which they are looked at. A merge has none.
-pub(crate) fn rules(kind: KindName) -> &'static [Rule]
+pub fn rules_of(kind: KindName) -> &'static [Rule]
     ensures { rules_view result.now ≡ rules_of kind }
 {
     match kind {

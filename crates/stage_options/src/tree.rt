@@ -23,7 +23,7 @@ impl Tree {
     ghost use Rattle.stage_options.specs.TreeShown.{specs_view};
 
     /// The tree of these stages. It takes no memory.
-    pub(crate) fn new(stages: Vec<StageSpec>) -> Self
+    pub fn new(stages: Vec<StageSpec>) -> Self
         requires is_tree { IsTree (shapes stages.items) }
         requires own { HaveOwnOptions stages.items }
         ensures { specs_view result ≡ stages.items }

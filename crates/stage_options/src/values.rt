@@ -9,7 +9,7 @@ ghost use Rattle.limits_text.specs.Texts.{ranges_of, bounds_of, polygon_of, poin
 ghost use Rattle.option_texts.specs.Ferries.{ferries_of};
 ghost use Rattle.stage_options.specs.Expressions.{condition_with, assignment_with, all_assignments, some_and_few, assignments_with};
 ghost use Rattle.stage_options.specs.Values.{text_whole, whole_of, format_with, whole_nano, decimal_of, text_truth, truth_of, is_part, is_source, is_target};
-ghost use Rattle.stage_options.specs.Faults.{value_of};
+ghost use Rattle.stage_options.specs.Values.{value_of};
 ghost use Rattle.stage_options.specs.Seen.{given_view};
 
 use decimal_coords::parse_decimal;
@@ -37,7 +37,7 @@ const NANO: i64 = 1_000_000_000;
 
 /// What an option is given.
 #[derive(Clone, Copy)]
-pub(crate) enum Given<'a> {
+pub enum Given<'a> {
     /// The stage's file name.
     Name(&'a str),
 
@@ -46,7 +46,7 @@ pub(crate) enum Given<'a> {
 }
 
 /// What the option of this name is given.
-pub(crate) fn value_of<'a>(
+pub fn value_of<'a>(
     filename: Option<&'a str>,
     options: &'a Map<String, Value>,
     name: &str,
@@ -230,7 +230,7 @@ fn some_and_few(list: Option<Vec<Assign>>) -> Option<Vec<Assign>>
 
 impl<'a> Given<'a> {
     /// The whole number that is given.
-    pub(crate) fn whole(self) -> Option<u32>
+    pub fn whole(self) -> Option<u32>
         ensures { result ≡ whole_of (given_view self.entry) }
     {
         match self {
@@ -242,14 +242,14 @@ impl<'a> Given<'a> {
     }
 
     /// The point data record format that is given by its number.
-    pub(crate) fn format(self) -> Option<Format>
+    pub fn format(self) -> Option<Format>
         ensures { result ≡ format_with (given_view self.entry) }
     {
         Format::of_number(u8::try_from(self.whole()?).ok()?)
     }
 
     /// The decimal that is given, in nanounits.
-    pub(crate) fn decimal(self) -> Option<i64>
+    pub fn decimal(self) -> Option<i64>
         ensures { result ≡ decimal_of (given_view self.entry) }
     {
         match self {
@@ -261,7 +261,7 @@ impl<'a> Given<'a> {
     }
 
     /// The truth value that is given.
-    pub(crate) fn truth(self) -> Option<bool>
+    pub fn truth(self) -> Option<bool>
         ensures { result ≡ truth_of (given_view self.entry) }
     {
         match self {
@@ -273,7 +273,7 @@ impl<'a> Given<'a> {
     }
 
     /// The condition that is given. Refused only where memory is wanting.
-    pub(crate) fn condition(self, alloc: Global) -> Result<Option<Expr>, AllocError>
+    pub fn condition(self, alloc: Global) -> Result<Option<Expr>, AllocError>
         ensures { IfOk result (λ o. o ≡ condition_with (given_view self.entry)) }
     {
         match self.text() {
@@ -283,7 +283,7 @@ impl<'a> Given<'a> {
     }
 
     /// The assignments that are given, by a text or by an array of 1 to 64 texts. Refused only where memory is wanting.
-    pub(crate) fn assignments(self, alloc: Global) -> Result<Option<Vec<Assign>>, AllocError>
+    pub fn assignments(self, alloc: Global) -> Result<Option<Vec<Assign>>, AllocError>
         ensures { IfOk result (λ o. option_map (λ list. list.items) o ≡ assignments_with (given_view self.entry)) }
     {
         match self {
@@ -295,21 +295,21 @@ impl<'a> Given<'a> {
     }
 
     /// The box that is given.
-    pub(crate) fn bounds(self) -> Option<Box3>
+    pub fn bounds(self) -> Option<Box3>
         ensures { result ≡ option_and_then bounds_of (as_str (given_view self.entry)) }
     {
         bounds(self.text()?)
     }
 
     /// The point that is given, in nanounits.
-    pub(crate) fn point(self) -> Option<(i64, i64)>
+    pub fn point(self) -> Option<(i64, i64)>
         ensures { result ≡ option_and_then point_of (as_str (given_view self.entry)) }
     {
         point(self.text()?)
     }
 
     /// The ranges that are given. Refused only where memory is wanting.
-    pub(crate) fn ranges(self, alloc: Global) -> Result<Option<RangeList>, AllocError>
+    pub fn ranges(self, alloc: Global) -> Result<Option<RangeList>, AllocError>
         ensures { IfOk result (λ o. o ≡ option_and_then ranges_of (as_str (given_view self.entry))) }
     {
         match self.text() {
@@ -319,7 +319,7 @@ impl<'a> Given<'a> {
     }
 
     /// The ring that is given. Refused only where memory is wanting.
-    pub(crate) fn polygon(self, alloc: Global) -> Result<Option<Polygon>, AllocError>
+    pub fn polygon(self, alloc: Global) -> Result<Option<Polygon>, AllocError>
         ensures { IfOk result (λ o. o ≡ option_and_then polygon_of (as_str (given_view self.entry))) }
     {
         match self.text() {
@@ -329,7 +329,7 @@ impl<'a> Given<'a> {
     }
 
     /// The ferries that are given. Refused only where memory is wanting.
-    pub(crate) fn ferries(self, alloc: Global) -> Result<Option<NamedFerries>, AllocError>
+    pub fn ferries(self, alloc: Global) -> Result<Option<NamedFerries>, AllocError>
         ensures { IfOk result (λ o. o ≡ option_and_then ferries_of (as_str (given_view self.entry))) }
     {
         match self.text() {
@@ -339,7 +339,7 @@ impl<'a> Given<'a> {
     }
 
     /// The text that is given.
-    pub(crate) fn text(self) -> Option<&'a str>
+    pub fn text(self) -> Option<&'a str>
         ensures { option_map (λ s. s.now) result ≡ as_str (given_view self.entry) }
     {
         match self {
@@ -357,14 +357,14 @@ fn is_part(name: &str) -> bool
 }
 
 /// Whether a name may be that of a file that is read.
-pub(crate) fn is_source(name: &str) -> bool
+pub fn is_source(name: &str) -> bool
     ensures { result ≡ is_source name.now }
 {
     !is_part(name)
 }
 
 /// Whether a name may be that of a file that is written.
-pub(crate) fn is_target(name: &str) -> bool
+pub fn is_target(name: &str) -> bool
     ensures { result ≡ is_target name.now }
 {
     !is_part(name) && !name.as_bytes().contains(&b'#')

@@ -29,12 +29,12 @@ use Rattle.stage_options.specs.Roles.{Role}
 use Rattle.stage_options.specs.Roles as role
 use Rattle.stage_options.specs.declared.options.Options.{Options}
 use Rattle.stage_options.specs.declared.options.Options.TheVariants.{WritersLas, WritersText}
-use Rattle.stage_options.specs.declared.binding.BoundFilter.{BoundFilter}
-use Rattle.stage_options.specs.declared.binding.BoundFilter.TheVariants as bound
-use Rattle.stage_options.specs.declared.binding.BoundStage.{BoundStage}
-use Rattle.stage_options.specs.declared.binding.BoundStage.TheVariants as does
-use Rattle.stage_options.specs.Binding.{bound_stage}
-use Rattle.stage_options.specs.Ferries.{names_behind}
+use Rattle.name_binding.specs.declared.binding.BoundFilter.{BoundFilter}
+use Rattle.name_binding.specs.declared.binding.BoundFilter.TheVariants as bound
+use Rattle.name_binding.specs.declared.binding.BoundStage.{BoundStage}
+use Rattle.name_binding.specs.declared.binding.BoundStage.TheVariants as does
+use Rattle.name_binding.specs.Binding.{bound_stage}
+use Rattle.name_binding.specs.Ferries.{names_behind}
 use Rattle.stage_meanings.specs.ByRule.{spot_at}
 use Rattle.stream_filters.specs.declared.filter.Filter.{Filter as Filtering}
 use Rattle.stream_filters.specs.declared.filter.Filter.TheVariants as filter

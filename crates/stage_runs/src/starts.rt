@@ -10,9 +10,10 @@ use cloud_points::ExtraNames;
 use expr_eval::Bound;
 use file_devices::Source;
 use las_reader::LasReader;
+use name_binding::{BoundFilter, BoundStage};
 use stage_forms::{las_form, text_form};
 use stage_kinds::{FileForm, StageForm, Writing};
-use stage_options::{BoundFilter, BoundStage, Options};
+use stage_options::Options;
 use std::alloc::{AllocError, Global};
 use stream_filters::{Condition, Crop, Decimation, Filter, Head, PointFilter};
 

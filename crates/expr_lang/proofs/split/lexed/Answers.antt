@@ -1,6 +1,7 @@
 use Rattle.std.proofs.Common.{◌≡◌, [], ◌∷◌, arith, length, drop, get_or, sym, ap, ◌∙◌, append-nil, append_assoc, true, false}
 use Rattle.std.proofs.lemmas.List.{drop_all}
-use Rattle.expr_lang.specs.Lexical.{at_end, is_space}
+use Rattle.expr_lang.specs.Lexical.{at_end}
+use Rattle.text_bytes.specs.Bytes.{is_space}
 use Rattle.expr_lang.proofs.Spans.{space_on, token_on}
 use Rattle.expr_lang.proofs.split.lexed.Goals as goal
 

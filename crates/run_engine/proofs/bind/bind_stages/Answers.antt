@@ -4,8 +4,8 @@ use Rattle.std.proofs.lemmas.Option.{slice_get_read}
 use Rattle.stage_kinds.specs.declared.file_form.StageForm.{StageForm}
 use Rattle.answer_model.proofs.Values.{tree-down}
 use Rattle.answer_model.specs.Values.{options_at, role_at, names_at, setting_at}
-use Rattle.stage_options.specs.Binding.{binding_fault}
-use Rattle.stage_options.specs.Ferries.{names_behind, adds}
+use Rattle.name_binding.specs.Binding.{binding_fault}
+use Rattle.name_binding.specs.Ferries.{names_behind, adds}
 use Rattle.stage_options.specs.declared.stage.StageSpec.{StageSpec}
 use Rattle.stage_forms.specs.Below.{reads_in, AreBelow, AreInside, IsBelow, StandsBelow}
 use Rattle.stage_forms.specs.declared.below.Below.{Below}

@@ -1,0 +1,14 @@
+-- The extra names behind some first ones of ferries.
+use Rattle.std.proofs.Common.{◌≡◌, ◌<◌, ◌+◌, ℕ, zero, suc, List, [], ◌∷◌, length, get_or, take, ap, sym, ◌∙◌, arith}
+use Rattle.std.proofs.lemmas.List.{take_all}
+use Rattle.option_texts.specs.declared.ferries.NamedFerry.{NamedFerry}
+use Rattle.name_binding.specs.Ferries.{with_target, with_targets, AreBehindSome}
+
+pub one_more : (names : List (List ℕ)) (fs : List NamedFerry) (i : ℕ) (f : NamedFerry) → i < length fs → get_or fs i f ≡ f
+    → with_targets names (take (i + 1) fs) ≡ with_target (with_targets names (take i fs)) f.to
+one_more names [] i f h e = absurd (omega (arith, h))
+one_more names (g ∷ fs) zero f h e = ap (λ x. with_target names x.to) e
+one_more names (g ∷ fs) (suc i) f h e = one_more (with_target names g.to) fs i f (omega (arith, h)) e
+
+pub all_behind : (names : List (List ℕ)) (fs : List NamedFerry) (behind : List (List ℕ)) → behind ≡ with_targets names fs → AreBehindSome names fs behind
+all_behind names fs behind e = (length fs, e ∙ ap (with_targets names) (sym (take_all (length fs) fs (omega arith))))

@@ -1,0 +1,7 @@
+//! The options of a stage with dimensions in place of the names in them.
+#![tactic(auto)]
+
+mod binding;
+mod ferries;
+
+pub use binding::{BoundFilter, BoundStage, bind};

@@ -1,8 +1,0 @@
-use Rattle.std.proofs.Common.{◌≡◌, drop, option_map}
-use Rattle.serde_json.specs.View.{members_view}
-use Rattle.stage_options.specs.Faults.{first_wrong}
-use Rattle.stage_options.specs.Seen.{rules_view}
-use Rattle.stage_options.proofs.walks.first_wrong.Given as goal
-
-abbrev pub invariant-loop-rule : goal.invariant-loop-rule
-invariant-loop-rule l = first_wrong (rules_view l.table) (option_map (λ s. s.now) l.filename) (members_view l.options.entries) ≡ first_wrong (rules_view (drop l.rule-index l.table)) (option_map (λ s. s.now) l.filename) (members_view l.options.entries)

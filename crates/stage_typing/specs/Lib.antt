@@ -1,0 +1,4 @@
+pub mod OptionFaults
+pub mod Outputs
+pub mod Typed
+pub mod TypedTree

@@ -1,0 +1,224 @@
+//! The typed options of a stage, or their first fault.
+
+ghost use Rattle.std.specs.Prelude.{◌≡◌, [], option_map, None, IfOk, IfErr, OnOk, IsTrue};
+ghost use Rattle.std.specs.Option.{unwrap_or};
+ghost use Rattle.serde_json.specs.View.{members_view};
+ghost use Rattle.stage_typing.specs.Typed.{typed_of, is_named, range_options, crop_options, assign_options, ferry_options, expression_options, decimation_options, head_options, returns_options, sort_options, tail_options, groupby_options, las_writer_options, text_options_in};
+ghost use Rattle.stage_typing.specs.OptionFaults.{first_fault};
+ghost use Rattle.stage_options.specs.Faults.{IsFaultOf};
+ghost use Rattle.stage_options.specs.Values.{is_source, is_target};
+ghost use Rattle.stage_options.specs.declared.options.Options.TheVariants as typed_as;
+
+use crate::members::{
+    assignments_in, expression_in, ferries_in, groups_in, is_down, las_fields, name_in, number_in,
+    ranges_in, shape_in, text_options, truth_or, where_in, whole_or,
+};
+use crate::walks::refuse;
+use serde_json::{Map, Value};
+use stage_names::{KindName, PipeErr};
+use stage_options::{
+    AssignOptions, CropOptions, DecimationOptions, ExpressionOptions, FerryOptions, GroupbyOptions,
+    HeadOptions, LasReaderOptions, LasWriterOptions, MergeOptions, Options, RangeOptions,
+    ReturnsOptions, SortOptions, SourceName, TailOptions, TargetName, name_from, rules_of,
+};
+use std::alloc::{AllocError, Global};
+
+/// The name of a reader's file.
+fn source_name(alloc: Global, filename: Option<&str>) -> Result<SourceName, AllocError>
+    requires { IsTrue (is_source (unwrap_or (option_map (λ s. s.now) filename) [])) }
+    ensures { IfOk result (λ name. name ≡ unwrap_or (option_map (λ s. s.now) filename.entry) []) }
+{
+    let name = name_from(alloc, filename.unwrap_or(""))?;
+    Ok(SourceName::new(name))
+}
+
+/// The name of a writer's file.
+fn target_name(alloc: Global, filename: Option<&str>) -> Result<TargetName, AllocError>
+    requires { IsTrue (is_target (unwrap_or (option_map (λ s. s.now) filename) [])) }
+    ensures { IfOk result (λ name. name ≡ unwrap_or (option_map (λ s. s.now) filename.entry) []) }
+{
+    let name = name_from(alloc, filename.unwrap_or(""))?;
+    Ok(TargetName::new(name))
+}
+
+fn filters_range(alloc: Global, options: &Map<String, Value>) -> Result<Options, AllocError>
+    ensures { IfOk result (λ o. o ≡ typed_as.FiltersRange (range_options (members_view options.now.entries))) }
+{
+    let limits = ranges_in(alloc, options)?;
+    let only = where_in(alloc, options)?;
+    Ok(Options::FiltersRange(RangeOptions { limits, only }))
+}
+
+fn filters_crop(alloc: Global, options: &Map<String, Value>) -> Result<Options, AllocError>
+    ensures { IfOk result (λ o. o ≡ typed_as.FiltersCrop (crop_options (members_view options.now.entries))) }
+{
+    let shape = shape_in(alloc, options)?;
+    let outside = truth_or(options, "outside", false);
+    let only = where_in(alloc, options)?;
+    Ok(Options::FiltersCrop(CropOptions {
+        shape,
+        outside,
+        only,
+    }))
+}
+
+fn filters_assign(alloc: Global, options: &Map<String, Value>) -> Result<Options, AllocError>
+    ensures { IfOk result (λ o. o ≡ typed_as.FiltersAssign (assign_options (members_view options.now.entries))) }
+{
+    let assignments = assignments_in(alloc, options)?;
+    let only = where_in(alloc, options)?;
+    Ok(Options::FiltersAssign(AssignOptions { assignments, only }))
+}
+
+fn filters_ferry(alloc: Global, options: &Map<String, Value>) -> Result<Options, AllocError>
+    ensures { IfOk result (λ o. o ≡ typed_as.FiltersFerry (ferry_options (members_view options.now.entries))) }
+{
+    let ferries = ferries_in(alloc, options)?;
+    let only = where_in(alloc, options)?;
+    Ok(Options::FiltersFerry(FerryOptions { ferries, only }))
+}
+
+fn filters_expression(alloc: Global, options: &Map<String, Value>) -> Result<Options, AllocError>
+    ensures { IfOk result (λ o. o ≡ typed_as.FiltersExpression (expression_options (members_view options.now.entries))) }
+{
+    let expression = expression_in(alloc, options)?;
+    let only = where_in(alloc, options)?;
+    Ok(Options::FiltersExpression(ExpressionOptions { expression, only }))
+}
+
+fn filters_decimation(alloc: Global, options: &Map<String, Value>) -> Result<Options, AllocError>
+    ensures { IfOk result (λ o. o ≡ typed_as.FiltersDecimation (decimation_options (members_view options.now.entries))) }
+{
+    let only = where_in(alloc, options)?;
+    Ok(Options::FiltersDecimation(DecimationOptions {
+        step: whole_or(options, "step", 1),
+        offset: whole_or(options, "offset", 0),
+        limit: number_in(options, "limit"),
+        only,
+    }))
+}
+
+fn filters_head(alloc: Global, options: &Map<String, Value>) -> Result<Options, AllocError>
+    ensures { IfOk result (λ o. o ≡ typed_as.FiltersHead (head_options (members_view options.now.entries))) }
+{
+    let count = whole_or(options, "count", 10);
+    let only = where_in(alloc, options)?;
+    Ok(Options::FiltersHead(HeadOptions { count, only }))
+}
+
+fn filters_returns(alloc: Global, options: &Map<String, Value>) -> Result<Options, AllocError>
+    ensures { IfOk result (λ o. o ≡ typed_as.FiltersReturns (returns_options (members_view options.now.entries))) }
+{
+    let groups = groups_in(options);
+    let only = where_in(alloc, options)?;
+    Ok(Options::FiltersReturns(ReturnsOptions { groups, only }))
+}
+
+fn filters_sort(alloc: Global, options: &Map<String, Value>) -> Result<Options, AllocError>
+    ensures { IfOk result (λ o. o ≡ typed_as.FiltersSort (sort_options (members_view options.now.entries))) }
+{
+    let dimension = name_in(alloc, options, "dimension")?;
+    let down = is_down(options);
+    Ok(Options::FiltersSort(SortOptions { dimension, down }))
+}
+
+fn filters_tail(options: &Map<String, Value>) -> Options
+    ensures { result ≡ typed_as.FiltersTail (tail_options (members_view options.now.entries)) }
+{
+    let count = whole_or(options, "count", 10);
+    Options::FiltersTail(TailOptions { count })
+}
+
+fn filters_groupby(alloc: Global, options: &Map<String, Value>) -> Result<Options, AllocError>
+    ensures { IfOk result (λ o. o ≡ typed_as.FiltersGroupby (groupby_options (members_view options.now.entries))) }
+{
+    let dimension = name_in(alloc, options, "dimension")?;
+    Ok(Options::FiltersGroupby(GroupbyOptions { dimension }))
+}
+
+fn readers_las(alloc: Global, filename: Option<&str>) -> Result<Options, AllocError>
+    requires { IsTrue (is_source (unwrap_or (option_map (λ s. s.now) filename) [])) }
+    ensures { IfOk result (λ o. o
+        ≡ typed_as.ReadersLas (record { filename = unwrap_or (option_map (λ s. s.now) filename.entry) [] })) }
+{
+    let filename = source_name(alloc, filename)?;
+    Ok(Options::ReadersLas(LasReaderOptions { filename }))
+}
+
+fn writers_las(
+    alloc: Global,
+    filename: Option<&str>,
+    options: &Map<String, Value>,
+) -> Result<Options, AllocError>
+    requires { IsTrue (is_target (unwrap_or (option_map (λ s. s.now) filename) [])) }
+    ensures { IfOk result (λ o. o ≡ typed_as.WritersLas
+        (las_writer_options (unwrap_or (option_map (λ s. s.now) filename.entry) []) (members_view options.now.entries))) }
+{
+    let filename = target_name(alloc, filename)?;
+    let fields = las_fields(alloc, options)?;
+    let only = where_in(alloc, options)?;
+    Ok(Options::WritersLas(LasWriterOptions {
+        filename,
+        fields,
+        only,
+    }))
+}
+
+fn writers_text(
+    alloc: Global,
+    filename: Option<&str>,
+    options: &Map<String, Value>,
+) -> Result<Options, AllocError>
+    requires { IsTrue (is_target (unwrap_or (option_map (λ s. s.now) filename) [])) }
+    ensures { IfOk result (λ o. o ≡ typed_as.WritersText
+        (text_options_in (unwrap_or (option_map (λ s. s.now) filename.entry) []) (members_view options.now.entries))) }
+{
+    let filename = target_name(alloc, filename)?;
+    Ok(Options::WritersText(text_options(alloc, filename, options)?))
+}
+
+/// The options of a stage of this type, with this file name and these other members.
+fn typed(
+    alloc: Global,
+    kind: KindName,
+    filename: Option<&str>,
+    options: &Map<String, Value>,
+) -> Result<Options, AllocError>
+    requires { IsTrue (is_named kind (option_map (λ s. s.now) filename)) }
+    ensures { IfOk result (λ o. o ≡ typed_of kind (option_map (λ s. s.now) filename.entry) (members_view options.now.entries)) }
+{
+    match kind {
+        KindName::ReadersLas => readers_las(alloc, filename),
+        KindName::FiltersRange => filters_range(alloc, options),
+        KindName::FiltersCrop => filters_crop(alloc, options),
+        KindName::FiltersAssign => filters_assign(alloc, options),
+        KindName::FiltersFerry => filters_ferry(alloc, options),
+        KindName::FiltersExpression => filters_expression(alloc, options),
+        KindName::FiltersDecimation => filters_decimation(alloc, options),
+        KindName::FiltersHead => filters_head(alloc, options),
+        KindName::FiltersReturns => filters_returns(alloc, options),
+        KindName::FiltersMerge => Ok(Options::FiltersMerge(MergeOptions {})),
+        KindName::FiltersSort => filters_sort(alloc, options),
+        KindName::FiltersTail => Ok(filters_tail(options)),
+        KindName::FiltersGroupby => filters_groupby(alloc, options),
+        KindName::WritersLas => writers_las(alloc, filename, options),
+        KindName::WritersText => writers_text(alloc, filename, options),
+    }
+}
+
+/// The options of stage i, of this type, with this file name and these other members, or their first fault. The other
+/// members hold neither the file name nor the type, the tag and the inputs.
+pub(crate) fn type_options(
+    alloc: Global,
+    kind: KindName,
+    filename: Option<&str>,
+    options: &Map<String, Value>,
+    i: u32,
+) -> Result<Options, PipeErr>
+    ensures no_fault { OnOk result (first_fault i kind (option_map (λ s. s.now) filename.entry) (members_view options.now.entries) ≡ None) }
+    ensures ok { IfOk result (λ o. o ≡ typed_of kind (option_map (λ s. s.now) filename.entry) (members_view options.now.entries)) }
+    ensures fault { IfErr result (IsFaultOf (first_fault i kind (option_map (λ s. s.now) filename.entry) (members_view options.now.entries))) }
+{
+    refuse(alloc, rules_of(kind), filename, options, i)?;
+    Ok(typed(alloc, kind, filename, options)?)
+}
