@@ -21,6 +21,7 @@ impl HeldViews {
     ghost use Rattle.std.specs.Prelude.{◌≡◌, ◌+◌, ◌-◌, ◌<◌, ◌≤◌, ◌++◌, [], true, false, None, min, length, take, drop};
     ghost use Rattle.arrayvec.specs.ArrayVec.{array_vec_len};
     ghost use Rattle.cloud_points.specs.Makes.{made, made_fault, gives_points, gives_end};
+    ghost use Rattle.cloud_points.specs.declared.faults.Make.{Make};
     ghost use Rattle.cloud_points.specs.Marks.{flow_marks, marks, views_in};
     ghost use Rattle.network_theory.specs.Net.{count_views, count_points};
     ghost use Rattle.view_works.specs.Giving.{still_gives};
@@ -40,7 +41,7 @@ impl HeldViews {
     }
 
     /// Puts the next 1 to `chunk` points in place of what the spread held, or answers an end and leaves the spread empty: that of a
-    /// view, or behind the last one that of all.
+    /// view, or behind the last one that of all. Behind its end it answers that end again, and stays as it is.
     pub fn make(&mut self, chunk: usize, into: &mut Spread) -> Make
         requires some { 0 < chunk }
         requires most { chunk ≤ 64 }
@@ -52,6 +53,7 @@ impl HeldViews {
             ≡ marks (made result into.new.items) ++ still_gives self.new.ended self.new.views self.new.view self.new.at }
         ensures ended { gives_end result ≡ true → self.new.ended ≡ true }
         ensures goes_on { gives_end result ≡ false → self.new.ended ≡ self.old.ended }
+        ensures again { self.old.ended ≡ true → (result ≡ Make.End self.old.views.cut None) × (self.new ≡ self.old) }
         ensures fewer_points { count_points (still_gives self.new.ended self.new.views self.new.view self.new.at) + array_vec_len into.new
             ≤ count_points (still_gives self.old.ended self.old.views self.old.view self.old.at) }
         ensures fewer_views { count_views (still_gives self.new.ended self.new.views self.new.view self.new.at) + views_in (made result into.new.items)
