@@ -16,7 +16,7 @@ use Rattle.network_theory.specs.History.{all_item_points}
 use Rattle.network_theory.specs.Net as net
 use Rattle.network_theory.specs.Sound.{IsNode}
 use Rattle.network_theory.proofs.CarriedTurn.{Carries, turn-carries, carried-same}
-use Rattle.network_theory.proofs.Histories.{Hands, GivesNone, GivesOne, turn-hands}
+use Rattle.network_theory.proofs.Hands.{Hands, GivesNone, GivesOne, turn-hands}
 use Rattle.network_theory.proofs.Keeps.{Moved, turn-moved}
 use Rattle.network_core.specs.declared.node.Node.{Node}
 use Rattle.network_core.specs.declared.turned.Turned.{Turned}

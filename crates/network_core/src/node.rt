@@ -5,8 +5,9 @@ ghost use Rattle.arrayvec.specs.ArrayVec.{array_vec_len};
 ghost use Rattle.network_core.specs.Hands.{holds_points};
 
 mod ruled;
+mod taking;
 
-use crate::parts::{first, hand_of};
+use crate::parts::first;
 use crate::turned::{Turned, Why};
 use chunk_queue::{ItemKind, PlainQueue, Tag};
 use cloud_points::{Make, Spread, StageFault, Work};
@@ -44,16 +45,14 @@ pub struct Node<W> {
 }
 
 impl<W: Work> Node<W> {
-    ghost use Rattle.std.specs.Prelude.{◌≡◌, ◌<◌, ◌≤◌, ◌+◌, ◌↔◌, ℕ, List, [], Bool, true, false, Some, None, Option, cond, is_none, is_some, length};
+    ghost use Rattle.std.specs.Prelude.{◌≡◌, ◌<◌, ◌≤◌, ◌+◌, ◌↔◌, ℕ, List, [], Bool, true, false, Some, None, Option, is_none, is_some, length};
     ghost use Rattle.cloud_points.specs.declared.point.Point.{Point};
     ghost use Rattle.cloud_points.specs.declared.faults.StageFault.{StageFault};
     ghost use Rattle.cloud_points.specs.Bodies.{bodies, numbers};
     ghost use Rattle.cloud_points.specs.Marks.{Item};
-    ghost use Rattle.cloud_points.specs.Marks as marks;
-    ghost use Rattle.chunk_queue.specs.Slots.{brings_points};
     ghost use Rattle.network_theory.specs.Net as net;
     ghost use Rattle.network_theory.specs.Opening.{IsFresh};
-    ghost use Rattle.network_theory.specs.History.{points_taken, item_points};
+    ghost use Rattle.network_theory.specs.History.{points_taken};
     ghost use Rattle.network_core.specs.Hands.{kind_item, seen_hand};
     ghost use Rattle.network_core.specs.Shown.{shown, new_node, work_of, current_of, chosen, choice, made_choice, new_fault, left, turned};
     ghost use Rattle.network_core.specs.Calm.{Calm, NoEvent, Told, Obeys};
@@ -382,85 +381,6 @@ impl<W: Work> Node<W> {
             Some(tag) => {
                 self.take(tag.kind);
                 Turned::Took
-            }
-        }
-    }
-
-    /// Takes an item, whose points lie in the spread.
-    fn take(&mut self, kind: ItemKind)
-        requires inner { W.leaf self.old.work ≡ false }
-        requires hand { self.old.hand ≡ None }
-        requires undone { self.old.done ≡ false }
-        requires no_end { self.old.ending ≡ false }
-        requires more { self.old.ended < self.old.inputs }
-        requires some { brings_points kind ≡ true → 0 < length self.old.spread.items }
-        ensures taken { (ins : List ℕ) → shown W.Work ins self.new ≡ net.taken (chosen W.Work self.old self.new) (shown W.Work ins self.old) (kind_item kind self.old.spread.items) }
-        ensures calm { Calm W.Work self.old self.new }
-        ensures holds { HoldsMore W.Work self.old self.new (item_points (kind_item kind self.old.spread.items)) }
-    {
-        match kind {
-            ItemKind::Points => self.take_points(),
-            ItemKind::EndView => self.take_view(),
-            ItemKind::End(cut) => self.take_end(cut),
-        }
-    }
-
-    /// Points that were taken go through the work.
-    fn take_points(&mut self)
-        requires inner { W.leaf self.old.work ≡ false }
-        requires hand { self.old.hand ≡ None }
-        requires undone { self.old.done ≡ false }
-        requires no_end { self.old.ending ≡ false }
-        requires some { 0 < length self.old.spread.items }
-        ensures taken { (ins : List ℕ) → shown W.Work ins self.new ≡ net.taken (chosen W.Work self.old self.new) (shown W.Work ins self.old) (marks.Points self.old.spread.items) }
-        ensures calm { Calm W.Work self.old self.new }
-        ensures holds { HoldsMore W.Work self.old self.new self.old.spread.items }
-    {
-        if self.fault.is_some() {
-            return;
-        }
-        self.fault = self.work.on_chunk(&mut self.spread);
-        self.hand = hand_of(&self.spread);
-    }
-
-    /// The end of a view that was taken goes on where the work says so.
-    fn take_view(&mut self)
-        requires inner { W.leaf self.old.work ≡ false }
-        requires hand { self.old.hand ≡ None }
-        requires undone { self.old.done ≡ false }
-        requires no_end { self.old.ending ≡ false }
-        ensures taken { (ins : List ℕ) → shown W.Work ins self.new ≡ net.taken (chosen W.Work self.old self.new) (shown W.Work ins self.old) marks.End_view }
-        ensures calm { Calm W.Work self.old self.new }
-        ensures holds { KeepsHolding W.Work self.old self.new }
-    {
-        if self.fault.is_some() {
-            return;
-        }
-        if self.work.on_end_view() {
-            self.hand = Some(ItemKind::EndView);
-        }
-    }
-
-    /// An end that was taken leads to the next input, or ends the node's.
-    fn take_end(&mut self, cut: bool)
-        requires inner { W.leaf self.old.work ≡ false }
-        requires hand { self.old.hand ≡ None }
-        requires undone { self.old.done ≡ false }
-        requires no_end { self.old.ending ≡ false }
-        requires more { self.old.ended < self.old.inputs }
-        ensures taken { (ins : List ℕ) → shown W.Work ins self.new ≡ net.taken (chosen W.Work self.old self.new) (shown W.Work ins self.old) (marks.End_all cut) }
-        ensures calm { Calm W.Work self.old self.new }
-        ensures holds { KeepsHolding W.Work self.old self.new }
-    {
-        self.cut |= cut;
-        self.ended += 1;
-        if self.ended == self.inputs {
-            let is_cut = self.cut | self.fault.is_some();
-            if self.work.on_end(is_cut) {
-                self.hand = Some(ItemKind::EndView);
-                self.ending = true;
-            } else {
-                self.hand = Some(ItemKind::End(is_cut));
             }
         }
     }

@@ -5,6 +5,7 @@ pub mod Rest
 pub mod Due
 pub mod Openings
 pub mod Flights
+pub mod Hands
 pub mod Histories
 pub mod Finals
 pub mod Falls

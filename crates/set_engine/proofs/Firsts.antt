@@ -15,7 +15,7 @@ use Rattle.stage_kinds.specs.declared.file_form.Writing.{Writing}
 use Rattle.stage_kinds.specs.declared.writer_stage.TakeErr.{TakeErr}
 use Rattle.stage_kinds.specs.declared.writer_stage.TakeErr.TheVariants.{Refused}
 use Rattle.stage_kinds.specs.Takes.{IsUntaken}
-use Rattle.stage_meanings.specs.Admitting.{refused_append}
+use Rattle.stage_meanings.proofs.Admits.{refused_append}
 use Rattle.stage_meanings.specs.Conditions.{passes}
 use Rattle.stage_meanings.specs.Filtering.{filtered_stop}
 use Rattle.stage_meanings.specs.Filters.{is_true, positions, first_from, found, refused_by, first_refused, point_fault}

@@ -6,11 +6,12 @@ use Rattle.cloud_points.specs.Events.{is_device, IsOf}
 use Rattle.cloud_points.specs.Queue.{up_to_limit}
 use Rattle.cloud_points.specs.declared.faults.StageFault.{StageFault}
 use Rattle.file_devices.specs.declared.devices.Op.{Op}
-use Rattle.stage_meanings.specs.Admitting.{Admits, admits, refused_within, told_behind}
+use Rattle.stage_meanings.specs.Admitting.{told_behind}
+use Rattle.stage_meanings.proofs.Admits.{Admits, admits, refused_within}
 use Rattle.stage_meanings.specs.ByRule.{IsWithin}
 use Rattle.stage_meanings.specs.Conditions.{passes}
 use Rattle.stage_meanings.specs.Filters.{points_before}
-use Rattle.stage_meanings.specs.Spots.{same_spot}
+use Rattle.stage_meanings.proofs.Spots.{same_spot}
 use Rattle.stage_meanings.specs.Steps.{given, reached, stopped}
 use Rattle.stage_meanings.specs.declared.reason.Reason.{Reason}
 use Rattle.stage_meanings.specs.declared.spot.Spot.{Spot}

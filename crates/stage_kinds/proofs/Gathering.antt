@@ -6,7 +6,7 @@ use Rattle.cloud_points.specs.declared.faults.StageFault.{StageFault}
 use Rattle.cloud_points.specs.Flows.{Flow, empty_flow}
 use Rattle.cloud_points.specs.Marks.{Mark, At, View_end, End, flow_marks}
 use Rattle.network_theory.specs.Machine.{Machine, next, after_all, at_last, one_end, at_start, made_of, state_after}
-use Rattle.stage_meanings.specs.Through.{lifted_gives}
+use Rattle.stage_meanings.proofs.Through.{lifted_gives}
 use Rattle.whole_filters.specs.declared.gathering.Gathering.{Gathering}
 use Rattle.view_works.specs.Collecting.{Held, collecting}
 use Rattle.view_works.proofs.Collected.{collected, gave-all}

@@ -15,8 +15,8 @@ use Rattle.las_writer.specs.Records.{fits, written, unplaced, refused_or, refusa
 use Rattle.las_writer.specs.declared.faults.RecordFault.{RecordFault}
 use Rattle.point_formats.specs.declared.encoding.EncodeFault.{EncodeFault}
 use Rattle.point_formats.specs.declared.encoding.EncodeFault.TheVariants as encode
-use Rattle.stage_meanings.specs.Admitting.{refused_within, refused_append, refused_anyhow, none_before}
-use Rattle.stage_meanings.specs.Choosing.{none_refused as chosen_none, one_refused as chosen_one, none_of_chosen}
+use Rattle.stage_meanings.proofs.Admits.{refused_within, refused_append, refused_anyhow, none_before}
+use Rattle.stage_meanings.proofs.Choosing.{none_refused as chosen_none, one_refused as chosen_one, none_of_chosen}
 use Rattle.stage_meanings.specs.Conditions.{passes}
 use Rattle.stage_meanings.specs.Filters.{found, first_refused, first_unjudged, if_passing, is_true, points_before}
 use Rattle.stage_meanings.specs.Places.{IsPlaceOf}

@@ -7,14 +7,14 @@ use Rattle.cloud_points.specs.Flows.{Flow, points}
 use Rattle.cloud_points.specs.Marks.{flow_marks}
 use Rattle.cloud_points.specs.Queue.{up_to_limit}
 use Rattle.network_theory.specs.Machine.{made_of, fault_on}
-use Rattle.stage_meanings.specs.Admitting.{admitting_stops, admitting_streams}
+use Rattle.stage_meanings.proofs.Admits.{admitting_stops, admitting_streams}
 use Rattle.stage_meanings.specs.ByRule.{spot_at}
 use Rattle.stage_meanings.specs.Conditions.{passes}
 use Rattle.stage_meanings.specs.Filtering.{Filtering, filtered, filtered_stop, filter_meaning, same_fault}
 use Rattle.stage_meanings.specs.Filters.{admitted, told_stop}
-use Rattle.stage_meanings.specs.FiltersStream.{filters_give, filters_fault}
-use Rattle.stage_meanings.specs.Streams.{StreamsBy, streams_give, streams_fault, views_same}
-use Rattle.stage_meanings.specs.Through.{lifted_gives, lifted_faults}
+use Rattle.stage_meanings.proofs.FiltersStream.{filters_give, filters_fault}
+use Rattle.stage_meanings.proofs.Streams.{StreamsBy, streams_give, streams_fault, views_same}
+use Rattle.stage_meanings.proofs.Through.{lifted_gives, lifted_faults}
 use Rattle.stage_meanings.specs.declared.spot.Spot.{Spot}
 use Rattle.stage_kinds.specs.declared.file_form.Writing.{Writing as Writes}
 use Rattle.stage_kinds.specs.declared.stage_work.StageState.TheVariants.{Filtering as At, Writing}

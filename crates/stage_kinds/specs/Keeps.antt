@@ -3,8 +3,8 @@ use Rattle.std.proofs.Common.{◌≡◌, Some, refl, sym, ap}
 use Rattle.cloud_points.specs.Lifted.{lifted-keeps}
 use Rattle.cloud_points.specs.Meaning.{KeepsCutting}
 use Rattle.stage_meanings.specs.Filtering.{Filtering, filter_meaning}
-use Rattle.stage_meanings.specs.FiltersStream.{filter_keeps}
-use Rattle.stage_meanings.specs.StepsCut.{steps_keep}
+use Rattle.stage_meanings.proofs.FiltersStream.{filter_keeps}
+use Rattle.stage_meanings.proofs.StepsCut.{steps_keep}
 use Rattle.stage_meanings.specs.declared.spot.Spot.{Spot}
 use Rattle.stream_filters.specs.Kinds.{filtering_of}
 use Rattle.view_works.specs.Collecting.{Held, collecting, collecting_keeps}

@@ -5,15 +5,5 @@ pub mod Records
 pub mod Filtering
 pub mod Steps
 pub mod ByRule
-pub mod StepsCut
-pub mod Streams
-pub mod Through
-pub mod ByView
-pub mod Merging
-pub mod Faults
-pub mod Heads
 pub mod Places
-pub mod Spots
 pub mod Admitting
-pub mod Choosing
-pub mod FiltersStream

@@ -1,4 +1,4 @@
-use Rattle.stage_meanings.specs.FiltersStream.{filters_give, filters_fault}
+use Rattle.stage_meanings.proofs.FiltersStream.{filters_give, filters_fault}
 use Rattle.stage_meanings.proofs.laws.filters_stream.Goals as goal
 
 pub returns : goal.returns

@@ -1,6 +1,6 @@
 use Rattle.std.proofs.Common.{arith}
 use Rattle.stage_meanings.specs.declared.reason.Reason.{Reason}
-use Rattle.stage_meanings.specs.Heads.{head_first, head_takes}
+use Rattle.stage_meanings.proofs.Heads.{head_first, head_takes}
 use Rattle.stage_meanings.proofs.laws.heads_are_first.Goals as goal
 
 pub returns : goal.returns

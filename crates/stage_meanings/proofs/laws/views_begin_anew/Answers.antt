@@ -1,4 +1,4 @@
-use Rattle.stage_meanings.specs.ByView.{rule_streams}
+use Rattle.stage_meanings.proofs.ByView.{rule_streams}
 use Rattle.stage_meanings.proofs.laws.views_begin_anew.Goals as goal
 
 pub returns : goal.returns

@@ -1,7 +1,7 @@
 use Rattle.std.proofs.Common.{ap, ◌∙◌}
 use Rattle.cloud_points.specs.Events.{is_device}
 use Rattle.stage_meanings.specs.Conditions.{passes}
-use Rattle.stage_meanings.specs.Faults.{filters_have_no_device, filters_name_no_device}
+use Rattle.stage_meanings.proofs.Faults.{filters_have_no_device, filters_name_no_device}
 use Rattle.stream_filters.proofs.point_filter.PointFilter.on_chunk.Goals as goal
 
 pub returns-clause-no_device : goal.returns-clause-no_device

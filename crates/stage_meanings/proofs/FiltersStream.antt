@@ -8,11 +8,11 @@ use Rattle.cloud_points.specs.declared.faults.StageFault.{StageFault}
 use Rattle.network_theory.specs.Machine.{made_of, fault_on}
 use Rattle.stage_meanings.specs.Conditions.{passes}
 use Rattle.stage_meanings.specs.ByRule.{steps_of, admitting_steps, spot_at}
-use Rattle.stage_meanings.specs.Admitting.{admitting_gives, admitting_faults}
-use Rattle.stage_meanings.specs.ByView.{filter_gives, filter_faults}
+use Rattle.stage_meanings.proofs.Admits.{admitting_gives, admitting_faults}
+use Rattle.stage_meanings.proofs.ByView.{filter_gives, filter_faults}
 use Rattle.stage_meanings.specs.Filtering.{Filtering, By, Admit, Merge, filtered, filtered_fault, filter_meaning}
-use Rattle.stage_meanings.specs.Merging.{merge_keeps, merge_gives, merge_faults}
-use Rattle.stage_meanings.specs.StepsCut.{steps_keep}
+use Rattle.stage_meanings.proofs.Merging.{merge_keeps, merge_gives, merge_faults}
+use Rattle.stage_meanings.proofs.StepsCut.{steps_keep}
 
 pub filter_keeps : (f : Filtering) → KeepsCutting (filter_meaning f)
 filter_keeps (By rule only) = steps_keep (steps_of rule (passes only))

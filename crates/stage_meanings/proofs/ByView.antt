@@ -12,10 +12,10 @@ use Rattle.network_theory.specs.Machine.{output, after_all, at_start}
 use Rattle.stage_meanings.specs.declared.reason.Reason.{Reason}
 use Rattle.stage_meanings.specs.declared.spot.Spot.{Spot}
 use Rattle.stage_meanings.specs.Steps.{Steps, unless, given, reached, stopped}
-use Rattle.stage_meanings.specs.StepsCut.{steps_keep}
+use Rattle.stage_meanings.proofs.StepsCut.{steps_keep}
 use Rattle.stage_meanings.specs.Filters.{◌>>=◌, Rule, Each, Places, keeps, at_point, reason_of, or_nothing, is_true, positions, chosen, on_view, found, first_from, why, streamed, streamed_fault, told_stop, fault_at}
 use Rattle.stage_meanings.specs.ByRule.{judged_at, spot_after, steps_of, rule_meaning, spot_at}
-use Rattle.stage_meanings.specs.Streams.{number_of, within, each_stops, StreamsBy, streams_give, streams_fault}
+use Rattle.stage_meanings.proofs.Streams.{number_of, within, each_stops, StreamsBy, streams_give, streams_fault}
 
 limits : (n m : ℕ) → n ≡ up_to_limit m → up_to_limit (n + 1) ≡ up_to_limit (m + 1)
 limits n m e = omega (arith, e)

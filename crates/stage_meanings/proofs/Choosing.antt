@@ -5,8 +5,9 @@ use Rattle.std.specs.Prelude.{filter, Result, Ok, Err}
 use Rattle.cloud_points.specs.Queue.{up_to_limit}
 use Rattle.stage_meanings.specs.Filters.{is_true, reason_of, found, points_before, if_passing, first_refused, first_unjudged}
 use Rattle.stage_meanings.specs.Places.{IsPlaceOf}
-use Rattle.stage_meanings.specs.Admitting.{points_from, points_more, points_none, points_zero, refused_within}
-use Rattle.stage_meanings.specs.Streams.{number_of, within}
+use Rattle.stage_meanings.specs.Admitting.{points_from}
+use Rattle.stage_meanings.proofs.Admits.{points_more, points_none, points_zero, refused_within}
+use Rattle.stage_meanings.proofs.Streams.{number_of, within}
 
 module _ {P R : Type 0} (against : ℕ → P → Option R) (only : P → Result Bool R) where
   abbrev passing : P → Bool
