@@ -110,9 +110,14 @@ fn bind_ferry(
     ensures fault { IfErr result (IsFaultOf (ferry_refused i names.old (holds layout.now) ferry.now)) }
     ensures same { OnErr result (names.new ≡ names.old) }
 {
-    let from = bind_dim(alloc, i, &ferry.from, layout, names)?;
-    let to = bind_target(alloc, i, ferry.to.as_str(), names)?;
-    Ok(ferried(from, to))
+    let from = match bind_dim(alloc, i, &ferry.from, layout, names) {
+        Ok(from) => from,
+        Err(err) => return Err(err),
+    };
+    match bind_target(alloc, i, ferry.to.as_str(), names) {
+        Ok(to) => Ok(ferried(from, to)),
+        Err(err) => Err(err),
+    }
 }
 
 /// The ferries of stage i with dimensions in place of names, one after the other, where the points that it takes have the
