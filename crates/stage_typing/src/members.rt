@@ -10,16 +10,17 @@ ghost use Rattle.las_header.specs.ScaleWords.{scale_of_nano};
 ghost use Rattle.las_header.specs.Versions.{is_version, takes_format};
 ghost use Rattle.stage_options.specs.Expressions.{condition_with};
 ghost use Rattle.stage_options.specs.Seen.{given_view};
-ghost use Rattle.stage_typing.specs.Typed.{option_in, whole_in, text_in, scale_in, offset_in, columns_in, forward_in, format_in, takes_given, minor_in, las_fields_in, text_options_in, where_in, expression_in, assignments_in, ranges_in, box_in, ring_in, disc_in, shape_in, ferries_in, groups_in, name_in, is_down};
+ghost use Rattle.stage_typing.specs.Typed.{option_in, whole_in, text_in, scale_in, offset_in, columns_in, forward_in, format_in, takes_given, minor_in, las_fields_in, text_options_in, where_in, expression_in, assignments_in, ranges_in, ferries_in, groups_in, name_in, is_down};
 ghost use Rattle.stage_options.specs.Values.{whole_of, decimal_of, truth_of};
+
+pub(crate) mod shapes;
 
 use decimal_coords::Scale;
 use expr_lang::{Expr, ExprTree};
 use file_devices::Name;
 use forward_rules::{LasOpts, NameList};
-use geo_tests::{Area, Disc, Shape};
 use las_header::{Format, takes_format};
-use limits_text::{Polygon, RangeList};
+use limits_text::RangeList;
 use option_texts::{Groups, NamedColumns, NamedFerries, columns_of, forward_of, groups_of};
 use pipeline_json::member;
 use serde_json::{Map, Value};
@@ -314,54 +315,6 @@ pub(crate) fn ranges_in(
     match given.ranges(alloc)? {
         Some(ranges) => Ok(ranges),
         None => Ok(RangeList::new(Vec::new(alloc))),
-    }
-}
-
-/// The box of a crop.
-fn box_in(options: &Map<String, Value>) -> Option<Shape>
-    ensures { result ≡ box_in (members_view options.now.entries) }
-{
-    match given(options, "bounds")?.bounds() {
-        Some(bounds) => Some(Shape::Box(bounds)),
-        None => None,
-    }
-}
-
-/// The ring of a crop.
-fn ring_in(alloc: Global, options: &Map<String, Value>) -> Result<Option<Shape>, AllocError>
-    ensures { IfOk result (λ o. o ≡ ring_in (members_view options.now.entries)) }
-{
-    let Some(given) = given(options, "polygon") else {
-        return Ok(None);
-    };
-    match given.polygon(alloc)? {
-        Some(polygon) => Ok(Some(Shape::Polygon(Area::new(polygon)))),
-        None => Ok(None),
-    }
-}
-
-/// The disc of a crop.
-fn disc_in(options: &Map<String, Value>) -> Option<Shape>
-    ensures { result ≡ disc_in (members_view options.now.entries) }
-{
-    let (x, y) = given(options, "point")?.point()?;
-    let radius = decimal_in(options, "distance")?;
-    Some(Shape::Disc(Disc { x, y, radius }))
-}
-
-/// The shape of a crop.
-pub(crate) fn shape_in(alloc: Global, options: &Map<String, Value>) -> Result<Shape, AllocError>
-    ensures { IfOk result (λ shape. shape ≡ shape_in (members_view options.now.entries)) }
-{
-    if let Some(shape) = box_in(options) {
-        return Ok(shape);
-    }
-    if let Some(shape) = ring_in(alloc, options)? {
-        return Ok(shape);
-    }
-    match disc_in(options) {
-        Some(shape) => Ok(shape),
-        None => Ok(Shape::Polygon(Area::new(Polygon::new(Vec::new(alloc))))),
     }
 }
 
