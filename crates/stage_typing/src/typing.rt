@@ -10,7 +10,10 @@ ghost use Rattle.stage_options.specs.Values.{is_source, is_target};
 ghost use Rattle.stage_options.specs.declared.options.Options.TheVariants as typed_as;
 
 use crate::members::shapes::shape_in;
-use crate::members::{assignments_in, expression_in, ferries_in, groups_in, is_down, las_fields, name_in, number_in, ranges_in, text_options, truth_or, where_in, whole_or};
+use crate::members::{
+    assignments_in, expression_in, ferries_in, groups_in, is_down, las_fields, name_in, number_in,
+    ranges_in, text_options, truth_or, where_in, whole_or,
+};
 use crate::walks::refuse;
 use serde_json::{Map, Value};
 use stage_names::{KindName, PipeErr};
