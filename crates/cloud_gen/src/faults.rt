@@ -3,7 +3,7 @@
 ghost use Rattle.std.specs.Prelude.{◌≡◌};
 ghost use Rattle.cloud_gen.specs.declared.faults.GenerateError.TheVariants.{Device as Broken, Memory as NoMemory};
 
-use crate::steps::DeviceFault;
+use file_devices::Op;
 use std::alloc::AllocError;
 use thiserror::Error;
 
@@ -12,18 +12,18 @@ use thiserror::Error;
 pub enum GenerateError {
     /// A device failed while the file was created, written, patched or kept.
     #[error("a device failed")]
-    Device(DeviceFault),
+    Device(Op),
 
     /// There was no memory.
     #[error("out of memory")]
     Memory,
 }
 
-impl From<DeviceFault> for GenerateError {
-    ghost from_gives = { λ fault e. e ≡ Broken fault };
+impl From<Op> for GenerateError {
+    ghost from_gives = { λ op e. e ≡ Broken op };
 
-    fn from(fault: DeviceFault) -> Self {
-        GenerateError::Device(fault)
+    fn from(op: Op) -> Self {
+        GenerateError::Device(op)
     }
 }
 

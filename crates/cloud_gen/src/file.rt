@@ -10,9 +10,9 @@ ghost use Rattle.cloud_gen.specs.Generated.{generated};
 ghost use Rattle.cloud_gen.specs.GeneratedFile.{generated_points, generated_options, generated_form, generated_file, IsPut, IsUnwritten, IsFailure, IsLeft};
 
 use crate::steps::{append_points, begin_file, create_file, finish_file, keep_file};
-use crate::{DeviceFault, GenerateError, gen_point};
+use crate::{GenerateError, gen_point};
 use cloud_points::{MOST_POINTS, Spread};
-use file_devices::{FileSink, Files};
+use file_devices::{FileSink, Files, Op};
 use forward_rules::{Forwarding, LasForm, LasOpts, NameList, default_scale};
 use las_header::Format;
 use las_writer::LasWriter;
@@ -73,11 +73,7 @@ fn generated_chunk(start: u32, end: u32) -> Spread
 }
 
 /// Appends the points from a place to another one, which is at most 64 further.
-fn put_chunk<K: FileSink>(
-    writer: &mut LasWriter<K>,
-    start: u32,
-    end: u32,
-) -> Result<(), DeviceFault>
+fn put_chunk<K: FileSink>(writer: &mut LasWriter<K>, start: u32, end: u32) -> Result<(), Op>
     requires form { writer.old.form ≡ generated_form }
     requires ordered { start ≤ end }
     requires most { end ≤ start + 64 }
@@ -94,7 +90,7 @@ fn put_chunk<K: FileSink>(
 }
 
 /// Appends the points, in chunks.
-fn put_points<K: FileSink>(writer: &mut LasWriter<K>, count: u32) -> Result<(), DeviceFault>
+fn put_points<K: FileSink>(writer: &mut LasWriter<K>, count: u32) -> Result<(), Op>
     requires form { writer.old.form ≡ generated_form }
     requires few { count ≤ 10000000 }
     ensures holds { OnOk result (
@@ -114,7 +110,7 @@ fn put_points<K: FileSink>(writer: &mut LasWriter<K>, count: u32) -> Result<(), 
 }
 
 /// Appends the points and makes the file whole.
-fn write_points<K: FileSink>(writer: &mut LasWriter<K>, count: u32) -> Result<(), DeviceFault>
+fn write_points<K: FileSink>(writer: &mut LasWriter<K>, count: u32) -> Result<(), Op>
     requires form { writer.old.form ≡ generated_form }
     requires few { count ≤ 10000000 }
     ensures file { OnOk result (

@@ -9,4 +9,3 @@ mod steps;
 pub use faults::GenerateError;
 pub use file::generate;
 pub use points::{first_point_is_known, gen_point};
-pub use steps::DeviceFault;

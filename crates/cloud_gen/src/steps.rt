@@ -17,32 +17,6 @@ use file_devices::{DeviceErr, FileSink, Files, Op};
 use forward_rules::LasForm;
 use las_writer::{ChunkErr, LasBeginErr, LasWriter};
 use std::alloc::Global;
-use std::marker::Model;
-
-/// What was being done with a device that failed, which contracts see as that operation. Only the steps of a file make one.
-#[derive(Clone, Copy, Debug, PartialEq, Eq)]
-pub struct DeviceFault {
-    op: Op,
-}
-
-impl Model for DeviceFault {
-    ghost use Rattle.file_devices.specs.declared.devices.Op.{Op as Operation};
-
-    ghost Value = { Operation };
-
-    ghost view = { λ d. d.op };
-
-    ghost inverse = { λ op. record { op = op } };
-}
-
-impl DeviceFault {
-    /// What was being done with the device.
-    pub fn op(self) -> Op
-        ensures { result ≡ self }
-    {
-        self.op
-    }
-}
 
 /// Creates the file.
 pub(crate) fn create_file<F: Files>(files: &mut F, name: &str) -> Result<F::Out, GenerateError>
@@ -56,7 +30,7 @@ pub(crate) fn create_file<F: Files>(files: &mut F, name: &str) -> Result<F::Out,
     match files.create(name) {
         Ok(sink) => Ok(sink),
         Err(DeviceErr::Memory) => Err(GenerateError::Memory),
-        Err(_) => Err(GenerateError::Device(DeviceFault { op: Op::Create })),
+        Err(_) => Err(GenerateError::Device(Op::Create)),
     }
 }
 
@@ -76,10 +50,7 @@ pub(crate) fn begin_file<K: FileSink>(
     match LasWriter::begin(alloc, sink, form) {
         Ok(writer) => Ok(writer),
         Err((sink, LasBeginErr::Memory)) => Err((sink, GenerateError::Memory)),
-        Err((sink, LasBeginErr::Failed)) => {
-            let op = Op::Write;
-            Err((sink, GenerateError::Device(DeviceFault { op })))
-        }
+        Err((sink, LasBeginErr::Failed)) => Err((sink, GenerateError::Device(Op::Write))),
     }
 }
 
@@ -87,7 +58,7 @@ pub(crate) fn begin_file<K: FileSink>(
 pub(crate) fn append_points<K: FileSink>(
     writer: &mut LasWriter<K>,
     points: &[Point],
-) -> Result<(), DeviceFault>
+) -> Result<(), Op>
     requires most { length points.now ≤ MOST_POINTS }
     requires placed { refusal writer.old.form writer.old.totals.count points.now ≡ None }
     ensures holds { OnOk result ((before : List Point)
@@ -99,13 +70,13 @@ pub(crate) fn append_points<K: FileSink>(
 {
     match writer.put_all(points) {
         Ok(()) => Ok(()),
-        Err(ChunkErr::Failed) => Err(DeviceFault { op: Op::Write }),
+        Err(ChunkErr::Failed) => Err(Op::Write),
         Err(ChunkErr::Refused(_)) => unreachable!(),
     }
 }
 
 /// Makes the file whole.
-pub(crate) fn finish_file<K: FileSink>(writer: &mut LasWriter<K>) -> Result<(), DeviceFault>
+pub(crate) fn finish_file<K: FileSink>(writer: &mut LasWriter<K>) -> Result<(), Op>
     ensures file { OnOk result ((points : List Point)
         → holds_las (K.bytes writer.old.sink) writer.old.form writer.old.totals points ≡ true
         → refusal writer.old.form 0 points ≡ None
@@ -115,7 +86,7 @@ pub(crate) fn finish_file<K: FileSink>(writer: &mut LasWriter<K>) -> Result<(), 
 {
     match writer.finish() {
         Ok(()) => Ok(()),
-        Err(failed) => Err(DeviceFault { op: failed.op() }),
+        Err(failed) => Err(failed.op()),
     }
 }
 
@@ -135,6 +106,6 @@ pub(crate) fn keep_file<F: Files>(
     match files.keep(name, file) {
         Ok(()) => Ok(()),
         Err(DeviceErr::Memory) => Err(GenerateError::Memory),
-        Err(_) => Err(GenerateError::Device(DeviceFault { op: Op::Keep })),
+        Err(_) => Err(GenerateError::Device(Op::Keep)),
     }
 }

@@ -137,11 +137,11 @@ const REFUSALS: [((u64, u64), Op); 6] = [
 /// What is said to have failed where a call fails, and whether no file is kept and all is given back.
 fn refused(alloc: Global, call: (u64, u64)) -> Option<(Op, bool)> {
     let mut files = failing(alloc, &[call])?;
-    let Err(GenerateError::Device(fault)) = generate(alloc, &mut files, "g.las", 1) else {
+    let Err(GenerateError::Device(op)) = generate(alloc, &mut files, "g.las", 1) else {
         return None;
     };
     let is_unkept = files.contents("g.las").is_none() && files.lent() == 0;
-    Some((fault.op(), is_unkept))
+    Some((op, is_unkept))
 }
 
 #[test]

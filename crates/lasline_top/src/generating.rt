@@ -29,7 +29,7 @@ pub(crate) fn make<F: Files>(
 {
     match generate(alloc, files, name, count.points) {
         Ok(()) => Ok(()),
-        Err(GenerateError::Device(fault)) => Err(Refusal::Device(Place::Generated, fault.op())),
+        Err(GenerateError::Device(op)) => Err(Refusal::Device(Place::Generated, op)),
         Err(GenerateError::Memory) => Err(Refusal::Memory),
     }
 }
