@@ -207,7 +207,7 @@ impl<'a> Binder<'a> {
 }
 
 impl<'a> Binder<'a> {
-    /// What a filter with these options does, where these are its ferries.
+    /// What a filter with these options does, where these are its ferries. Stages of other kinds give on what they take, as `merge`.
     fn filter(&self, options: &Options, ferries: Assignments) -> Result<BoundFilter, PipeErr>
         ensures bound { IfOk result (λ b. b ≡ bound_filter self.now.names.now ferries options.now) }
         ensures ok { OnOk result (filter_refused self.now.stage self.now.names.now (holds self.now.layout.now) options.now ≡ None) }
@@ -228,7 +228,13 @@ impl<'a> Binder<'a> {
             Options::FiltersDecimation(o) => { BoundFilter::Decimation(o.step, o.offset, o.limit) }
             Options::FiltersHead(o) => BoundFilter::Head(o.count),
             Options::FiltersReturns(o) => BoundFilter::Returns(o.groups),
-            _ => BoundFilter::Merge,
+            Options::FiltersMerge(_)
+            | Options::ReadersLas(_)
+            | Options::FiltersSort(_)
+            | Options::FiltersTail(_)
+            | Options::FiltersGroupby(_)
+            | Options::WritersLas(_)
+            | Options::WritersText(_) => BoundFilter::Merge,
         })
     }
 

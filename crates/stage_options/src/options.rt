@@ -264,7 +264,15 @@ impl Options {
             Options::FiltersSort(_) | Options::FiltersTail(_) | Options::FiltersGroupby(_) => {
                 Role::Gathers
             }
-            _ => Role::Filters,
+            Options::FiltersRange(_)
+            | Options::FiltersCrop(_)
+            | Options::FiltersAssign(_)
+            | Options::FiltersFerry(_)
+            | Options::FiltersExpression(_)
+            | Options::FiltersDecimation(_)
+            | Options::FiltersHead(_)
+            | Options::FiltersReturns(_)
+            | Options::FiltersMerge(_) => Role::Filters,
         }
     }
 
