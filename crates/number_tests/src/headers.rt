@@ -1,8 +1,10 @@
 //! Headers that are read, and the first fault of each kind.
 
 mod blocks;
+mod fields;
 
-use blocks::{BLOCKS, CENT, FRONTS, Field};
+use blocks::{BLOCKS, FRONTS};
+use fields::{CENT, Field};
 use las_header::{
     Format, HeaderFault, ScaleFault, read_header, scale_of_word, scales_have_their_words,
     write_header,

@@ -3,13 +3,17 @@
 ghost use Rattle.std.specs.Prelude.{IfOk};
 ghost use Rattle.point_formats.specs.Grids.{IsNear, IsNearOffset};
 
+mod decoded;
+mod encoded;
 mod rows;
 
 use arrayvec::ArrayVec;
 use cloud_points::Point;
 use decimal_coords::Scale;
+use decoded::DECODED;
+use encoded::ENCODED;
 use point_formats::{EncodeFault, Grid, decode, encode, numbers_return, records_are_whole};
-use rows::{DECODED, ENCODED, Row};
+use rows::Row;
 use std::str::{FromStr, SplitWhitespace};
 use std::test::Fail;
 
