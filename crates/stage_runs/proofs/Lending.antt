@@ -13,13 +13,15 @@ use Rattle.network_core.proofs.Opened.{some_at}
 use Rattle.network_solo.specs.Runs.{IsRanOver}
 use Rattle.network_solo.specs.Trees.{IsRanTree}
 use Rattle.stage_kinds.specs.declared.stage_work.StageWork.{StageWork}
+use Rattle.stage_kinds.specs.declared.stage_work.StageWork.TheVariants.{Collector}
 use Rattle.stage_kinds.specs.Held.{op_of, faults_of}
-use Rattle.stage_kinds.specs.Stages.{is_short}
+use Rattle.stage_kinds.specs.Stages.{is_leaf, is_short}
 use Rattle.file_devices.specs.Counts.{Rose}
 use Rattle.cloud_points.specs.Events.{IsOf}
 use Rattle.stage_parts.specs.Parts.{is_of}
 use Rattle.stage_runs.specs.Works.{as_works}
-use Rattle.stage_runs.specs.Parts.{IsExchanged, IsRenewed, IsLater, AreLater, AreSameOrLater, AreStandIns, is_own, IsNet, IsPartRun}
+use Rattle.stage_runs.specs.Parts.{IsExchanged, IsRenewed, IsCollecting, IsNewLeaf, IsLater, AreLater, AreSameOrLater, AreStandIns, is_own, IsNet, IsPartRun}
+use Rattle.stage_runs.specs.Short.{RanShort}
 use Rattle.stage_runs.proofs.Part.{same-number, other-number}
 
 -- what a slice holds, its list does
@@ -29,6 +31,15 @@ slice-back [] (y ∷ ys) n e f = absurd (omega (arith, e))
 slice-back (x ∷ xs) [] n e f = absurd (omega (arith, e))
 slice-back (x ∷ xs) (y ∷ ys) zero e f = absurd (omega (arith, f))
 slice-back (x ∷ xs) (y ∷ ys) (suc n) e f = ap (λ zs. y ∷ zs) (slice-back xs ys n (omega (arith, e)) (omega (arith, f)))
+
+-- what was lent by the last place of a net was lent by its root
+pub lent-over : {T : Type 0} (given homes : List ℕ) (home root size : ℕ) (one other one_after other_after : List T) → size ≡ root + 1 → given ≡ homes
+    → IsExchanged (is_own given home (size - 1)) size one other one_after other_after → IsExchanged (is_own homes home root) (root + 1) one other one_after other_after
+lent-over given homes home root size one other one_after other_after many same lent =
+    let last : size - 1 ≡ root = omega (arith, many) in
+    subst (λ n. IsExchanged (is_own homes home root) n one other one_after other_after) many
+    (subst (λ n. IsExchanged (is_own homes home n) size one other one_after other_after) last
+    (subst (λ hs. IsExchanged (is_own hs home (size - 1)) size one other one_after other_after) same lent))
 
 module _ {S K : Type 0} (s : source.Ghosts S) (k : sink.Ghosts K) where
   -- what is later than a node is later than another one over the same work
@@ -129,28 +140,31 @@ module _ {S K : Type 0} (s : source.Ghosts S) (k : sink.Ghosts K) where
       before : (i : ℕ) (m : Node (StageWork S K)) → slice_get ended i ≡ Some m → (x : Node (StageWork S K)) × (slice_get renewed i ≡ Some x)
       before i m e = some_at renewed i (let a = slice_get_within ended i m e in let b = later.count in omega (arith, a, b))
 
-      own-later : (i : ℕ) (n m : Node (StageWork S K)) → i ≤ root → is_own homes home root i ≡ true → slice_get nodes i ≡ Some n → slice_get after i ≡ Some m → IsLater s k n m
-      own-later i n m l o e f = elim (eqb_tells i root) [
-        | inl p ↦ (
-            let at = ap (slice_get nodes) (sym p.1) ∙ e in
-            later-work x.0 n m (is-net.work x.0 n (ap (slice_get renewed) (sym p.1) ∙ x.1) at) was)
+      less-home : (i : ℕ) → i < root → is_own homes home root i ≡ true → is_of homes home i ≡ true
+      less-home i less o = sym (ap (λ b. b || is_of homes home i) (other-number i root (λ e. omega (arith, e, less)))) ∙ o
+
+      -- a node of this part has its work in the net
+      own-work : (i : ℕ) (x n : Node (StageWork S K)) → i ≤ root → is_own homes home root i ≡ true → slice_get renewed i ≡ Some x → slice_get nodes i ≡ Some n → x.work ≡ n.work
+      own-work i x n l o d e = elim (eqb_tells i root) [
+        | inl p ↦ is-net.work x n (ap (slice_get renewed) (sym p.1) ∙ d) (ap (slice_get nodes) (sym p.1) ∙ e)
         | inr p ↦ (
             let no = p.1 in
             let less : i < root = omega (arith, no, l) in
-            subst (λ y. IsLater s k y m) (same_Some x.0 n (sym x.1 ∙ own-net i less (is-own less o) ∙ e)) was)
+            ap (λ (y : Node (StageWork S K)). y.work) (same_Some x n (sym d ∙ own-net i less (less-home i less o) ∙ e)))
       ]
-        where
-          g : slice_get ended i ≡ Some m
-          g = sym (back i l o) ∙ f
 
-          x : (y : Node (StageWork S K)) × (slice_get renewed i ≡ Some y)
-          x = before i m g
+      own-later : (i : ℕ) (n m : Node (StageWork S K)) → i ≤ root → is_own homes home root i ≡ true → slice_get nodes i ≡ Some n → slice_get after i ≡ Some m → IsLater s k n m
+      own-later i n m l o e f =
+          let g = sym (back i l o) ∙ f in
+          let x = before i m g in
+          later-work x.0 n m (own-work i x.0 n l o x.1 e) (later.each i x.0 m x.1 g)
 
-          was : IsLater s k x.0 m
-          was = later.each i x.0 m x.1 g
-
-          is-own : i < root → is_own homes home root i ≡ true → is_of homes home i ≡ true
-          is-own less o = sym (ap (λ b. b || is_of homes home i) (other-number i root (λ e. omega (arith, e, less)))) ∙ o
+      -- a node outside of this part is a leaf in the net
+      stranger : (i : ℕ) (x : Node (StageWork S K)) → i < root + 1 → is_own homes home root i ≡ false → slice_get renewed i ≡ Some x → IsNewLeaf s k x
+      stranger i x less o e =
+          let other : i ≢ root = λ q. true≢false (sym root-own ∙ ap (is_own homes home root) (sym q) ∙ o) in
+          let h : is_of homes home i ≡ false = sym (ap (λ b. b || is_of homes home i) (other-number i root other)) ∙ o in
+          (is-net.strange i x (omega (arith, other, less)) h e).0
 
       pub part-later : AreSameOrLater s k nodes after
       part-later = record {
@@ -174,13 +188,36 @@ module _ {S K : Type 0} (s : source.Ghosts S) (k : sink.Ghosts K) where
 
           by_own : (b : Bool) → is_own homes home root i ≡ b → op_of n.work ≡ None
           by_own true o = ((stand.each i n (sym (first.taken i less o).0 ∙ sym (second.taken i less o).1 ∙ e)).0).op
-          by_own false o = (
+          by_own false o =
               let f = sym (second.left i (not-own i o)).1 ∙ e in
               let x = before i n f in
-              let root-other : i ≢ root = λ q. true≢false (sym root-own ∙ ap (is_own homes home root) (sym q) ∙ o) in
-              let l : i < root = omega (arith, root-other, less) in
-              let h : is_of homes home i ≡ false = sym (ap (λ b. b || is_of homes home i) (other-number i root root-other)) ∙ o in
-              (later.each i x.0 n x.1 f).op ∙ ((is-net.strange i x.0 l h x.1).0).op)
+              (later.each i x.0 n x.1 f).op ∙ (stranger i x.0 less o x.1).op
+
+      -- memory that was wanting in the net was wanting at a node of this part
+      pub part-short : RanShort renewed ended → RanShort nodes after
+      part-short short = by_own (is_own homes home root short.place) refl
+        where
+          less : short.place < root + 1
+          less = let a = slice_get_within renewed short.place short.before short.was in let b = renewed-size in omega (arith, a, b)
+
+          no-leaf : (w : StageWork S K) → IsCollecting w → is_leaf w ≡ true → ⊥
+          no-leaf (Collector c) is leaf = true≢false (sym leaf)
+          no-leaf w is leaf = absurd is
+
+          by_own : (b : Bool) → is_own homes home root short.place ≡ b → RanShort nodes after
+          by_own true o =
+              let n = some_at nodes short.place (omega (arith, less, inside)) in
+              let low : short.place ≤ root = omega (arith, less) in
+              record {
+                place = short.place;
+                before = n.0;
+                after = short.after;
+                was = n.1;
+                is = back short.place low o ∙ short.is;
+                collects = subst IsCollecting (own-work short.place short.before n.0 low o short.was n.1) short.collects;
+                short = short.short;
+              }
+          by_own false o = absurd (no-leaf short.before.work short.collects (stranger short.place short.before less o short.was).leaf)
 
       pub part-run : (queue : ℕ) → IsRanTree (as_works s k) part renewed ended → IsRanOver (as_works s k) part queue renewed ended
           → ((i : ℕ) (m : Node (StageWork S K)) → slice_get ended i ≡ Some m → is_short m.work ≡ false) → IsPartRun s k queue part homes home root nodes after

@@ -1,20 +1,14 @@
 -- One part more is run.
-use Rattle.std.proofs.Common.{◌≡◌, ◌≢◌, ◌⊎◌, ℕ, zero, suc, ◌+◌, ◌-◌, ◌<◌, ◌≤◌, ◌==◌, ◌||◌, not, nat_lt, Bool, true, false, true≢false, List, [], ◌∷◌, length, Option, Some, None, is_some, refl, ap, sym, subst, ◌∙◌, inl, inr, arith}
+use Rattle.std.proofs.Common.{◌≡◌, ◌≢◌, ℕ, suc, ◌+◌, ◌-◌, ◌<◌, ◌≤◌, ◌==◌, ◌||◌, not, nat_lt, Bool, true, false, true≢false, List, length, Option, Some, None, refl, ap, sym, subst, ◌∙◌, inl, inr, arith}
 use Rattle.std.specs.Prelude.{slice_get}
 use Rattle.std.proofs.lemmas.Bool.Decides.{eqb_tells, leb_tells}
 use Rattle.std.proofs.lemmas.Option.{none-some, same_Some, slice_get_within}
 use Rattle.file_devices.specs.declared.devices.Source as source
 use Rattle.file_devices.specs.declared.devices.Sink as sink
-use Rattle.cloud_points.specs.declared.faults.StageFault.{StageFault}
-use Rattle.cloud_points.specs.declared.faults.StageFault.TheVariants as stage
-use Rattle.cloud_points.specs.Events.{is_device, ran_short, IsOf}
+use Rattle.cloud_points.specs.Events.{is_device}
 use Rattle.cloud_points.specs.Flows.{Flow}
 use Rattle.cloud_points.specs.Marks.{flow_marks}
-use Rattle.network_theory.specs.Forest.{IsForest, children}
-use Rattle.network_theory.specs.Shape.{In}
-use Rattle.network_theory.proofs.Forests.{forest-tree}
-use Rattle.network_core.specs.Calm.{Calm, NoEvent}
-use Rattle.network_solo.specs.Trees.{Streams, NoneCame, LeavesTell, EndsOver}
+use Rattle.network_theory.specs.Forest.{IsForest}
 use Rattle.network_core.specs.declared.node.Node.{Node}
 use Rattle.network_core.proofs.Opened.{some_at}
 use Rattle.view_works.specs.Collecting.{Held, held}
@@ -26,29 +20,28 @@ use Rattle.stage_kinds.specs.declared.stage_work.StageWork.{StageWork}
 use Rattle.stage_kinds.specs.declared.stage_work.StageWork.TheVariants.{Reader, Filter, Collector, Views, Writer}
 use Rattle.stage_kinds.specs.Gathers.{IsGathered}
 use Rattle.stage_kinds.specs.Reads.{tells_of, told_of, told_fault_of}
-use Rattle.stage_kinds.specs.Held.{op_of}
-use Rattle.stage_kinds.specs.Stages.{is_leaf, is_short, state_of}
+use Rattle.stage_kinds.specs.Stages.{state_of}
 use Rattle.stage_options.specs.Roles.{is_gathering}
 use Rattle.stage_options.specs.declared.stage.StageSpec.{StageSpec}
 use Rattle.stage_parts.specs.Parts.{AreHomes, gathers_at, home_at, is_of, part_ins}
-use Rattle.stage_parts.proofs.Tops.{near, near_root, homes-above}
+use Rattle.stage_parts.proofs.Tops.{homes-above}
 use Rattle.answer_model.specs.Rows as rows
 use Rattle.answer_model.specs.Values.{Opened, IsDown, role_at, row_at, stage_value, stage_input}
-use Rattle.stage_runs.specs.Works.{as_works, ins_of, AreNewStages, ReadersTell}
-use Rattle.stage_runs.specs.Ran.{EndsAsStage, AreRanStages}
-use Rattle.stage_runs.specs.Parts.{gathers_of, IsNewLeaf, Gives, IsPartRun, IsLeafRun, IsGatheredAt, is_past, NoneFailedBefore, AreRunBefore}
+use Rattle.stage_runs.specs.Works.{ins_of, AreNewStages, ReadersTell}
+use Rattle.stage_runs.specs.Ran.{EndsAsStage}
+use Rattle.stage_runs.specs.Parts.{gathers_of, IsNewLeaf, Gives, IsPartRun, IsGatheredAt, is_past, NoneFailedBefore, AreRunBefore}
 use Rattle.stage_runs.proofs.Part.{IsRoot, gathers-are, same-number, other-number, home-ends, root-holds, root-ends}
-use Rattle.stage_runs.proofs.Ran.{gathers-value, held-ends}
+use Rattle.stage_runs.proofs.Ran.{gathers-value}
 
 -- ---- numbers
 
-lt-true : (a b : ℕ) → a < b → nat_lt a b ≡ true
+pub lt-true : (a b : ℕ) → a < b → nat_lt a b ≡ true
 lt-true a b l = elim (leb_tells (suc a) b) [ inl p ↦ p.0 | inr p ↦ (let m = p.1 in absurd (omega (arith, l, m))) ]
 
 pub lt-false : (a b : ℕ) → b ≤ a → nat_lt a b ≡ false
 lt-false a b l = elim (leb_tells (suc a) b) [ inl p ↦ (let m = p.1 in absurd (omega (arith, l, m))) | inr p ↦ p.0 ]
 
-true-lt : (a b : ℕ) → nat_lt a b ≡ true → a < b
+pub true-lt : (a b : ℕ) → nat_lt a b ≡ true → a < b
 true-lt a b e = elim (leb_tells (suc a) b) [ inl p ↦ (let m = p.1 in omega (arith, m)) | inr p ↦ absurd (true≢false (sym e ∙ p.0)) ]
 
 false-le : (a b : ℕ) → nat_lt a b ≡ false → b ≤ a
@@ -111,7 +104,7 @@ module _ {S K : Type 0} (s : source.Ghosts S) (k : sink.Ghosts K) (stages : List
   }
 
   -- a home is the number of a stage that gathers
-  home-gathers : (i : ℕ) → i < length stages → (w : ℕ) → w < length stages → home_at homes i ≡ w → is_gathering (role_at stages w) ≡ true
+  pub home-gathers : (i : ℕ) → i < length stages → (w : ℕ) → w < length stages → home_at homes i ≡ w → is_gathering (role_at stages w) ≡ true
   home-gathers i l w m e =
       let h = homes-above (gathers_of stages) (ins_of stages) homes forest are i (omega (arith, l, size)) in
       sym (gathers-are stages w) ∙ ap (gathers_at (gathers_of stages)) (sym e) ∙ h.gathering (omega (arith, e, m, size))
@@ -315,173 +308,3 @@ module _ {S K : Type 0} (s : source.Ghosts S) (k : sink.Ghosts K) (stages : List
           | inl q ↦ absurd (let same = q.1 in rest (omega (arith, same)) (ap (λ j. is_gathering (role_at stages j)) same ∙ gathers))
           | inr q ↦ done.waits i m (sym (kept-later i q.1 p) ∙ e) (before i p) (λ l g. rest (omega (arith, l)) g)
         ]
-
-  -- ---- the last part
-
-  -- all parts were run but that of the stages above which none gathers
-  past-or-last : (i : ℕ) → i < length stages → (past (length stages) i ≡ true) ⊎ (home_at homes i ≡ length stages)
-  past-or-last i l =
-      let h = homes-above (gathers_of stages) (ins_of stages) homes forest are i (omega (arith, l, size)) in
-      let most = h.most in
-      elim (eqb_tells (home_at homes i) (length stages)) [
-        | inl q ↦ inr q.1
-        | inr q ↦ (let n = q.1 in inl (lt-true (home_at homes i) (length stages) (omega (arith, n, most, size))))
-      ]
-
-  -- the last stage doesn't gather
-  pub last-streams : (now after : List (Node (StageWork S K))) → length now ≡ length stages → 0 < length stages → is_gathering (role_at stages (length stages - 1)) ≡ false
-      → Done (length stages) now → Part (length stages) (length stages - 1) now after → AreRanStages s k stages old after
-  last-streams now after count some streams done part sound opened tell i m e = elim (past-or-last i within) [
-    | inl p ↦ done.past opened sound-now tell i m (sym (kept-past i p) ∙ e) p
-    | inr h ↦ at-last h (eqb_tells i root)
-  ]
-    where
-      root : ℕ
-      root = length stages - 1
-
-      within : i < length stages
-      within = let a = slice_get_within after i m e in let b = part.count in omega (arith, a, b, count)
-
-      root-home : home_at homes root ≡ length stages
-      root-home = ap (home_at homes) (let q = size in omega (arith, q)) ∙ are.root ∙ size
-
-      is-root : IsRoot stages homes (length stages) root
-      is-root = inr (streams, root-home)
-
-      inside : root < length stages
-      inside = omega (arith, some)
-
-      lower : (j : ℕ) → j < root → j < length stages
-      lower j l = omega (arith, l)
-
-      kept-past : (j : ℕ) → past (length stages) j ≡ true → slice_get after j ≡ slice_get now j
-      kept-past j p =
-          let l = true-lt (home_at homes j) (length stages) p in
-          stays (length stages) root is-root now count inside lower done after part j
-          (λ q. let r = root-home ∙ refl in let same = ap (home_at homes) q in omega (arith, l, r, same)) (λ q. omega (arith, l, q))
-
-      sound-now : Sound (length stages) now
-      sound-now j n f p = sound j n (kept-past j p ∙ f)
-
-      quiet : (j : ℕ) (n : Node (StageWork S K)) → j ≤ root → is_of homes (length stages) j ≡ true → slice_get after j ≡ Some n → is_device n.fault ≡ false
-      quiet j n l h f = sound j n f
-
-      at-last : home_at homes i ≡ length stages → ((i == root) ≡ true) × (i ≡ root) ⊎ ((i == root) ≡ false) × (i ≢ root) → EndsAsStage s k stages opened i m
-      at-last h (inl q) = subst (λ j. EndsAsStage s k stages opened j m) (sym q.1)
-          (root-end (length stages) root is-root now count inside lower done after part opened tell sound-now quiet m (ap (slice_get after) (sym q.1) ∙ e) streams)
-      at-last h (inr q) = (
-          let n = q.1 in
-          home-end (length stages) root is-root now count inside lower done after part opened tell sound-now quiet i m (omega (arith, n, within))
-          (ap (λ x. x == length stages) h ∙ same-number (length stages)) e)
-
-  -- below a last stage that gathers each has a home among the stages
-  by-parent : is_gathering (role_at stages (length stages - 1)) ≡ true → (j up : ℕ) → up ≤ length (ins_of stages) - 1 → In j (children (ins_of stages) up) → j + 1 < length stages
-      → (up ≢ length stages - 1 → home_at homes up < length stages) → home_at homes j < length stages
-  by-parent last j up u i b climb = by_test (gathers_at (gathers_of stages) up) refl
-    where
-      by_test : (t : Bool) → gathers_at (gathers_of stages) up ≡ t → home_at homes j < length stages
-      by_test true t = let h = near_root (gathers_of stages) (ins_of stages) homes up j are t i in omega (arith, h, u, size, b)
-      by_test false t =
-          let h = near (gathers_of stages) (ins_of stages) homes (home_at homes up) up j are t refl i in
-          let r = climb (λ e. true≢false (sym last ∙ ap (λ i. is_gathering (role_at stages i)) (sym e) ∙ sym (gathers-are stages up) ∙ t)) in
-          omega (arith, h, r)
-
-  below-last : is_gathering (role_at stages (length stages - 1)) ≡ true → (d j : ℕ) → j + 1 < length stages → length stages ≤ j + 1 + d → home_at homes j < length stages
-  below-last last zero j b g = absurd (omega (arith, b, g))
-  below-last last (suc d) j b g =
-      let tree = forest-tree (ins_of stages) (length (ins_of stages) - 1) forest in
-      let c = tree.child j (omega (arith, b, size)) in
-      by-parent last j (tree.parent j) c.1 c.2 b
-      (λ n. below-last last d (tree.parent j) (let u = c.1 in omega (arith, n, u, size, b)) (let l = c.0 in omega (arith, l, g)))
-
-  -- the last stage gathers
-  pub last-gathers : (now after : List (Node (StageWork S K))) → length now ≡ length stages → 0 < length stages → is_gathering (role_at stages (length stages - 1)) ≡ true
-      → Done (length stages) now → IsLeafRun s k queue (length stages - 1) now after → AreRanStages s k stages old after
-  last-gathers now after count some gathers done run sound opened tell i m e = elim (eqb_tells i root) [
-    | inl q ↦ subst (λ j. EndsAsStage s k stages opened j m) (sym q.1) (root-ends-so (ap (slice_get after) (sym q.1) ∙ e))
-    | inr q ↦ elim (past-or-last i within) [
-      | inl p ↦ done.past opened sound-now tell i m (sym (run.other i q.1) ∙ e) p
-      | inr h ↦ absurd (q.1 (only-root h))
-    ]
-  ]
-    where
-      root : ℕ
-      root = length stages - 1
-
-      within : i < length stages
-      within = let a = slice_get_within after i m e in let b = run.count in omega (arith, a, b, count)
-
-      inside : root < length stages
-      inside = omega (arith, some)
-
-      root-home : home_at homes root ≡ length stages
-      root-home = ap (home_at homes) (let q = size in omega (arith, q)) ∙ are.root ∙ size
-
-      root-past : past (length stages) root ≡ false
-      root-past = lt-false (home_at homes root) (length stages) (let r = root-home in omega (arith, r))
-
-      -- no other stage lies above all that gather, since each lies below the last one
-      only-root : home_at homes i ≡ length stages → i ≡ root
-      only-root h = elim (eqb_tells i root) [
-        | inl q ↦ q.1
-        | inr q ↦ (let n = q.1 in let b = below-last gathers (length stages) i (omega (arith, n, within)) (omega arith) in absurd (omega (arith, b, h)))
-      ]
-
-      sound-now : Sound (length stages) now
-      sound-now j n f p = elim (eqb_tells j root) [
-        | inl q ↦ absurd (true≢false (sym p ∙ ap (past (length stages)) q.1 ∙ root-past))
-        | inr q ↦ sound j n (run.other j q.1 ∙ f)
-      ]
-
-      leaf : IsNewLeaf s k run.was
-      leaf = done.held root run.was run.before root-past inside gathers
-
-      gives : Gives s k (stage_value stages opened root) run.was
-      gives = done.gives opened sound-now tell root run.was run.before root-past inside gathers
-
-      calm : Calm (as_works s k) run.was run.is
-      calm = run.ran.calm 0 run.was run.is refl refl
-
-      quiet : NoneCame (as_works s k) (run.was ∷ []) (run.is ∷ [])
-      quiet zero n l f g = subst (λ x. NoEvent (as_works s k) x l) (same_Some run.was n f) (subst (NoEvent (as_works s k) run.was) (same_Some run.is l g) (record {
-        fault = no-fault run.is.fault (calm.named (ap is_some leaf.fresh.fault));
-        short = ap (ran_short (is_short run.was.work)) run.enough ∙ never (is_short run.was.work);
-      }))
-        where
-          never : (b : Bool) → ran_short b false ≡ false
-          never true = refl
-          never false = refl
-
-          no-fault : (o : Option StageFault) → IsOf (op_of run.was.work) o → is_device o ≡ false
-          no-fault None h = refl
-          no-fault (Some (stage.Point p)) h = refl
-          no-fault (Some (stage.Device d)) h = absurd (none-some d (sym leaf.op ∙ h))
-      quiet (suc j) n l f g = absurd (none-some n f)
-
-      tells : LeavesTell (as_works s k) (run.was ∷ [])
-      tells zero n f l = subst (λ (x : Node (StageWork S K)). tells_of s.bytes x.work ≡ true) (same_Some run.was n f) gives.tells
-      tells (suc j) n f l = absurd (none-some n f)
-
-      streams : Streams (as_works s k) ([] ∷ []) (run.was ∷ []) (λ _. stage_value stages opened root)
-      streams = record {
-        leaf = λ j n f l. at-leaf j n f;
-        inner = λ j n f l. absurd (true≢false (sym (is-leaf j n f) ∙ l));
-      }
-        where
-          at-leaf : (j : ℕ) (n : Node (StageWork S K)) → slice_get (run.was ∷ []) j ≡ Some n → told_of s.bytes n.work ≡ flow_marks (stage_value stages opened root)
-          at-leaf zero n f = subst (λ (x : Node (StageWork S K)). told_of s.bytes x.work ≡ flow_marks (stage_value stages opened root)) (same_Some run.was n f) gives.told
-          at-leaf (suc j) n f = absurd (none-some n f)
-
-          is-leaf : (j : ℕ) (n : Node (StageWork S K)) → slice_get (run.was ∷ []) j ≡ Some n → is_leaf n.work ≡ true
-          is-leaf zero n f = subst (λ (x : Node (StageWork S K)). is_leaf x.work ≡ true) (same_Some run.was n f) leaf.leaf
-          is-leaf (suc j) n f = absurd (none-some n f)
-
-      over : EndsOver (as_works s k) ([] ∷ []) (run.was ∷ []) (run.is ∷ []) (λ _. stage_value stages opened root)
-      over = run.ran.ends quiet tells (λ _. stage_value stages opened root) streams
-
-      root-ends-so : slice_get after root ≡ Some m → EndsAsStage s k stages opened root m
-      root-ends-so f =
-          let o = some_at old root (let c = new.count in omega (arith, c, inside)) in
-          let same : run.is ≡ m = same_Some run.is m (sym run.back ∙ f) in
-          subst (EndsAsStage s k stages opened root) same
-          (held-ends s k stages old new down opened tell root o.0 run.is o.1 gathers (calm.op ∙ leaf.op) (over.gave 0 run.is refl) (over.told 0 run.was run.is refl refl leaf.leaf ∙ gives.sound))

@@ -20,10 +20,13 @@ use Rattle.answer_model.proofs.Values.{tree-down}
 use Rattle.stage_runs.specs.Works.{as_works, ins_of, AreNewStages}
 use Rattle.stage_runs.specs.Ran.{AreRanStages}
 use Rattle.stage_runs.specs.Parts.{gathers_of, IsCollecting, IsNewLeaf, IsPartRun, IsLeafRun, IsGatheredAt, AreRunBefore, AreTurned, ByParts}
+use Rattle.stage_runs.specs.Short.{RanShort, SomeGathers}
 use Rattle.stage_runs.proofs.Asked.{fresh-before, root-inputs, root-collects, last-leaf}
 use Rattle.stage_runs.proofs.Forests.{mapped, stages-forest}
 use Rattle.stage_runs.proofs.Part.{IsRoot, gathers-are}
-use Rattle.stage_runs.proofs.Steps.{none-run, none-here, gathered-here, last-streams, last-gathers}
+use Rattle.stage_runs.proofs.LastPart.{last-streams, last-gathers}
+use Rattle.stage_runs.proofs.Short.{short-gathers}
+use Rattle.stage_runs.proofs.Steps.{none-run, none-here, gathered-here}
 
 -- a tree has at least one stage, and at most 64
 pub some-stages : (stages : List StageSpec) → IsTree (shapes stages) → 0 < length stages
@@ -43,6 +46,19 @@ any-default : (xs : List Bool) (i : ℕ) (d e : Bool) → i < length xs → slic
 any-default [] i d e l = absurd (omega (arith, l))
 any-default (x ∷ xs) zero d e l = refl
 any-default (x ∷ xs) (suc i) d e l = any-default xs i d e (omega (arith, l))
+
+-- whether a stage needs whole views, as it was read
+pub gathers-read : (stages : List StageSpec) (gathers : List Bool) → gathers ≡ gathers_of stages → (i : ℕ) (read b : Bool) → i < length stages → read ≡ slice_index_or gathers i read → read ≡ b
+    → is_gathering (role_at stages i) ≡ b
+gathers-read stages gathers gathers_is i read b l e is =
+    let many = ap length gathers_is ∙ gathers-size stages in
+    sym (gathers-are stages i) ∙ ap (λ gs. gathers_at gs i) (sym gathers_is) ∙ any-default gathers i false read (omega (arith, l, many)) ∙ sym e ∙ is
+
+pub gathers-inside : (stages : List StageSpec) (gathers : List Bool) → gathers ≡ gathers_of stages → (i : ℕ) → i < length stages → i < length gathers
+gathers-inside stages gathers gathers_is i l = let many = ap length gathers_is ∙ gathers-size stages in omega (arith, l, many)
+
+pub homes-size : (stages : List StageSpec) (homes : List ℕ) → AreHomes (gathers_of stages) (ins_of stages) homes → length homes ≡ length stages
+homes-size stages homes are = are.count ∙ ins-size stages
 
 pub on-ok : {T E : Type 0} (r : Result T E) (P Q : Type 0) → (P → Q) → OnOk r P → OnOk r Q
 on-ok (Ok x) P Q f h = f h
@@ -65,21 +81,6 @@ module _ {S K : Type 0} (s : source.Ghosts S) (k : sink.Ghosts K) (stages : List
 
   pub same-part : (home root : ℕ) → part home root ≡ part_ins (gathers_of stages) (ins_of stages) homes home root
   same-part home root = ap (λ gs. part_ins gs ins homes home root) gathers_is ∙ ap (λ xss. part_ins (gathers_of stages) xss homes home root) ins_is
-
-  pub gathers-here : (i : ℕ) → gathers_at gathers i ≡ is_gathering (role_at stages i)
-  gathers-here i = ap (λ gs. gathers_at gs i) gathers_is ∙ gathers-are stages i
-
-  -- it was read
-  pub gathers-read : (i : ℕ) (read b : Bool) → i < length stages → read ≡ slice_index_or gathers i read → read ≡ b → is_gathering (role_at stages i) ≡ b
-  gathers-read i read b l e is =
-      let many = ap length gathers_is ∙ gathers-size stages in
-      sym (gathers-here i) ∙ any-default gathers i false read (omega (arith, l, many)) ∙ sym e ∙ is
-
-  pub gathers-inside : (i : ℕ) → i < length stages → i < length gathers
-  gathers-inside i l = let many = ap length gathers_is ∙ gathers-size stages in omega (arith, l, many)
-
-  pub homes-size : length homes ≡ length stages
-  homes-size = are.count ∙ ins-size stages
 
   pub at-first : Done 0 old
   at-first = none-run s k stages old new down forest (ins-size stages) homes are queue
@@ -131,6 +132,10 @@ module _ {S K : Type 0} (s : source.Ghosts S) (k : sink.Ghosts K) (stages : List
       gathers = λ g. absurd (true≢false (sym g ∙ f));
     };
   }
+
+  -- where memory is wanting in the last part, a stage gathers
+  pub wanting : (now after : List (Node (StageWork S K))) → length now ≡ length stages → Done (length stages) now → RanShort now after → SomeGathers stages
+  wanting = short-gathers s k stages old new down forest (ins-size stages) homes are queue
 
   -- ---- the part of a stage that gathers
 

@@ -39,6 +39,7 @@ use Rattle.answer_model.specs.Values.{LasFile, Opened}
 use Rattle.stage_runs.specs.Ran.{wrote_of}
 use Rattle.whole_filters.specs.declared.gathering.Gathering.{Gathering}
 use Rattle.view_works.specs.declared.collector.Collector.{Collector as Collecting}
+use Rattle.stage_runs.specs.Parts.{IsCollecting}
 use Rattle.stage_runs.specs.Works.{HoldsNone, IsAtStart, IsStarted, form_for, op_for}
 use Rattle.stage_forms.specs.Below.{Tells}
 
@@ -186,6 +187,15 @@ module _ {S K : Type 0} (s : source.Ghosts S) (bytes : K → Option (List ℕ)) 
       go (Gathers g) row (Collector c) start = (c, g, refl, start, row.gathers)
       go (Writes x) row (Writer v) start = absurd (true≢false (sym gathers ∙ ap is_gathering row.does))
       go form row w start = absurd start
+
+  -- and a work that takes them is that of a stage that needs them
+  pub collects-gathers : (o : Options) (setting : Setting) (w : StageWork S K) → IsAtStart bytes o setting w → IsCollecting w → is_gathering (role_of o) ≡ true
+  collects-gathers o setting (Collector c) start collects = go (form_for o setting) (row-is o setting) start
+    where
+      go : (form : StageForm) → IsRow form o setting → IsStarted {S = S} {K = K} bytes form (Collector c) → is_gathering (role_of o) ≡ true
+      go (Gathers g) row start = ap is_gathering row.does
+      go form row start = absurd start
+  collects-gathers o setting w start collects = absurd collects
 
   -- a writer writes what its stage does
   pub writing-at-start : (o : Options) (setting : Setting) (w : StageWork S K) → IsAtStart bytes o setting w → (x : Writing) → form_for o setting ≡ Writes x → writing_of w ≡ Some x

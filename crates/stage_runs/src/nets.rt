@@ -13,6 +13,7 @@ ghost use Rattle.stage_kinds.specs.Stages.{is_short};
 ghost use Rattle.stage_kinds.specs.declared.stage_work.StageWork as work_type;
 ghost use Rattle.stage_runs.specs.Works.{as_works};
 ghost use Rattle.stage_runs.specs.Parts.{AreLater, AreStandIns, Gives, IsLater, IsNewLeaf};
+ghost use Rattle.stage_runs.specs.Short.{RanShort};
 
 use file_devices::{FileSink, Source};
 use network_core::{InsList, Node, NodeList, Queues};
@@ -52,7 +53,8 @@ pub(crate) fn stand_ins<S: Source, K: FileSink>(
 
 /// Whether memory was wanting at one of these nodes.
 fn any_short<S: Source, K: FileSink>(nodes: &[Node<StageWork<S, K>>]) -> bool
-    ensures { result ≡ false → (i : ℕ) (n : node_type.Node (work_type.StageWork S K)) → slice_get nodes.now i ≡ Some n → is_short n.work ≡ false }
+    ensures short { result ≡ true → (i : ℕ) × (n : node_type.Node (work_type.StageWork S K)) × (slice_get nodes.now i ≡ Some n) × (is_short n.work ≡ true) }
+    ensures enough { result ≡ false → (i : ℕ) (n : node_type.Node (work_type.StageWork S K)) → slice_get nodes.now i ≡ Some n → is_short n.work ≡ false }
 {
     for i in 0..nodes.len() {
         if nodes[i].work().is_short() {
@@ -94,6 +96,7 @@ pub(crate) fn run_net<S: Source, K: FileSink>(
     ensures ran { IsRanTree (as_works S.Source K.Sink) ins nodes.items result.nodes.items }
     ensures over { IsRanOver (as_works S.Source K.Sink) ins queues.capacity nodes.items result.nodes.items }
     ensures enough { result.enough ≡ true → (i : ℕ) (n : node_type.Node (work_type.StageWork S K)) → slice_get result.nodes.items i ≡ Some n → is_short n.work ≡ false }
+    ensures short { result.enough ≡ false → RanShort nodes.items result.nodes.items }
 {
     let nodes = run_tree(NodeList::new(nodes), ins, queues).into_vec();
     let enough = !any_short(&nodes);

@@ -1,6 +1,6 @@
 //! The parts of a tree of stages take turns, each as a net of its own.
 
-ghost use Rattle.std.specs.Prelude.{◌≡◌, ◌-◌, ◌<◌, ◌≤◌, ◌↔◌, ℕ, true, length, slice_get, Some, OnOk};
+ghost use Rattle.std.specs.Prelude.{◌≡◌, ◌-◌, ◌<◌, ◌≤◌, ◌↔◌, ℕ, true, length, slice_get, Some, OnErr, OnOk};
 ghost use Rattle.network_core.specs.declared.node.Node as node_type;
 ghost use Rattle.network_core.specs.Shown.{shown};
 ghost use Rattle.network_theory.specs.Forest.{IsForest, children};
@@ -11,6 +11,7 @@ ghost use Rattle.stage_parts.specs.Parts.{is_of, part_ins};
 ghost use Rattle.stage_runs.specs.Works.{as_works};
 ghost use Rattle.stage_runs.specs.Parts.{IsExchanged, is_own, IsNewLeaf, IsCollecting, IsRenewed, IsPartRun, IsLeafRun, IsGatheredAt, AreSameOrLater};
 ghost use Rattle.stage_runs.specs.Rooms.{IsRoom};
+ghost use Rattle.stage_runs.specs.Short.{RanShort};
 
 use crate::nets::{Alone, Ran, let_go, run_alone, run_net, stand_in};
 use crate::plan::Plan;
@@ -58,8 +59,8 @@ fn renew_root<W: Work>(net: &mut Vec<Node<W>>, inputs: u32, chunk: usize)
     }
 }
 
-/// Lets the nodes of the part of a home take turns until all are done, in its memory. Each node stays at its place. Refuses where memory
-/// is wanting.
+/// Lets the nodes of the part of a home take turns until all are done, in its memory. Each node stays at its place. Refuses only where
+/// memory is wanting at a node that takes whole views.
 pub(crate) fn run_part<S: Source, K: FileSink>(
     nodes: &mut [Node<StageWork<S, K>>],
     plan: &Plan,
@@ -79,6 +80,7 @@ pub(crate) fn run_part<S: Source, K: FileSink>(
         → (is_leaf n.work ≡ true) ↔ (length (children (part_ins plan.now.gathers.items plan.now.ins plan.now.homes.items home root) root) ≡ 0) }
     ensures later { AreSameOrLater S.Source K.Sink nodes.old nodes.new }
     ensures run { OnOk result (IsPartRun S.Source K.Sink sizes.queue (part_ins plan.now.gathers.items plan.now.ins plan.now.homes.items home root) plan.now.homes.items home root nodes.old nodes.new) }
+    ensures short { OnErr result (RanShort nodes.old nodes.new) }
 {
     let PartRoom {
         ins,

@@ -14,5 +14,13 @@ loop-i-preserved g c = λ j n l e. elim (eqb_tells j c.loop-i.i) [
   | inr p ↦ (let ne = p.1 in c.loop-i.invariant j n (omega (arith, l, ne)) e)
 ]
 
-pub returns : goal.returns
-returns g c = λ e j n f. c.loop-i.invariant j n (let a = slice_get_within c.args.nodes.now j n f in let b = c.loop-i-test.false in omega (arith, a, b)) f
+pub returns-then-is_short-clause-short : goal.returns-then-is_short-clause-short
+returns-then-is_short-clause-short g c = λ e. (
+  c.loop-i.i,
+  c.index-nodes-i.result,
+  slice_get_read c.args.nodes.now (length c.args.nodes.now) c.loop-i.i c.index-nodes-i.result refl (let less = c.loop-i-test.true in omega (arith, less)) c.index-nodes-i.is,
+  ap is_short (sym c.work.ensures) ∙ sym c.is_short.ensures ∙ c.if-is_short.true,
+)
+
+pub returns-clause-enough : goal.returns-clause-enough
+returns-clause-enough g c = λ e j n f. c.loop-i.invariant j n (let a = slice_get_within c.args.nodes.now j n f in let b = c.loop-i-test.false in omega (arith, a, b)) f

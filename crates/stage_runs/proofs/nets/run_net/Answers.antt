@@ -8,6 +8,7 @@ use Rattle.network_theory.specs.Opening.{IsFresh}
 use Rattle.stage_runs.specs.Works.{as_works}
 use Rattle.stage_runs.specs.Parts.{AreLater}
 use Rattle.stage_runs.proofs.Later.{ran-later, not-short}
+use Rattle.stage_runs.proofs.Short.{is-short, short-ran}
 use Rattle.stage_runs.proofs.nets.run_net.Goals as goal
 
 pub run_tree-requires-clause-fresh : goal.run_tree-requires-clause-fresh
@@ -28,4 +29,11 @@ returns-clause-over g c = subst (λ (ns : List (Node _)). IsRanOver (as_works g.
 
 pub returns-clause-enough : goal.returns-clause-enough
 returns-clause-enough g c = λ enough i n e.
-    c.any_short-enough.ensures (not-short c.any_short-enough.result enough) i n (ap (λ (ns : List (Node _)). slice_get ns i) c.deref.ensures.value ∙ e)
+    c.any_short-enough.ensures.enough (not-short c.any_short-enough.result enough) i n (ap (λ (ns : List (Node _)). slice_get ns i) c.deref.ensures.value ∙ e)
+
+pub returns-clause-short : goal.returns-clause-short
+returns-clause-short g c = λ wanting.
+    let found = c.any_short-enough.ensures.short (is-short c.any_short-enough.result wanting) in
+    let ran = subst (λ (ns : List (Node _)). IsRanTree (as_works g.S.Source g.K.Sink) c.args.ins c.args.nodes.items ns) (sym c.into_vec-nodes.ensures)
+    (subst (λ (ns : List (Node _)). IsRanTree (as_works g.S.Source g.K.Sink) c.args.ins ns c.run_tree.result) c.new.ensures c.run_tree.ensures.ran) in
+    short-ran g.S.Source g.K.Sink c.args.ins c.args.nodes.items c.into_vec-nodes.result.items ran found.0 found.1 (sym (ap (λ (ns : List (Node _)). slice_get ns found.0) c.deref.ensures.value) ∙ found.2) found.3

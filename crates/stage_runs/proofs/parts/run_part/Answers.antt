@@ -9,8 +9,7 @@ use Rattle.stage_kinds.specs.Stages.{is_leaf}
 use Rattle.stage_parts.specs.Parts.{part_ins}
 use Rattle.stage_parts.proofs.Trees.{at_stranger}
 use Rattle.stage_runs.specs.Works.{as_works}
-use Rattle.stage_runs.specs.Parts.{IsExchanged, is_own}
-use Rattle.stage_runs.proofs.Lending.{renewed-size, net-fresh, part-later, rest-op, part-run, root-at}
+use Rattle.stage_runs.proofs.Lending.{lent-over, renewed-size, net-fresh, part-later, part-short, rest-op, part-run, root-at}
 use Rattle.stage_runs.proofs.Widths.{few-children}
 use Rattle.stage_runs.proofs.parts.run_part.Goals as goal
 
@@ -54,14 +53,11 @@ renew_root-requires-clause-leaf g c =
     let nodes = c.args.nodes.now in
     let part = part_ins plan.gathers.items plan.ins homes home root in
     let is-part : c.args.room.ins ≡ part = c.requires.room.ins in
+    let stands = c.args.room.net.items in
     let stand = c.requires.room.net in
-    let size = stand.count in
-    let last : length c.args.room.net.items - 1 ≡ root = omega (arith, size) in
-    let first = subst (λ n. IsExchanged (is_own homes home root) n nodes c.args.room.net.items c.lend.new.nodes c.lend.new.net.items) size
-    (subst (λ n. IsExchanged (is_own homes home n) (length c.args.room.net.items) nodes c.args.room.net.items c.lend.new.nodes c.lend.new.net.items) last
-    (subst (λ hs. IsExchanged (is_own hs home (length c.args.room.net.items - 1)) (length c.args.room.net.items) nodes c.args.room.net.items c.lend.new.nodes c.lend.new.net.items) c.as_slice-homes.ensures.value c.lend.ensures)) in
+    let first = lent-over _ homes home root (length stands) nodes stands c.lend.new.nodes c.lend.new.net.items stand.count c.as_slice-homes.ensures.value c.lend.ensures in
     let count : length (children part root) ≡ length c.children.result.now = ap (λ xs. length xs) (sym (c.children.ensures ∙ ap (λ xss. children xss root) is-part)) in
-    λ n e. subst (λ m. (is_leaf n.work ≡ true → m ≡ 0) × (m ≡ 0 → is_leaf n.work ≡ true)) count (c.requires.inputs n (root-at s k homes home root nodes c.args.room.net.items c.lend.new.nodes c.lend.new.net.items stand first n e))
+    λ n e. subst (λ m. (is_leaf n.work ≡ true → m ≡ 0) × (m ≡ 0 → is_leaf n.work ≡ true)) count (c.requires.inputs n (root-at s k homes home root nodes stands c.lend.new.nodes c.lend.new.net.items stand first n e))
 
 pub run_net-net-requires-clause-some : goal.run_net-net-requires-clause-some
 run_net-net-requires-clause-some g c =
@@ -74,15 +70,12 @@ run_net-net-requires-clause-some g c =
     let nodes = c.args.nodes.now in
     let part = part_ins plan.gathers.items plan.ins homes home root in
     let is-part : c.args.room.ins ≡ part = c.requires.room.ins in
+    let stands = c.args.room.net.items in
     let stand = c.requires.room.net in
-    let size = stand.count in
-    let last : length c.args.room.net.items - 1 ≡ root = omega (arith, size) in
-    let first = subst (λ n. IsExchanged (is_own homes home root) n nodes c.args.room.net.items c.lend.new.nodes c.lend.new.net.items) size
-    (subst (λ n. IsExchanged (is_own homes home n) (length c.args.room.net.items) nodes c.args.room.net.items c.lend.new.nodes c.lend.new.net.items) last
-    (subst (λ hs. IsExchanged (is_own hs home (length c.args.room.net.items - 1)) (length c.args.room.net.items) nodes c.args.room.net.items c.lend.new.nodes c.lend.new.net.items) c.as_slice-homes.ensures.value c.lend.ensures)) in
+    let first = lent-over _ homes home root (length stands) nodes stands c.lend.new.nodes c.lend.new.net.items stand.count c.as_slice-homes.ensures.value c.lend.ensures in
     let count : length (children part root) ≡ length c.children.result.now = ap (λ xs. length xs) (sym (c.children.ensures ∙ ap (λ xss. children xss root) is-part)) in
     let leaves = at_stranger plan.gathers.items plan.ins homes home root in
-    let size = renewed-size s k part homes home root nodes c.args.room.net.items c.lend.new.nodes c.lend.new.net.items c.renew_root.new.net.items c.requires.root stand first (length c.children.result.now) c.renew_root.ensures count leaves c.requires.fresh in omega (arith, size)
+    let size = renewed-size s k part homes home root nodes stands c.lend.new.nodes c.lend.new.net.items c.renew_root.new.net.items c.requires.root stand first (length c.children.result.now) c.renew_root.ensures count leaves c.requires.fresh in omega (arith, size)
 
 pub run_net-net-requires-clause-most : goal.run_net-net-requires-clause-most
 run_net-net-requires-clause-most g c =
@@ -95,15 +88,12 @@ run_net-net-requires-clause-most g c =
     let nodes = c.args.nodes.now in
     let part = part_ins plan.gathers.items plan.ins homes home root in
     let is-part : c.args.room.ins ≡ part = c.requires.room.ins in
+    let stands = c.args.room.net.items in
     let stand = c.requires.room.net in
-    let size = stand.count in
-    let last : length c.args.room.net.items - 1 ≡ root = omega (arith, size) in
-    let first = subst (λ n. IsExchanged (is_own homes home root) n nodes c.args.room.net.items c.lend.new.nodes c.lend.new.net.items) size
-    (subst (λ n. IsExchanged (is_own homes home n) (length c.args.room.net.items) nodes c.args.room.net.items c.lend.new.nodes c.lend.new.net.items) last
-    (subst (λ hs. IsExchanged (is_own hs home (length c.args.room.net.items - 1)) (length c.args.room.net.items) nodes c.args.room.net.items c.lend.new.nodes c.lend.new.net.items) c.as_slice-homes.ensures.value c.lend.ensures)) in
+    let first = lent-over _ homes home root (length stands) nodes stands c.lend.new.nodes c.lend.new.net.items stand.count c.as_slice-homes.ensures.value c.lend.ensures in
     let count : length (children part root) ≡ length c.children.result.now = ap (λ xs. length xs) (sym (c.children.ensures ∙ ap (λ xss. children xss root) is-part)) in
     let leaves = at_stranger plan.gathers.items plan.ins homes home root in
-    let size = renewed-size s k part homes home root nodes c.args.room.net.items c.lend.new.nodes c.lend.new.net.items c.renew_root.new.net.items c.requires.root stand first (length c.children.result.now) c.renew_root.ensures count leaves c.requires.fresh in let inside = c.requires.root in let most = c.requires.few in omega (arith, size, inside, most)
+    let size = renewed-size s k part homes home root nodes stands c.lend.new.nodes c.lend.new.net.items c.renew_root.new.net.items c.requires.root stand first (length c.children.result.now) c.renew_root.ensures count leaves c.requires.fresh in let inside = c.requires.root in let most = c.requires.few in omega (arith, size, inside, most)
 
 pub run_net-net-requires-clause-fresh : goal.run_net-net-requires-clause-fresh
 run_net-net-requires-clause-fresh g c =
@@ -116,15 +106,12 @@ run_net-net-requires-clause-fresh g c =
     let nodes = c.args.nodes.now in
     let part = part_ins plan.gathers.items plan.ins homes home root in
     let is-part : c.args.room.ins ≡ part = c.requires.room.ins in
+    let stands = c.args.room.net.items in
     let stand = c.requires.room.net in
-    let size = stand.count in
-    let last : length c.args.room.net.items - 1 ≡ root = omega (arith, size) in
-    let first = subst (λ n. IsExchanged (is_own homes home root) n nodes c.args.room.net.items c.lend.new.nodes c.lend.new.net.items) size
-    (subst (λ n. IsExchanged (is_own homes home n) (length c.args.room.net.items) nodes c.args.room.net.items c.lend.new.nodes c.lend.new.net.items) last
-    (subst (λ hs. IsExchanged (is_own hs home (length c.args.room.net.items - 1)) (length c.args.room.net.items) nodes c.args.room.net.items c.lend.new.nodes c.lend.new.net.items) c.as_slice-homes.ensures.value c.lend.ensures)) in
+    let first = lent-over _ homes home root (length stands) nodes stands c.lend.new.nodes c.lend.new.net.items stand.count c.as_slice-homes.ensures.value c.lend.ensures in
     let count : length (children part root) ≡ length c.children.result.now = ap (λ xs. length xs) (sym (c.children.ensures ∙ ap (λ xss. children xss root) is-part)) in
     let leaves = at_stranger plan.gathers.items plan.ins homes home root in
-    subst (λ xss. (i : ℕ) (n : Node _) → slice_get c.renew_root.new.net.items i ≡ Some n → IsFresh (shown (as_works s k) (children xss i) n)) (sym is-part) (net-fresh s k part homes home root nodes c.args.room.net.items c.lend.new.nodes c.lend.new.net.items c.renew_root.new.net.items c.requires.root stand first (length c.children.result.now) c.renew_root.ensures count leaves c.requires.fresh)
+    subst (λ xss. (i : ℕ) (n : Node _) → slice_get c.renew_root.new.net.items i ≡ Some n → IsFresh (shown (as_works s k) (children xss i) n)) (sym is-part) (net-fresh s k part homes home root nodes stands c.lend.new.nodes c.lend.new.net.items c.renew_root.new.net.items c.requires.root stand first (length c.children.result.now) c.renew_root.ensures count leaves c.requires.fresh)
 
 pub run_net-net-requires-clause-forest : goal.run_net-net-requires-clause-forest
 run_net-net-requires-clause-forest g c =
@@ -137,15 +124,12 @@ run_net-net-requires-clause-forest g c =
     let nodes = c.args.nodes.now in
     let part = part_ins plan.gathers.items plan.ins homes home root in
     let is-part : c.args.room.ins ≡ part = c.requires.room.ins in
+    let stands = c.args.room.net.items in
     let stand = c.requires.room.net in
-    let size = stand.count in
-    let last : length c.args.room.net.items - 1 ≡ root = omega (arith, size) in
-    let first = subst (λ n. IsExchanged (is_own homes home root) n nodes c.args.room.net.items c.lend.new.nodes c.lend.new.net.items) size
-    (subst (λ n. IsExchanged (is_own homes home n) (length c.args.room.net.items) nodes c.args.room.net.items c.lend.new.nodes c.lend.new.net.items) last
-    (subst (λ hs. IsExchanged (is_own hs home (length c.args.room.net.items - 1)) (length c.args.room.net.items) nodes c.args.room.net.items c.lend.new.nodes c.lend.new.net.items) c.as_slice-homes.ensures.value c.lend.ensures)) in
+    let first = lent-over _ homes home root (length stands) nodes stands c.lend.new.nodes c.lend.new.net.items stand.count c.as_slice-homes.ensures.value c.lend.ensures in
     let count : length (children part root) ≡ length c.children.result.now = ap (λ xs. length xs) (sym (c.children.ensures ∙ ap (λ xss. children xss root) is-part)) in
     let leaves = at_stranger plan.gathers.items plan.ins homes home root in
-    let size = renewed-size s k part homes home root nodes c.args.room.net.items c.lend.new.nodes c.lend.new.net.items c.renew_root.new.net.items c.requires.root stand first (length c.children.result.now) c.renew_root.ensures count leaves c.requires.fresh in
+    let size = renewed-size s k part homes home root nodes stands c.lend.new.nodes c.lend.new.net.items c.renew_root.new.net.items c.requires.root stand first (length c.children.result.now) c.renew_root.ensures count leaves c.requires.fresh in
     let last : root ≡ length c.renew_root.new.net.items - 1 = omega (arith, size) in
     subst (λ xss. IsForest xss (length c.renew_root.new.net.items - 1)) (sym is-part) (subst (IsForest part) last c.requires.forest)
 
@@ -160,15 +144,12 @@ run_net-net-requires-clause-queues g c =
     let nodes = c.args.nodes.now in
     let part = part_ins plan.gathers.items plan.ins homes home root in
     let is-part : c.args.room.ins ≡ part = c.requires.room.ins in
+    let stands = c.args.room.net.items in
     let stand = c.requires.room.net in
-    let size = stand.count in
-    let last : length c.args.room.net.items - 1 ≡ root = omega (arith, size) in
-    let first = subst (λ n. IsExchanged (is_own homes home root) n nodes c.args.room.net.items c.lend.new.nodes c.lend.new.net.items) size
-    (subst (λ n. IsExchanged (is_own homes home n) (length c.args.room.net.items) nodes c.args.room.net.items c.lend.new.nodes c.lend.new.net.items) last
-    (subst (λ hs. IsExchanged (is_own hs home (length c.args.room.net.items - 1)) (length c.args.room.net.items) nodes c.args.room.net.items c.lend.new.nodes c.lend.new.net.items) c.as_slice-homes.ensures.value c.lend.ensures)) in
+    let first = lent-over _ homes home root (length stands) nodes stands c.lend.new.nodes c.lend.new.net.items stand.count c.as_slice-homes.ensures.value c.lend.ensures in
     let count : length (children part root) ≡ length c.children.result.now = ap (λ xs. length xs) (sym (c.children.ensures ∙ ap (λ xss. children xss root) is-part)) in
     let leaves = at_stranger plan.gathers.items plan.ins homes home root in
-    let size = renewed-size s k part homes home root nodes c.args.room.net.items c.lend.new.nodes c.lend.new.net.items c.renew_root.new.net.items c.requires.root stand first (length c.children.result.now) c.renew_root.ensures count leaves c.requires.fresh in let below = c.requires.room.queues in omega (arith, size, below)
+    let size = renewed-size s k part homes home root nodes stands c.lend.new.nodes c.lend.new.net.items c.renew_root.new.net.items c.requires.root stand first (length c.children.result.now) c.renew_root.ensures count leaves c.requires.fresh in let below = c.requires.room.queues in omega (arith, size, below)
 
 pub lend-requires-2-clause-net : goal.lend-requires-2-clause-net
 lend-requires-2-clause-net g c =
@@ -181,15 +162,12 @@ lend-requires-2-clause-net g c =
     let nodes = c.args.nodes.now in
     let part = part_ins plan.gathers.items plan.ins homes home root in
     let is-part : c.args.room.ins ≡ part = c.requires.room.ins in
+    let stands = c.args.room.net.items in
     let stand = c.requires.room.net in
-    let size = stand.count in
-    let last : length c.args.room.net.items - 1 ≡ root = omega (arith, size) in
-    let first = subst (λ n. IsExchanged (is_own homes home root) n nodes c.args.room.net.items c.lend.new.nodes c.lend.new.net.items) size
-    (subst (λ n. IsExchanged (is_own homes home n) (length c.args.room.net.items) nodes c.args.room.net.items c.lend.new.nodes c.lend.new.net.items) last
-    (subst (λ hs. IsExchanged (is_own hs home (length c.args.room.net.items - 1)) (length c.args.room.net.items) nodes c.args.room.net.items c.lend.new.nodes c.lend.new.net.items) c.as_slice-homes.ensures.value c.lend.ensures)) in
+    let first = lent-over _ homes home root (length stands) nodes stands c.lend.new.nodes c.lend.new.net.items stand.count c.as_slice-homes.ensures.value c.lend.ensures in
     let count : length (children part root) ≡ length c.children.result.now = ap (λ xs. length xs) (sym (c.children.ensures ∙ ap (λ xss. children xss root) is-part)) in
     let leaves = at_stranger plan.gathers.items plan.ins homes home root in
-    let size = renewed-size s k part homes home root nodes c.args.room.net.items c.lend.new.nodes c.lend.new.net.items c.renew_root.new.net.items c.requires.root stand first (length c.children.result.now) c.renew_root.ensures count leaves c.requires.fresh in let many = c.run_net-net.ensures.later.count in let same = first.one_count in let inside = c.requires.root in omega (arith, size, many, same, inside)
+    let size = renewed-size s k part homes home root nodes stands c.lend.new.nodes c.lend.new.net.items c.renew_root.new.net.items c.requires.root stand first (length c.children.result.now) c.renew_root.ensures count leaves c.requires.fresh in let many = c.run_net-net.ensures.later.count in let same = first.one_count in let inside = c.requires.root in omega (arith, size, many, same, inside)
 
 pub lend-requires-2-clause-homes : goal.lend-requires-2-clause-homes
 lend-requires-2-clause-homes g c =
@@ -198,12 +176,9 @@ lend-requires-2-clause-homes g c =
     let home = c.args.home in
     let root = c.args.root in
     let nodes = c.args.nodes.now in
+    let stands = c.args.room.net.items in
     let stand = c.requires.room.net in
-    let size = stand.count in
-    let last : length c.args.room.net.items - 1 ≡ root = omega (arith, size) in
-    let first = subst (λ n. IsExchanged (is_own homes home root) n nodes c.args.room.net.items c.lend.new.nodes c.lend.new.net.items) size
-    (subst (λ n. IsExchanged (is_own homes home n) (length c.args.room.net.items) nodes c.args.room.net.items c.lend.new.nodes c.lend.new.net.items) last
-    (subst (λ hs. IsExchanged (is_own hs home (length c.args.room.net.items - 1)) (length c.args.room.net.items) nodes c.args.room.net.items c.lend.new.nodes c.lend.new.net.items) c.as_slice-homes.ensures.value c.lend.ensures)) in
+    let first = lent-over _ homes home root (length stands) nodes stands c.lend.new.nodes c.lend.new.net.items stand.count c.as_slice-homes.ensures.value c.lend.ensures in
     ap (λ hs. length hs) c.as_slice-homes.ensures.value ∙ c.requires.homes ∙ sym first.one_count
 
 pub let_go-requires : goal.let_go-requires
@@ -217,21 +192,15 @@ let_go-requires g c =
     let nodes = c.args.nodes.now in
     let part = part_ins plan.gathers.items plan.ins homes home root in
     let is-part : c.args.room.ins ≡ part = c.requires.room.ins in
+    let stands = c.args.room.net.items in
     let stand = c.requires.room.net in
-    let size = stand.count in
-    let last : length c.args.room.net.items - 1 ≡ root = omega (arith, size) in
-    let first = subst (λ n. IsExchanged (is_own homes home root) n nodes c.args.room.net.items c.lend.new.nodes c.lend.new.net.items) size
-    (subst (λ n. IsExchanged (is_own homes home n) (length c.args.room.net.items) nodes c.args.room.net.items c.lend.new.nodes c.lend.new.net.items) last
-    (subst (λ hs. IsExchanged (is_own hs home (length c.args.room.net.items - 1)) (length c.args.room.net.items) nodes c.args.room.net.items c.lend.new.nodes c.lend.new.net.items) c.as_slice-homes.ensures.value c.lend.ensures)) in
+    let first = lent-over _ homes home root (length stands) nodes stands c.lend.new.nodes c.lend.new.net.items stand.count c.as_slice-homes.ensures.value c.lend.ensures in
     let count : length (children part root) ≡ length c.children.result.now = ap (λ xs. length xs) (sym (c.children.ensures ∙ ap (λ xss. children xss root) is-part)) in
     let leaves = at_stranger plan.gathers.items plan.ins homes home root in
     let ended = c.run_net-net.result.nodes.items in
-    let many : length ended ≡ root + 1 = c.run_net-net.ensures.later.count ∙ renewed-size s k part homes home root nodes c.args.room.net.items c.lend.new.nodes c.lend.new.net.items c.renew_root.new.net.items c.requires.root stand first (length c.children.result.now) c.renew_root.ensures count leaves c.requires.fresh in
-    let last-ended : length ended - 1 ≡ root = omega (arith, many) in
-    let second = subst (λ n. IsExchanged (is_own homes home root) n c.lend.new.nodes ended c.lend-2.new.nodes c.lend-2.new.net.items) many
-    (subst (λ n. IsExchanged (is_own homes home n) (length ended) c.lend.new.nodes ended c.lend-2.new.nodes c.lend-2.new.net.items) last-ended
-    (subst (λ hs. IsExchanged (is_own hs home (length ended - 1)) (length ended) c.lend.new.nodes ended c.lend-2.new.nodes c.lend-2.new.net.items) c.as_slice-homes.ensures.value c.lend-2.ensures)) in
-    rest-op s k part homes home root nodes c.args.room.net.items c.lend.new.nodes c.lend.new.net.items c.renew_root.new.net.items c.requires.root stand first (length c.children.result.now) c.renew_root.ensures count leaves c.requires.fresh ended c.lend-2.new.nodes c.lend-2.new.net.items c.run_net-net.ensures.later second
+    let many : length ended ≡ root + 1 = c.run_net-net.ensures.later.count ∙ renewed-size s k part homes home root nodes stands c.lend.new.nodes c.lend.new.net.items c.renew_root.new.net.items c.requires.root stand first (length c.children.result.now) c.renew_root.ensures count leaves c.requires.fresh in
+    let second = lent-over _ homes home root (length ended) c.lend.new.nodes ended c.lend-2.new.nodes c.lend-2.new.net.items many c.as_slice-homes.ensures.value c.lend-2.ensures in
+    rest-op s k part homes home root nodes stands c.lend.new.nodes c.lend.new.net.items c.renew_root.new.net.items c.requires.root stand first (length c.children.result.now) c.renew_root.ensures count leaves c.requires.fresh ended c.lend-2.new.nodes c.lend-2.new.net.items c.run_net-net.ensures.later second
 
 pub returns-then-enough-clause-later : goal.returns-then-enough-clause-later
 returns-then-enough-clause-later g c =
@@ -244,21 +213,15 @@ returns-then-enough-clause-later g c =
     let nodes = c.args.nodes.now in
     let part = part_ins plan.gathers.items plan.ins homes home root in
     let is-part : c.args.room.ins ≡ part = c.requires.room.ins in
+    let stands = c.args.room.net.items in
     let stand = c.requires.room.net in
-    let size = stand.count in
-    let last : length c.args.room.net.items - 1 ≡ root = omega (arith, size) in
-    let first = subst (λ n. IsExchanged (is_own homes home root) n nodes c.args.room.net.items c.lend.new.nodes c.lend.new.net.items) size
-    (subst (λ n. IsExchanged (is_own homes home n) (length c.args.room.net.items) nodes c.args.room.net.items c.lend.new.nodes c.lend.new.net.items) last
-    (subst (λ hs. IsExchanged (is_own hs home (length c.args.room.net.items - 1)) (length c.args.room.net.items) nodes c.args.room.net.items c.lend.new.nodes c.lend.new.net.items) c.as_slice-homes.ensures.value c.lend.ensures)) in
+    let first = lent-over _ homes home root (length stands) nodes stands c.lend.new.nodes c.lend.new.net.items stand.count c.as_slice-homes.ensures.value c.lend.ensures in
     let count : length (children part root) ≡ length c.children.result.now = ap (λ xs. length xs) (sym (c.children.ensures ∙ ap (λ xss. children xss root) is-part)) in
     let leaves = at_stranger plan.gathers.items plan.ins homes home root in
     let ended = c.run_net-net.result.nodes.items in
-    let many : length ended ≡ root + 1 = c.run_net-net.ensures.later.count ∙ renewed-size s k part homes home root nodes c.args.room.net.items c.lend.new.nodes c.lend.new.net.items c.renew_root.new.net.items c.requires.root stand first (length c.children.result.now) c.renew_root.ensures count leaves c.requires.fresh in
-    let last-ended : length ended - 1 ≡ root = omega (arith, many) in
-    let second = subst (λ n. IsExchanged (is_own homes home root) n c.lend.new.nodes ended c.lend-2.new.nodes c.lend-2.new.net.items) many
-    (subst (λ n. IsExchanged (is_own homes home n) (length ended) c.lend.new.nodes ended c.lend-2.new.nodes c.lend-2.new.net.items) last-ended
-    (subst (λ hs. IsExchanged (is_own hs home (length ended - 1)) (length ended) c.lend.new.nodes ended c.lend-2.new.nodes c.lend-2.new.net.items) c.as_slice-homes.ensures.value c.lend-2.ensures)) in
-    part-later s k part homes home root nodes c.args.room.net.items c.lend.new.nodes c.lend.new.net.items c.renew_root.new.net.items c.requires.root stand first (length c.children.result.now) c.renew_root.ensures count leaves c.requires.fresh ended c.lend-2.new.nodes c.lend-2.new.net.items c.run_net-net.ensures.later second
+    let many : length ended ≡ root + 1 = c.run_net-net.ensures.later.count ∙ renewed-size s k part homes home root nodes stands c.lend.new.nodes c.lend.new.net.items c.renew_root.new.net.items c.requires.root stand first (length c.children.result.now) c.renew_root.ensures count leaves c.requires.fresh in
+    let second = lent-over _ homes home root (length ended) c.lend.new.nodes ended c.lend-2.new.nodes c.lend-2.new.net.items many c.as_slice-homes.ensures.value c.lend-2.ensures in
+    part-later s k part homes home root nodes stands c.lend.new.nodes c.lend.new.net.items c.renew_root.new.net.items c.requires.root stand first (length c.children.result.now) c.renew_root.ensures count leaves c.requires.fresh ended c.lend-2.new.nodes c.lend-2.new.net.items c.run_net-net.ensures.later second
 
 pub returns-else-enough-clause-later : goal.returns-else-enough-clause-later
 returns-else-enough-clause-later g c =
@@ -271,21 +234,36 @@ returns-else-enough-clause-later g c =
     let nodes = c.args.nodes.now in
     let part = part_ins plan.gathers.items plan.ins homes home root in
     let is-part : c.args.room.ins ≡ part = c.requires.room.ins in
+    let stands = c.args.room.net.items in
     let stand = c.requires.room.net in
-    let size = stand.count in
-    let last : length c.args.room.net.items - 1 ≡ root = omega (arith, size) in
-    let first = subst (λ n. IsExchanged (is_own homes home root) n nodes c.args.room.net.items c.lend.new.nodes c.lend.new.net.items) size
-    (subst (λ n. IsExchanged (is_own homes home n) (length c.args.room.net.items) nodes c.args.room.net.items c.lend.new.nodes c.lend.new.net.items) last
-    (subst (λ hs. IsExchanged (is_own hs home (length c.args.room.net.items - 1)) (length c.args.room.net.items) nodes c.args.room.net.items c.lend.new.nodes c.lend.new.net.items) c.as_slice-homes.ensures.value c.lend.ensures)) in
+    let first = lent-over _ homes home root (length stands) nodes stands c.lend.new.nodes c.lend.new.net.items stand.count c.as_slice-homes.ensures.value c.lend.ensures in
     let count : length (children part root) ≡ length c.children.result.now = ap (λ xs. length xs) (sym (c.children.ensures ∙ ap (λ xss. children xss root) is-part)) in
     let leaves = at_stranger plan.gathers.items plan.ins homes home root in
     let ended = c.run_net-net.result.nodes.items in
-    let many : length ended ≡ root + 1 = c.run_net-net.ensures.later.count ∙ renewed-size s k part homes home root nodes c.args.room.net.items c.lend.new.nodes c.lend.new.net.items c.renew_root.new.net.items c.requires.root stand first (length c.children.result.now) c.renew_root.ensures count leaves c.requires.fresh in
-    let last-ended : length ended - 1 ≡ root = omega (arith, many) in
-    let second = subst (λ n. IsExchanged (is_own homes home root) n c.lend.new.nodes ended c.lend-2.new.nodes c.lend-2.new.net.items) many
-    (subst (λ n. IsExchanged (is_own homes home n) (length ended) c.lend.new.nodes ended c.lend-2.new.nodes c.lend-2.new.net.items) last-ended
-    (subst (λ hs. IsExchanged (is_own hs home (length ended - 1)) (length ended) c.lend.new.nodes ended c.lend-2.new.nodes c.lend-2.new.net.items) c.as_slice-homes.ensures.value c.lend-2.ensures)) in
-    part-later s k part homes home root nodes c.args.room.net.items c.lend.new.nodes c.lend.new.net.items c.renew_root.new.net.items c.requires.root stand first (length c.children.result.now) c.renew_root.ensures count leaves c.requires.fresh ended c.lend-2.new.nodes c.lend-2.new.net.items c.run_net-net.ensures.later second
+    let many : length ended ≡ root + 1 = c.run_net-net.ensures.later.count ∙ renewed-size s k part homes home root nodes stands c.lend.new.nodes c.lend.new.net.items c.renew_root.new.net.items c.requires.root stand first (length c.children.result.now) c.renew_root.ensures count leaves c.requires.fresh in
+    let second = lent-over _ homes home root (length ended) c.lend.new.nodes ended c.lend-2.new.nodes c.lend-2.new.net.items many c.as_slice-homes.ensures.value c.lend-2.ensures in
+    part-later s k part homes home root nodes stands c.lend.new.nodes c.lend.new.net.items c.renew_root.new.net.items c.requires.root stand first (length c.children.result.now) c.renew_root.ensures count leaves c.requires.fresh ended c.lend-2.new.nodes c.lend-2.new.net.items c.run_net-net.ensures.later second
+
+pub returns-else-enough-clause-short : goal.returns-else-enough-clause-short
+returns-else-enough-clause-short g c =
+    let s = g.S.Source in
+    let k = g.K.Sink in
+    let plan = c.args.plan.now in
+    let homes = plan.homes.items in
+    let home = c.args.home in
+    let root = c.args.root in
+    let nodes = c.args.nodes.now in
+    let part = part_ins plan.gathers.items plan.ins homes home root in
+    let is-part : c.args.room.ins ≡ part = c.requires.room.ins in
+    let stands = c.args.room.net.items in
+    let stand = c.requires.room.net in
+    let first = lent-over _ homes home root (length stands) nodes stands c.lend.new.nodes c.lend.new.net.items stand.count c.as_slice-homes.ensures.value c.lend.ensures in
+    let count : length (children part root) ≡ length c.children.result.now = ap (λ xs. length xs) (sym (c.children.ensures ∙ ap (λ xss. children xss root) is-part)) in
+    let leaves = at_stranger plan.gathers.items plan.ins homes home root in
+    let ended = c.run_net-net.result.nodes.items in
+    let many : length ended ≡ root + 1 = c.run_net-net.ensures.later.count ∙ renewed-size s k part homes home root nodes stands c.lend.new.nodes c.lend.new.net.items c.renew_root.new.net.items c.requires.root stand first (length c.children.result.now) c.renew_root.ensures count leaves c.requires.fresh in
+    let second = lent-over _ homes home root (length ended) c.lend.new.nodes ended c.lend-2.new.nodes c.lend-2.new.net.items many c.as_slice-homes.ensures.value c.lend-2.ensures in
+    part-short s k part homes home root nodes stands c.lend.new.nodes c.lend.new.net.items c.renew_root.new.net.items c.requires.root stand first (length c.children.result.now) c.renew_root.ensures count leaves c.requires.fresh ended c.lend-2.new.nodes c.lend-2.new.net.items c.run_net-net.ensures.later second (c.run_net-net.ensures.short c.if-enough.false)
 
 pub returns-then-enough-clause-run : goal.returns-then-enough-clause-run
 returns-then-enough-clause-run g c =
@@ -298,21 +276,15 @@ returns-then-enough-clause-run g c =
     let nodes = c.args.nodes.now in
     let part = part_ins plan.gathers.items plan.ins homes home root in
     let is-part : c.args.room.ins ≡ part = c.requires.room.ins in
+    let stands = c.args.room.net.items in
     let stand = c.requires.room.net in
-    let size = stand.count in
-    let last : length c.args.room.net.items - 1 ≡ root = omega (arith, size) in
-    let first = subst (λ n. IsExchanged (is_own homes home root) n nodes c.args.room.net.items c.lend.new.nodes c.lend.new.net.items) size
-    (subst (λ n. IsExchanged (is_own homes home n) (length c.args.room.net.items) nodes c.args.room.net.items c.lend.new.nodes c.lend.new.net.items) last
-    (subst (λ hs. IsExchanged (is_own hs home (length c.args.room.net.items - 1)) (length c.args.room.net.items) nodes c.args.room.net.items c.lend.new.nodes c.lend.new.net.items) c.as_slice-homes.ensures.value c.lend.ensures)) in
+    let first = lent-over _ homes home root (length stands) nodes stands c.lend.new.nodes c.lend.new.net.items stand.count c.as_slice-homes.ensures.value c.lend.ensures in
     let count : length (children part root) ≡ length c.children.result.now = ap (λ xs. length xs) (sym (c.children.ensures ∙ ap (λ xss. children xss root) is-part)) in
     let leaves = at_stranger plan.gathers.items plan.ins homes home root in
     let ended = c.run_net-net.result.nodes.items in
-    let many : length ended ≡ root + 1 = c.run_net-net.ensures.later.count ∙ renewed-size s k part homes home root nodes c.args.room.net.items c.lend.new.nodes c.lend.new.net.items c.renew_root.new.net.items c.requires.root stand first (length c.children.result.now) c.renew_root.ensures count leaves c.requires.fresh in
-    let last-ended : length ended - 1 ≡ root = omega (arith, many) in
-    let second = subst (λ n. IsExchanged (is_own homes home root) n c.lend.new.nodes ended c.lend-2.new.nodes c.lend-2.new.net.items) many
-    (subst (λ n. IsExchanged (is_own homes home n) (length ended) c.lend.new.nodes ended c.lend-2.new.nodes c.lend-2.new.net.items) last-ended
-    (subst (λ hs. IsExchanged (is_own hs home (length ended - 1)) (length ended) c.lend.new.nodes ended c.lend-2.new.nodes c.lend-2.new.net.items) c.as_slice-homes.ensures.value c.lend-2.ensures)) in
-    part-run s k part homes home root nodes c.args.room.net.items c.lend.new.nodes c.lend.new.net.items c.renew_root.new.net.items c.requires.root stand first (length c.children.result.now) c.renew_root.ensures count leaves c.requires.fresh ended c.lend-2.new.nodes c.lend-2.new.net.items c.run_net-net.ensures.later second c.args.sizes.queue
+    let many : length ended ≡ root + 1 = c.run_net-net.ensures.later.count ∙ renewed-size s k part homes home root nodes stands c.lend.new.nodes c.lend.new.net.items c.renew_root.new.net.items c.requires.root stand first (length c.children.result.now) c.renew_root.ensures count leaves c.requires.fresh in
+    let second = lent-over _ homes home root (length ended) c.lend.new.nodes ended c.lend-2.new.nodes c.lend-2.new.net.items many c.as_slice-homes.ensures.value c.lend-2.ensures in
+    part-run s k part homes home root nodes stands c.lend.new.nodes c.lend.new.net.items c.renew_root.new.net.items c.requires.root stand first (length c.children.result.now) c.renew_root.ensures count leaves c.requires.fresh ended c.lend-2.new.nodes c.lend-2.new.net.items c.run_net-net.ensures.later second c.args.sizes.queue
     (subst (λ xss. IsRanTree (as_works s k) xss c.renew_root.new.net.items ended) is-part c.run_net-net.ensures.ran)
     (subst (λ n. IsRanOver (as_works s k) part n c.renew_root.new.net.items ended) c.requires.room.capacity (subst (λ xss. IsRanOver (as_works s k) xss c.args.room.queues.capacity c.renew_root.new.net.items ended) is-part c.run_net-net.ensures.over))
     (c.run_net-net.ensures.enough c.if-enough.true)

@@ -3,8 +3,10 @@ use Rattle.network_theory.specs.Opening.{IsFresh}
 use Rattle.network_core.specs.Shown.{shown}
 use Rattle.stage_runs.specs.Works.{as_works, ins_of}
 use Rattle.stage_runs.specs.Parts.{AreLater, AreRunBefore, AreTurned}
+use Rattle.stage_runs.specs.Short.{SomeGathers}
 use Rattle.stage_runs.proofs.Forests.{children-are}
 use Rattle.stage_runs.proofs.Later.{same-later, step-later}
+use Rattle.stage_runs.proofs.Short.{always-on-err}
 use Rattle.stage_runs.proofs.Turns.{few-stages, ins-size, gathers-size, gathers-read, gathers-inside, homes-size, at-first, skipped, part-forest, part-fresh, part-inputs, collects, taken-turn, turned-on, turned-over}
 use Rattle.stage_runs.proofs.runs.run_gathering.Goals as goal
 use Rattle.stage_runs.proofs.runs.run_gathering.Goals.{then-index+in_ok-room+in_ok-run_part+in_ok-gather_at, else-index}
@@ -25,13 +27,10 @@ loop-at-init g c =
 
 pub index-requires : goal.index-requires
 index-requires g c =
-    let s = g.S.Source in
-    let k = g.K.Sink in
     let stages = c.args.stages.now in
-    let new = c.requires.new in
     let plan = c.args.plan.now in
     let is = c.requires in
-    subst (λ n. c.loop-at.at < n) (sym plan.gathers.ok.0) (gathers-inside s k stages c.requires.tree c.args.nodes.now new plan.gathers.items plan.ins plan.homes.items is.gathers is.ins is.homes c.args.sizes.queue c.loop-at.at c.loop-at-test.true)
+    subst (λ n. c.loop-at.at < n) (sym plan.gathers.ok.0) (gathers-inside stages plan.gathers.items is.gathers c.loop-at.at c.loop-at-test.true)
 
 pub overflow_cast-at-then-index : goal.overflow_cast-at-then-index
 overflow_cast-at-then-index g c =
@@ -67,13 +66,20 @@ new-requires-clause-ins g c =
 
 pub new-requires-clause-homes : goal.new-requires-clause-homes
 new-requires-clause-homes g c =
-    let s = g.S.Source in
-    let k = g.K.Sink in
     let stages = c.args.stages.now in
     let plan = c.args.plan.now in
     let is = c.requires in
     let many : length plan.gathers.items ≡ length stages = ap (λ gs. length gs) is.gathers ∙ gathers-size stages in
-    homes-size s k stages c.requires.tree c.args.nodes.now c.requires.new plan.gathers.items plan.ins plan.homes.items is.gathers is.ins is.homes c.args.sizes.queue ∙ sym many
+    homes-size stages plan.homes.items is.homes ∙ sym many
+
+pub returns-in_err-room-clause-gathers : goal.returns-in_err-room-clause-gathers
+returns-in_err-room-clause-gathers g c =
+    let stages = c.args.stages.now in
+    let plan = c.args.plan.now in
+    let is = c.requires in
+    let at = c.loop-at.at in
+    let inside : at < length stages = c.loop-at-test.true in
+    always-on-err c.from_residual.result (SomeGathers stages) (at, inside, gathers-read stages plan.gathers.items is.gathers at c.index.result.now true inside c.index.ensures c.if-index.true)
 
 pub run_part-requires-clause-room : goal.run_part-requires-clause-room
 run_part-requires-clause-room g c = c.in_ok-room.ensures
@@ -88,15 +94,13 @@ run_part-requires-clause-few g c =
 
 pub run_part-requires-clause-homes : goal.run_part-requires-clause-homes
 run_part-requires-clause-homes g c =
-    let s = g.S.Source in
-    let k = g.K.Sink in
     let stages = c.args.stages.now in
     let new = c.requires.new in
     let plan = c.args.plan.now in
     let is = c.requires in
     let now = c.loop-at.nodes in
     let count : length now ≡ length stages = c.loop-at.invariant.later.count ∙ new.count in
-    homes-size s k stages c.requires.tree c.args.nodes.now new plan.gathers.items plan.ins plan.homes.items is.gathers is.ins is.homes c.args.sizes.queue ∙ sym count
+    homes-size stages plan.homes.items is.homes ∙ sym count
 
 pub run_part-requires-clause-forest : goal.run_part-requires-clause-forest
 run_part-requires-clause-forest g c =
@@ -111,7 +115,7 @@ run_part-requires-clause-forest g c =
     let count : length now ≡ length stages = c.loop-at.invariant.later.count ∙ new.count in
     let inside : at < length stages = c.loop-at-test.true in
     let done = c.loop-at.invariant.done in
-    let gathers = gathers-read s k stages c.requires.tree c.args.nodes.now new plan.gathers.items plan.ins plan.homes.items is.gathers is.ins is.homes c.args.sizes.queue at c.index.result.now true inside c.index.ensures c.if-index.true in
+    let gathers = gathers-read stages plan.gathers.items is.gathers at c.index.result.now true inside c.index.ensures c.if-index.true in
     part-forest s k stages c.requires.tree c.args.nodes.now new plan.gathers.items plan.ins plan.homes.items is.gathers is.ins is.homes c.args.sizes.queue at now count inside gathers done
 
 pub run_part-requires-clause-fresh : goal.run_part-requires-clause-fresh
@@ -127,7 +131,7 @@ run_part-requires-clause-fresh g c =
     let count : length now ≡ length stages = c.loop-at.invariant.later.count ∙ new.count in
     let inside : at < length stages = c.loop-at-test.true in
     let done = c.loop-at.invariant.done in
-    let gathers = gathers-read s k stages c.requires.tree c.args.nodes.now new plan.gathers.items plan.ins plan.homes.items is.gathers is.ins is.homes c.args.sizes.queue at c.index.result.now true inside c.index.ensures c.if-index.true in
+    let gathers = gathers-read stages plan.gathers.items is.gathers at c.index.result.now true inside c.index.ensures c.if-index.true in
     part-fresh s k stages c.requires.tree c.args.nodes.now new plan.gathers.items plan.ins plan.homes.items is.gathers is.ins is.homes c.args.sizes.queue at now count inside gathers done
 
 pub run_part-requires-clause-inputs : goal.run_part-requires-clause-inputs
@@ -143,7 +147,7 @@ run_part-requires-clause-inputs g c =
     let count : length now ≡ length stages = c.loop-at.invariant.later.count ∙ new.count in
     let inside : at < length stages = c.loop-at-test.true in
     let done = c.loop-at.invariant.done in
-    let gathers = gathers-read s k stages c.requires.tree c.args.nodes.now new plan.gathers.items plan.ins plan.homes.items is.gathers is.ins is.homes c.args.sizes.queue at c.index.result.now true inside c.index.ensures c.if-index.true in
+    let gathers = gathers-read stages plan.gathers.items is.gathers at c.index.result.now true inside c.index.ensures c.if-index.true in
     part-inputs s k stages c.requires.tree c.args.nodes.now new plan.gathers.items plan.ins plan.homes.items is.gathers is.ins is.homes c.args.sizes.queue at now count inside gathers done
 
 pub returns-in_err-run_part-clause-later : goal.returns-in_err-run_part-clause-later
@@ -151,6 +155,15 @@ returns-in_err-run_part-clause-later g c =
     let s = g.S.Source in
     let k = g.K.Sink in
     step-later s k c.args.nodes.now c.loop-at.nodes c.run_part.new.nodes c.loop-at.invariant.later c.run_part.ensures.later
+
+pub returns-in_err-run_part-clause-gathers : goal.returns-in_err-run_part-clause-gathers
+returns-in_err-run_part-clause-gathers g c =
+    let stages = c.args.stages.now in
+    let plan = c.args.plan.now in
+    let is = c.requires in
+    let at = c.loop-at.at in
+    let inside : at < length stages = c.loop-at-test.true in
+    always-on-err c.from_residual-in_err-run_part.result (SomeGathers stages) (at, inside, gathers-read stages plan.gathers.items is.gathers at c.index.result.now true inside c.index.ensures c.if-index.true)
 
 pub gather_at-requires-clause-collects : goal.gather_at-requires-clause-collects
 gather_at-requires-clause-collects g c =
@@ -165,7 +178,7 @@ gather_at-requires-clause-collects g c =
     let count : length now ≡ length stages = c.loop-at.invariant.later.count ∙ new.count in
     let inside : at < length stages = c.loop-at-test.true in
     let done = c.loop-at.invariant.done in
-    let gathers = gathers-read s k stages c.requires.tree c.args.nodes.now new plan.gathers.items plan.ins plan.homes.items is.gathers is.ins is.homes c.args.sizes.queue at c.index.result.now true inside c.index.ensures c.if-index.true in
+    let gathers = gathers-read stages plan.gathers.items is.gathers at c.index.result.now true inside c.index.ensures c.if-index.true in
     collects s k stages c.requires.tree c.args.nodes.now new plan.gathers.items plan.ins plan.homes.items is.gathers is.ins is.homes c.args.sizes.queue at now count inside gathers done c.run_part.new.nodes c.in_ok-run_part.ensures.run
 
 pub returns-in_err-gather_at-clause-later : goal.returns-in_err-gather_at-clause-later
@@ -173,6 +186,15 @@ returns-in_err-gather_at-clause-later g c =
     let s = g.S.Source in
     let k = g.K.Sink in
     step-later s k c.args.nodes.now c.run_part.new.nodes c.gather_at.new.nodes (step-later s k c.args.nodes.now c.loop-at.nodes c.run_part.new.nodes c.loop-at.invariant.later c.run_part.ensures.later) c.gather_at.ensures.later
+
+pub returns-in_err-gather_at-clause-gathers : goal.returns-in_err-gather_at-clause-gathers
+returns-in_err-gather_at-clause-gathers g c =
+    let stages = c.args.stages.now in
+    let plan = c.args.plan.now in
+    let is = c.requires in
+    let at = c.loop-at.at in
+    let inside : at < length stages = c.loop-at-test.true in
+    always-on-err c.from_residual-in_err-gather_at.result (SomeGathers stages) (at, inside, gathers-read stages plan.gathers.items is.gathers at c.index.result.now true inside c.index.ensures c.if-index.true)
 
 pub loop-at-preserved : goal.loop-at-preserved
 loop-at-preserved g c =
@@ -189,14 +211,14 @@ loop-at-preserved g c =
     let done = c.loop-at.invariant.done in
     elim c.if-index.branch [
       | then-index+in_ok-room+in_ok-run_part+in_ok-gather_at w ↦ (
-          let gathers = gathers-read s k stages c.requires.tree c.args.nodes.now new plan.gathers.items plan.ins plan.homes.items is.gathers is.ins is.homes c.args.sizes.queue at c.index.result.now true inside c.index.ensures w.if-index.true in
+          let gathers = gathers-read stages plan.gathers.items is.gathers at c.index.result.now true inside c.index.ensures w.if-index.true in
           subst (λ ns. record { later : AreLater s k c.args.nodes.now ns; done : AreRunBefore s k stages plan.homes.items c.args.nodes.now (at + 1) ns; turned : AreTurned s k stages plan.homes.items c.args.nodes.now c.args.sizes.queue (at + 1) ns }) (sym w.nodes-is) (record {
             later = step-later s k c.args.nodes.now w.run_part.new.nodes w.gather_at.new.nodes (step-later s k c.args.nodes.now now w.run_part.new.nodes c.loop-at.invariant.later w.run_part.ensures.later) w.gather_at.ensures.later;
             done = taken-turn s k stages c.requires.tree c.args.nodes.now new plan.gathers.items plan.ins plan.homes.items is.gathers is.ins is.homes c.args.sizes.queue at now count inside gathers done w.run_part.new.nodes w.in_ok-run_part.ensures.run w.gather_at.new.nodes w.in_ok-gather_at.ensures.gathered;
             turned = turned-on s k stages c.requires.tree c.args.nodes.now new plan.gathers.items plan.ins plan.homes.items is.gathers is.ins is.homes c.args.sizes.queue at now w.run_part.new.nodes w.gather_at.new.nodes c.loop-at.invariant.turned gathers w.in_ok-run_part.ensures.run w.in_ok-gather_at.ensures.gathered;
           }))
       | else-index w ↦ (
-          let streams = gathers-read s k stages c.requires.tree c.args.nodes.now new plan.gathers.items plan.ins plan.homes.items is.gathers is.ins is.homes c.args.sizes.queue at c.index.result.now false inside c.index.ensures w.if-index.false in
+          let streams = gathers-read stages plan.gathers.items is.gathers at c.index.result.now false inside c.index.ensures w.if-index.false in
           subst (λ ns. record { later : AreLater s k c.args.nodes.now ns; done : AreRunBefore s k stages plan.homes.items c.args.nodes.now (at + 1) ns; turned : AreTurned s k stages plan.homes.items c.args.nodes.now c.args.sizes.queue (at + 1) ns }) (sym w.nodes-is) (record {
             later = c.loop-at.invariant.later;
             done = skipped s k stages c.requires.tree c.args.nodes.now new plan.gathers.items plan.ins plan.homes.items is.gathers is.ins is.homes c.args.sizes.queue at now count inside streams done;

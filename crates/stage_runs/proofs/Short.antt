@@ -1,0 +1,93 @@
+-- Where memory was wanting, a stage needs whole views.
+use Rattle.std.proofs.Common.{◌≡◌, ℕ, ◌-◌, ◌<◌, not, Result, Ok, Err, OnErr, Bool, true, false, true≢false, List, length, map, Some, refl, sym, ◌∙◌, arith}
+use Rattle.std.specs.Prelude.{slice_get}
+use Rattle.std.proofs.lemmas.Option.{slice_get_within}
+use Rattle.file_devices.specs.declared.devices.Source as source
+use Rattle.file_devices.specs.declared.devices.Sink as sink
+use Rattle.network_theory.specs.Forest.{IsForest}
+use Rattle.network_core.specs.declared.node.Node.{Node}
+use Rattle.network_core.specs.Shown.{work_of}
+use Rattle.network_core.proofs.Opened.{some_at}
+use Rattle.network_solo.specs.Trees.{IsRanTree}
+use Rattle.stage_kinds.specs.declared.stage_work.StageWork.{StageWork}
+use Rattle.stage_kinds.specs.declared.stage_work.StageWork.TheVariants.{Reader, Filter, Collector, Views, Writer}
+use Rattle.stage_kinds.specs.Stages.{is_short, meaning_of}
+use Rattle.stage_options.specs.Roles.{is_gathering}
+use Rattle.stage_options.specs.declared.stage.StageSpec.{StageSpec}
+use Rattle.stage_parts.specs.Parts.{AreHomes, home_at}
+use Rattle.answer_model.specs.Values.{IsDown, role_at}
+use Rattle.stage_runs.specs.Works.{as_works, ins_of, AreNewStages}
+use Rattle.stage_runs.specs.Parts.{gathers_of, IsCollecting, is_past, AreRunBefore}
+use Rattle.stage_runs.specs.Short.{RanShort, SomeGathers}
+use Rattle.stage_runs.proofs.Asked.{keeps-collecting}
+use Rattle.stage_runs.proofs.AtStart.{somehow}
+use Rattle.stage_runs.proofs.Places.{map-at}
+use Rattle.stage_runs.proofs.Steps.{true-lt, home-gathers}
+use Rattle.stage_runs.proofs.Works.{collects-gathers}
+
+pub always-on-err : {T E : Type 0} (r : Result T E) (P : Type 0) → P → OnErr r P
+always-on-err (Ok x) P p = tt
+always-on-err (Err e) P p = p
+
+pub on-err : {T E : Type 0} (r : Result T E) (P Q : Type 0) → (P → Q) → OnErr r P → OnErr r Q
+on-err (Ok x) P Q f h = tt
+on-err (Err e) P Q f h = f h
+
+pub is-short : (b : Bool) → not b ≡ false → b ≡ true
+is-short true e = refl
+is-short false e = absurd (true≢false e)
+
+-- a work that means what a short one means takes whole views
+short-collects : {S K : Type 0} (v w : StageWork S K) → is_short v ≡ true → meaning_of w ≡ meaning_of v → IsCollecting w
+short-collects (Collector c) w short same = keeps-collecting c w same
+short-collects (Reader r) w short same = absurd (true≢false (sym short))
+short-collects (Filter f) w short same = absurd (true≢false (sym short))
+short-collects (Views h) w short same = absurd (true≢false (sym short))
+short-collects (Writer v) w short same = absurd (true≢false (sym short))
+
+module _ {S K : Type 0} (s : source.Ghosts S) (k : sink.Ghosts K) where
+  -- so a node that is short in the end took whole views from the start
+  pub short-ran : (ins : List (List ℕ)) (nodes ended : List (Node (StageWork S K))) → IsRanTree (as_works s k) ins nodes ended
+      → (i : ℕ) (m : Node (StageWork S K)) → slice_get ended i ≡ Some m → is_short m.work ≡ true → RanShort nodes ended
+  short-ran ins nodes ended ran i m e short =
+      let n = some_at nodes i (let a = slice_get_within ended i m e in let b = ran.count in omega (arith, a, b)) in
+      record {
+        place = i;
+        before = n.0;
+        after = m;
+        was = n.1;
+        is = e;
+        collects = short-collects m.work n.0.work short (sym (ran.work i n.0 m n.1 e));
+        short = short;
+      }
+
+module _ {S K : Type 0} (s : source.Ghosts S) (k : sink.Ghosts K) (stages : List StageSpec) (old : List (Node (StageWork S K))) (new : AreNewStages s k stages old) (down : IsDown stages)
+    (forest : IsForest (ins_of stages) (length (ins_of stages) - 1)) (size : length (ins_of stages) ≡ length stages)
+    (homes : List ℕ) (are : AreHomes (gathers_of stages) (ins_of stages) homes) (queue : ℕ) where
+  -- a stage whose work takes whole views at its start needs them
+  starts-gathering : (i : ℕ) (n : Node (StageWork S K)) → slice_get old i ≡ Some n → IsCollecting n.work → is_gathering (role_at stages i) ≡ true
+  starts-gathering i n e collects =
+      let start = somehow k.bytes stages (map work_of old) new.works i n.work (map-at work_of old i n e) in
+      collects-gathers s k.bytes _ start.0 n.work start.1 collects
+
+  -- memory is wanting in the last part only where a stage needs whole views: the one at whose node it is, or one that was run before
+  pub short-gathers : (now after : List (Node (StageWork S K))) → length now ≡ length stages → AreRunBefore s k stages homes old (length stages) now → RanShort now after → SomeGathers stages
+  short-gathers now after count done short = by_home (is_past s k stages homes old (length stages) short.place) refl
+    where
+      inside : short.place < length stages
+      inside = let a = slice_get_within now short.place short.before short.was in omega (arith, a, count)
+
+      by_role : is_past s k stages homes old (length stages) short.place ≡ false → (b : Bool) → is_gathering (role_at stages short.place) ≡ b → SomeGathers stages
+      by_role p true g = (short.place, inside, g)
+      by_role p false g = (
+        short.place,
+        inside,
+        starts-gathering short.place short.before (done.waits short.place short.before short.was p (λ l h. true≢false (sym h ∙ g))) short.collects,
+      )
+
+      by_home : (b : Bool) → is_past s k stages homes old (length stages) short.place ≡ b → SomeGathers stages
+      by_home true p =
+          let home = home_at homes short.place in
+          let less = true-lt home (length stages) p in
+          (home, less, home-gathers s k stages old new down forest size homes are queue short.place inside home less refl)
+      by_home false p = by_role p (is_gathering (role_at stages short.place)) refl
