@@ -1,5 +1,5 @@
 -- Where memory was wanting, a stage needs whole views.
-use Rattle.std.proofs.Common.{◌≡◌, ℕ, ◌-◌, ◌<◌, not, Result, Ok, Err, OnErr, Bool, true, false, true≢false, List, length, map, Some, refl, sym, ◌∙◌, arith}
+use Rattle.std.proofs.Common.{◌≡◌, ℕ, ◌-◌, ◌<◌, not, Bool, true, false, true≢false, List, length, map, Some, refl, sym, ◌∙◌, arith}
 use Rattle.std.specs.Prelude.{slice_get}
 use Rattle.std.proofs.lemmas.Option.{slice_get_within}
 use Rattle.file_devices.specs.declared.devices.Source as source
@@ -24,14 +24,6 @@ use Rattle.stage_runs.proofs.AtStart.{somehow}
 use Rattle.stage_runs.proofs.Places.{map-at}
 use Rattle.stage_runs.proofs.Steps.{true-lt, home-gathers}
 use Rattle.stage_runs.proofs.Works.{collects-gathers}
-
-pub always-on-err : {T E : Type 0} (r : Result T E) (P : Type 0) → P → OnErr r P
-always-on-err (Ok x) P p = tt
-always-on-err (Err e) P p = p
-
-pub on-err : {T E : Type 0} (r : Result T E) (P Q : Type 0) → (P → Q) → OnErr r P → OnErr r Q
-on-err (Ok x) P Q f h = tt
-on-err (Err e) P Q f h = f h
 
 pub is-short : (b : Bool) → not b ≡ false → b ≡ true
 is-short true e = refl

@@ -1,5 +1,5 @@
 -- What each turn of the parts of a tree of stages asks for and gives.
-use Rattle.std.proofs.Common.{◌≡◌, ℕ, zero, suc, ◌∷◌, Result, Ok, Err, OnOk, ◌+◌, ◌-◌, ◌<◌, ◌≤◌, ◌↔◌, Bool, true, false, true≢false, List, [], length, refl, ap, sym, subst, ◌∙◌, inl, inr, arith}
+use Rattle.std.proofs.Common.{◌≡◌, ℕ, zero, suc, ◌∷◌, ◌+◌, ◌-◌, ◌<◌, ◌≤◌, ◌↔◌, Bool, true, false, true≢false, List, [], length, refl, ap, sym, subst, ◌∙◌, inl, inr, arith}
 use Rattle.std.specs.Prelude.{slice_get, slice_index_or, Some}
 use Rattle.file_devices.specs.declared.devices.Source as source
 use Rattle.file_devices.specs.declared.devices.Sink as sink
@@ -59,10 +59,6 @@ gathers-inside stages gathers gathers_is i l = let many = ap length gathers_is �
 
 pub homes-size : (stages : List StageSpec) (homes : List ℕ) → AreHomes (gathers_of stages) (ins_of stages) homes → length homes ≡ length stages
 homes-size stages homes are = are.count ∙ ins-size stages
-
-pub on-ok : {T E : Type 0} (r : Result T E) (P Q : Type 0) → (P → Q) → OnOk r P → OnOk r Q
-on-ok (Ok x) P Q f h = f h
-on-ok (Err e) P Q f h = tt
 
 module _ {S K : Type 0} (s : source.Ghosts S) (k : sink.Ghosts K) (stages : List StageSpec) (tree : IsTree (shapes stages)) (old : List (Node (StageWork S K))) (new : AreNewStages s k stages old)
     (gathers : List Bool) (ins : List (List ℕ)) (homes : List ℕ) (gathers_is : gathers ≡ gathers_of stages) (ins_is : ins ≡ ins_of stages)

@@ -1,6 +1,6 @@
 //! The parts of a tree of stages take turns, each as a net of its own.
 
-ghost use Rattle.std.specs.Prelude.{◌≡◌, ◌-◌, ◌<◌, ◌≤◌, ◌↔◌, ℕ, true, length, slice_get, Some, OnErr, OnOk};
+ghost use Rattle.std.specs.Prelude.{◌≡◌, ◌-◌, ◌<◌, ◌≤◌, ◌↔◌, ℕ, true, false, length, slice_get, Some, OnErr, OnOk};
 ghost use Rattle.network_core.specs.declared.node.Node as node_type;
 ghost use Rattle.network_core.specs.Shown.{shown};
 ghost use Rattle.network_theory.specs.Forest.{IsForest, children};
@@ -59,6 +59,14 @@ fn renew_root<W: Work>(net: &mut Vec<Node<W>>, inputs: u32, chunk: usize)
     }
 }
 
+/// Refuses unless memory was enough.
+fn refuse_unless(enough: bool) -> Result<(), AllocError>
+    ensures enough { OnOk result (enough ≡ true) }
+    ensures short { OnErr result (enough ≡ false) }
+{
+    if enough { Ok(()) } else { Err(AllocError) }
+}
+
 /// Lets the nodes of the part of a home take turns until all are done, in its memory. Each node stays at its place. Refuses only where
 /// memory is wanting at a node that takes whole views.
 pub(crate) fn run_part<S: Source, K: FileSink>(
@@ -96,7 +104,7 @@ pub(crate) fn run_part<S: Source, K: FileSink>(
     } = run_net(net, ins, queues);
     lend(nodes, &mut net, homes, home);
     let_go(net);
-    if enough { Ok(()) } else { Err(AllocError) }
+    refuse_unless(enough)
 }
 
 /// Lets a leaf give all that it has, to no one.
@@ -115,7 +123,7 @@ pub(crate) fn run_leaf<S: Source, K: FileSink>(
     let node = mem::replace(&mut nodes[at], empty);
     let Alone { node, enough } = run_alone(alloc, node, sizes.queue);
     mem::replace(&mut nodes[at], node).into_work().let_go();
-    if enough { Ok(()) } else { Err(AllocError) }
+    refuse_unless(enough)
 }
 
 /// Has the stage at a place make of the views that it took what it is to make: it is a leaf then that gives that. Refuses where memory

@@ -5,6 +5,7 @@ use Rattle.network_solo.specs.Trees.{IsRanTree}
 use Rattle.stage_kinds.specs.Held.{op_of}
 use Rattle.stage_runs.specs.Works.{as_works}
 use Rattle.stage_runs.specs.Parts.{IsLater, IsLeafRun, IsNewLeaf, AreSameOrLater}
+use Rattle.stage_runs.proofs.Answered.{on-ok}
 use Rattle.stage_runs.proofs.Gathered.{here, stand-in-op, lent-later, lent-run}
 use Rattle.stage_runs.proofs.parts.run_leaf.Goals as goal
 
@@ -20,8 +21,8 @@ let_go-requires g c =
     ap op_of c.into_work.ensures ∙ stand-in-op g.S.Source g.K.Sink c.args.nodes.now c.args.at c.requires.inside c.index-nodes-at.result c.index-nodes-at.is c.stand_in-empty.result c.stand_in-empty.ensures.leaf
     c.replace.result d (c.replace.ensures.value ∙ ap (λ x. get_or (slice_set c.args.nodes.now c.args.at x) c.args.at d) c.replace-node.ensures.after)
 
-pub returns-then-enough-clause-later : goal.returns-then-enough-clause-later
-returns-then-enough-clause-later g c =
+pub returns-clause-later : goal.returns-clause-later
+returns-clause-later g c =
     let nodes = c.args.nodes.now in
     let n = c.index-nodes-at.result in
     subst (λ x. AreSameOrLater g.S.Source g.K.Sink nodes (slice_set (slice_set nodes c.args.at x) c.args.at c.replace.new.dest)) (sym c.replace-node.ensures.after)
@@ -29,24 +30,16 @@ returns-then-enough-clause-later g c =
     (lent-later g.S.Source g.K.Sink nodes c.args.at c.requires.inside n c.index-nodes-at.is c.stand_in-empty.result c.stand_in-empty.ensures.leaf c.run_alone-node.result.node
     (subst (λ x. IsLater g.S.Source g.K.Sink x c.run_alone-node.result.node) (c.replace-node.ensures.value ∙ sym c.index-nodes-at.is) c.run_alone-node.ensures.later)))
 
-pub returns-then-enough-clause-run : goal.returns-then-enough-clause-run
-returns-then-enough-clause-run g c =
+pub returns-clause-run : goal.returns-clause-run
+returns-clause-run g c =
     let nodes = c.args.nodes.now in
     let n = c.index-nodes-at.result in
     let now = c.run_alone-node.result.node in
     let same = c.replace-node.ensures.value ∙ sym c.index-nodes-at.is in
+    on-ok c.refuse_unless.result _ _ (λ enough.
     subst (λ x. IsLeafRun g.S.Source g.K.Sink c.args.sizes.queue c.args.at nodes (slice_set (slice_set nodes c.args.at x) c.args.at c.replace.new.dest)) (sym c.replace-node.ensures.after)
     (subst (λ x. IsLeafRun g.S.Source g.K.Sink c.args.sizes.queue c.args.at nodes (slice_set (slice_set nodes c.args.at c.stand_in-empty.result) c.args.at x)) (sym c.replace.ensures.after)
     (lent-run g.S.Source g.K.Sink nodes c.args.at c.requires.inside n c.index-nodes-at.is c.stand_in-empty.result c.stand_in-empty.ensures.leaf now c.args.sizes.queue
-    (subst (λ (x : Node _). IsRanTree (as_works g.S.Source g.K.Sink) ([] ∷ []) (x ∷ []) (now ∷ [])) same (c.run_alone-node.ensures.ran c.if-enough.true))
-    (subst (λ (x : Node _). IsRanOver (as_works g.S.Source g.K.Sink) ([] ∷ []) c.args.sizes.queue (x ∷ []) (now ∷ [])) same (c.run_alone-node.ensures.over c.if-enough.true))
-    (c.run_alone-node.ensures.enough c.if-enough.true)))
-
-pub returns-else-enough-clause-later : goal.returns-else-enough-clause-later
-returns-else-enough-clause-later g c =
-    let nodes = c.args.nodes.now in
-    let n = c.index-nodes-at.result in
-    subst (λ x. AreSameOrLater g.S.Source g.K.Sink nodes (slice_set (slice_set nodes c.args.at x) c.args.at c.replace.new.dest)) (sym c.replace-node.ensures.after)
-    (subst (λ x. AreSameOrLater g.S.Source g.K.Sink nodes (slice_set (slice_set nodes c.args.at c.stand_in-empty.result) c.args.at x)) (sym c.replace.ensures.after)
-    (lent-later g.S.Source g.K.Sink nodes c.args.at c.requires.inside n c.index-nodes-at.is c.stand_in-empty.result c.stand_in-empty.ensures.leaf c.run_alone-node.result.node
-    (subst (λ x. IsLater g.S.Source g.K.Sink x c.run_alone-node.result.node) (c.replace-node.ensures.value ∙ sym c.index-nodes-at.is) c.run_alone-node.ensures.later)))
+    (subst (λ (x : Node _). IsRanTree (as_works g.S.Source g.K.Sink) ([] ∷ []) (x ∷ []) (now ∷ [])) same (c.run_alone-node.ensures.ran enough))
+    (subst (λ (x : Node _). IsRanOver (as_works g.S.Source g.K.Sink) ([] ∷ []) c.args.sizes.queue (x ∷ []) (now ∷ [])) same (c.run_alone-node.ensures.over enough))
+    (c.run_alone-node.ensures.enough enough)))) c.refuse_unless.ensures.enough

@@ -4,9 +4,9 @@ use Rattle.network_core.specs.Shown.{shown}
 use Rattle.stage_runs.specs.Works.{as_works, ins_of}
 use Rattle.stage_runs.specs.Parts.{AreLater, AreRunBefore, AreTurned}
 use Rattle.stage_runs.specs.Short.{SomeGathers}
+use Rattle.stage_runs.proofs.Answered.{always-on-err}
 use Rattle.stage_runs.proofs.Forests.{children-are}
 use Rattle.stage_runs.proofs.Later.{same-later, step-later}
-use Rattle.stage_runs.proofs.Short.{always-on-err}
 use Rattle.stage_runs.proofs.Turns.{few-stages, ins-size, gathers-size, gathers-read, gathers-inside, homes-size, at-first, skipped, part-forest, part-fresh, part-inputs, collects, taken-turn, turned-on, turned-over}
 use Rattle.stage_runs.proofs.runs.run_gathering.Goals as goal
 use Rattle.stage_runs.proofs.runs.run_gathering.Goals.{then-index+in_ok-room+in_ok-run_part+in_ok-gather_at, else-index}
