@@ -1,38 +1,167 @@
--- Whether the last part has its memory.
-use Rattle.std.proofs.Common.{◌≡◌, ℕ, ◌-◌, Bool, true, false, List, length, Some, None, refl, sym, subst, ◌∙◌}
+-- The last part, by its memory.
+use Rattle.std.proofs.Common.{◌≡◌, ℕ, ◌-◌, ◌<◌, ◌≤◌, ◌↔◌, Bool, true, false, true≢false, List, length, Some, None, refl, ap, sym, subst, ◌∙◌, inr, arith}
+use Rattle.std.specs.Prelude.{slice_get}
 use Rattle.file_devices.specs.declared.devices.Source as source
 use Rattle.file_devices.specs.declared.devices.Sink as sink
+use Rattle.network_theory.specs.Forest.{IsForest, children}
+use Rattle.network_theory.specs.Opening.{IsFresh}
+use Rattle.network_core.specs.declared.node.Node.{Node}
+use Rattle.network_core.specs.Shown.{shown}
+use Rattle.stage_kinds.specs.declared.stage_work.StageWork.{StageWork}
+use Rattle.stage_kinds.specs.Stages.{is_leaf}
+use Rattle.pipeline_json.specs.Trees.{IsTree}
 use Rattle.stage_options.specs.Roles.{is_gathering}
+use Rattle.stage_options.specs.Shapes.{shapes}
 use Rattle.stage_options.specs.declared.stage.StageSpec.{StageSpec}
-use Rattle.stage_parts.specs.Parts.{gathers_at, part_ins}
-use Rattle.answer_model.specs.Values.{role_at}
+use Rattle.stage_parts.specs.Parts.{gathers_at, home_at, is_of, part_ins}
+use Rattle.stage_parts.proofs.Trees.{last-forest}
+use Rattle.answer_model.specs.Values.{IsDown, role_at}
+use Rattle.answer_model.proofs.Values.{tree-down}
 use Rattle.stage_runs.specs.declared.rooms.PartRoom.{PartRoom}
 use Rattle.stage_runs.specs.declared.rooms.StageRoom.{StageRoom}
-use Rattle.stage_runs.specs.Parts.{gathers_of}
+use Rattle.stage_runs.specs.Works.{as_works, ins_of, AreNewStages}
+use Rattle.stage_runs.specs.Ran.{AreRanStages}
+use Rattle.stage_runs.specs.Parts.{gathers_of, AreLater, IsNewLeaf, IsPartRun, IsLeafRun, AreRunBefore, AreTurned, ByParts}
 use Rattle.stage_runs.specs.Rooms.{IsRoom, IsLastRoom, IsStageRoom}
-use Rattle.stage_runs.specs.Works.{ins_of}
-use Rattle.stage_runs.proofs.Part.{gathers-are}
+use Rattle.stage_runs.specs.Short.{RanShort, SomeGathers}
+use Rattle.stage_runs.proofs.Asked.{fresh-before, root-inputs, last-leaf}
+use Rattle.stage_runs.proofs.LastPart.{last-streams, last-gathers}
+use Rattle.stage_runs.proofs.Part.{IsRoot, gathers-are}
+use Rattle.stage_runs.proofs.Short.{short-gathers}
+use Rattle.stage_runs.proofs.Turns.{some-stages, few-stages, ins-size, homes-size, all-forest, planned-part}
 
 module _ {S K : Type 0} (s : source.Ghosts S) (k : sink.Ghosts K) (part : List (List ℕ)) (root queue : ℕ) where
-  pub without : (gathers : Bool) → IsLastRoom s k part root queue gathers None → gathers ≡ true
+  without : (gathers : Bool) → IsLastRoom s k part root queue gathers None → gathers ≡ true
   without true is = refl
   without false is = absurd is
 
-  pub within : (gathers : Bool) (room : PartRoom S K) → IsLastRoom s k part root queue gathers (Some room) → (gathers ≡ false) × IsRoom s k part root queue room
+  within : (gathers : Bool) (room : PartRoom S K) → IsLastRoom s k part root queue gathers (Some room) → (gathers ≡ false) × IsRoom s k part root queue room
   within true room is = absurd is
   within false room is = (refl, is)
 
 module _ {S K : Type 0} (s : source.Ghosts S) (k : sink.Ghosts K) (stages : List StageSpec) (room : StageRoom S K) (is : IsStageRoom s k stages room) where
-  pub roomless-gathers : room.last ≡ None → is_gathering (role_at stages (length stages - 1)) ≡ true
-  roomless-gathers e = sym (gathers-are stages (length stages - 1)) ∙ without s k _ _ _ _ (subst (IsLastRoom s k _ _ _ _) e is.last)
+  abbrev root : ℕ
+  root = length stages - 1
 
-  module _ (part : PartRoom S K) (e : room.last ≡ Some part) where
-    last-is : (gathers_at (gathers_of stages) (length stages - 1) ≡ false)
-        × IsRoom s k (part_ins (gathers_of stages) (ins_of stages) room.plan.homes.items (length stages) (length stages - 1)) (length stages - 1) room.sizes.queue part
-    last-is = within s k _ _ _ _ part (subst (IsLastRoom s k _ _ _ _) e is.last)
+  -- a last stage without a room gathers
+  roomless : room.last ≡ None → is_gathering (role_at stages root) ≡ true
+  roomless none = sym (gathers-are stages root) ∙ without s k _ _ _ _ (subst (IsLastRoom s k _ _ _ _) none is.last)
 
-    pub roomy-streams : is_gathering (role_at stages (length stages - 1)) ≡ false
-    roomy-streams = sym (gathers-are stages (length stages - 1)) ∙ last-is.0
+  roomy : (held : PartRoom S K) → room.last ≡ Some held
+      → (gathers_at (gathers_of stages) root ≡ false) × IsRoom s k (part_ins (gathers_of stages) (ins_of stages) room.plan.homes.items (length stages) root) root room.sizes.queue held
+  roomy held e = within s k _ _ _ _ held (subst (IsLastRoom s k _ _ _ _) e is.last)
 
-    pub roomy-room : IsRoom s k (part_ins (gathers_of stages) (ins_of stages) room.plan.homes.items (length stages) (length stages - 1)) (length stages - 1) room.sizes.queue part
-    roomy-room = last-is.1
+  pub last-room : {held : PartRoom S K} → room.last ≡ Some held → (part : List (List ℕ)) × (root : ℕ) × (queue : ℕ) × IsRoom s k part root queue held
+  last-room {held} e = (_, _, _, (roomy held e).1)
+
+  module _ (tree : IsTree (shapes stages)) {old now : List (Node (StageWork S K))} (new : AreNewStages s k stages old) (later : AreLater s k old now)
+      (done : AreRunBefore s k stages room.plan.homes.items old (length stages) now) where
+    abbrev homes : List ℕ
+    homes = room.plan.homes.items
+
+    abbrev queue : ℕ
+    queue = room.sizes.queue
+
+    -- as it is planned
+    abbrev part : List (List ℕ)
+    part = part_ins room.plan.gathers.items room.plan.ins homes (length stages) root
+
+    same-part : part ≡ part_ins (gathers_of stages) (ins_of stages) homes (length stages) root
+    same-part = planned-part stages room.plan is.gathers is.ins (length stages) root
+
+    down : IsDown stages
+    down = tree-down stages tree
+
+    forest : IsForest (ins_of stages) (length (ins_of stages) - 1)
+    forest = all-forest stages tree
+
+    count : length now ≡ length stages
+    count = later.count ∙ new.count
+
+    some : 0 < length stages
+    some = some-stages stages tree
+
+    pub root-inside : root < length now
+    root-inside = let a = some in let b = count in omega (arith, a, b)
+
+    pub few-nodes : length now ≤ 64
+    few-nodes = let a = few-stages stages tree in let b = count in omega (arith, a, b)
+
+    pub homes-nodes : length homes ≡ length now
+    homes-nodes = homes-size stages homes is.homes ∙ sym count
+
+    -- where memory is wanting, a stage gathers
+    pub wanting : {after : List (Node (StageWork S K))} → RanShort now after → SomeGathers stages
+    wanting {after} short = short-gathers s k stages old new down forest (ins-size stages) homes is.homes queue now after count done short
+
+    -- ---- where the last stage gathers
+
+    module _ (none : room.last ≡ None) where
+      gathers : is_gathering (role_at stages root) ≡ true
+      gathers = roomless none
+
+      pub last-one : SomeGathers stages
+      last-one = (root, (let a = some in omega (arith, a)), gathers)
+
+      pub last-waits : (n : Node (StageWork S K)) → slice_get now root ≡ Some n → IsNewLeaf s k n
+      last-waits n e = last-leaf s k stages old new down forest (ins-size stages) homes is.homes queue now some gathers done n e
+
+      module _ {after : List (Node (StageWork S K))} (run : IsLeafRun s k queue root now after) where
+        pub leaf-ran : AreRanStages s k stages old after
+        leaf-ran = last-gathers s k stages old new down forest (ins-size stages) homes is.homes queue now after count some gathers done run
+
+        pub by-leaf : AreTurned s k stages homes old queue (length stages) now → ByParts s k stages queue old after
+        by-leaf turned = record {
+          homes = homes;
+          are = is.homes;
+          ran = record { now = now; turned = turned; streams = λ f. absurd (true≢false (sym gathers ∙ f)); gathers = λ _. run };
+        }
+
+    -- ---- where it doesn't
+
+    module _ {held : PartRoom S K} (e : room.last ≡ Some held) where
+      streams : is_gathering (role_at stages root) ≡ false
+      streams = sym (gathers-are stages root) ∙ (roomy held e).0
+
+      pub its-room : IsRoom s k part root queue held
+      its-room = subst (λ xss. IsRoom s k xss root queue held) (sym same-part) (roomy held e).1
+
+      inside : root < length stages
+      inside = let m = some in omega (arith, m)
+
+      last-number : root ≡ length (ins_of stages) - 1
+      last-number = let n = ins-size stages in omega (arith, n)
+
+      at-last : IsRoot stages homes (length stages) root
+      at-last = inr (streams, ap (home_at homes) last-number ∙ is.homes.root ∙ ins-size stages)
+
+      lower : (j : ℕ) → j < root → j < length stages
+      lower j l = omega (arith, l)
+
+      pub last-part-forest : IsForest part root
+      last-part-forest = subst (λ xss. IsForest xss root) (sym same-part)
+          (subst (λ n. IsForest (part_ins (gathers_of stages) (ins_of stages) homes n (n - 1)) (n - 1)) (ins-size stages)
+          (last-forest (gathers_of stages) (ins_of stages) homes forest is.homes (ap (gathers_at (gathers_of stages)) (sym last-number) ∙ gathers-are stages root ∙ streams)))
+
+      pub last-fresh : (i : ℕ) (n : Node (StageWork S K)) → i < root → is_of homes (length stages) i ≡ true → slice_get now i ≡ Some n → IsFresh (shown (as_works s k) (children part i) n)
+      last-fresh i n l h f = subst (λ xss. IsFresh (shown (as_works s k) (children xss i) n)) (sym same-part)
+          (fresh-before s k stages old new down forest (ins-size stages) homes is.homes queue (length stages) root at-last now count inside lower done i n l h f)
+
+      pub last-inputs : (n : Node (StageWork S K)) → slice_get now root ≡ Some n → (is_leaf n.work ≡ true) ↔ (length (children part root) ≡ 0)
+      last-inputs n f = subst (λ xss. (is_leaf n.work ≡ true) ↔ (length (children xss root) ≡ 0)) (sym same-part)
+          (root-inputs s k stages old new down forest (ins-size stages) homes is.homes queue (length stages) root at-last now count inside lower done
+          (λ q. let m = some in omega (arith, m)) n f)
+
+      module _ {after : List (Node (StageWork S K))} (run : IsPartRun s k queue part homes (length stages) root now after) where
+        ran : IsPartRun s k queue (part_ins (gathers_of stages) (ins_of stages) homes (length stages) root) homes (length stages) root now after
+        ran = subst (λ xss. IsPartRun s k queue xss homes (length stages) root now after) same-part run
+
+        pub part-ran : AreRanStages s k stages old after
+        part-ran = last-streams s k stages old new down forest (ins-size stages) homes is.homes queue now after count some streams done ran
+
+        pub by-part : AreTurned s k stages homes old queue (length stages) now → ByParts s k stages queue old after
+        by-part turned = record {
+          homes = homes;
+          are = is.homes;
+          ran = record { now = now; turned = turned; streams = λ _. ran; gathers = λ g. absurd (true≢false (sym g ∙ streams)) };
+        }

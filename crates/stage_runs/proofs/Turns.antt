@@ -13,19 +13,17 @@ use Rattle.pipeline_json.specs.Trees.{IsTree}
 use Rattle.stage_options.specs.Roles.{is_gathering}
 use Rattle.stage_options.specs.Shapes.{shape, shapes}
 use Rattle.stage_options.specs.declared.stage.StageSpec.{StageSpec}
-use Rattle.stage_parts.specs.Parts.{AreHomes, gathers_at, home_at, is_of, part_ins}
-use Rattle.stage_parts.proofs.Trees.{gathered-forest, last-forest}
+use Rattle.stage_parts.specs.Parts.{AreHomes, gathers_at, is_of, part_ins}
+use Rattle.stage_parts.proofs.Trees.{gathered-forest}
 use Rattle.answer_model.specs.Values.{IsDown, role_at}
 use Rattle.answer_model.proofs.Values.{tree-down}
 use Rattle.stage_runs.specs.Works.{as_works, ins_of, AreNewStages}
-use Rattle.stage_runs.specs.Ran.{AreRanStages}
-use Rattle.stage_runs.specs.Parts.{gathers_of, IsCollecting, IsNewLeaf, IsPartRun, IsLeafRun, IsGatheredAt, AreRunBefore, AreTurned, ByParts}
-use Rattle.stage_runs.specs.Short.{RanShort, SomeGathers}
-use Rattle.stage_runs.proofs.Asked.{fresh-before, root-inputs, root-collects, last-leaf}
+use Rattle.stage_runs.specs.declared.plan.Plan.{Plan}
+use Rattle.stage_runs.specs.Parts.{gathers_of, AreLater, IsCollecting, IsPartRun, IsGatheredAt, AreRunBefore, AreTurned}
+use Rattle.stage_runs.specs.Short.{SomeGathers}
+use Rattle.stage_runs.proofs.Asked.{fresh-before, root-inputs, root-collects}
 use Rattle.stage_runs.proofs.Forests.{mapped, stages-forest}
 use Rattle.stage_runs.proofs.Part.{IsRoot, gathers-are}
-use Rattle.stage_runs.proofs.LastPart.{last-streams, last-gathers}
-use Rattle.stage_runs.proofs.Short.{short-gathers}
 use Rattle.stage_runs.proofs.Steps.{none-run, none-here, gathered-here}
 
 -- a tree has at least one stage, and at most 64
@@ -60,29 +58,37 @@ gathers-inside stages gathers gathers_is i l = let many = ap length gathers_is �
 pub homes-size : (stages : List StageSpec) (homes : List ℕ) → AreHomes (gathers_of stages) (ins_of stages) homes → length homes ≡ length stages
 homes-size stages homes are = are.count ∙ ins-size stages
 
-module _ {S K : Type 0} (s : source.Ghosts S) (k : sink.Ghosts K) (stages : List StageSpec) (tree : IsTree (shapes stages)) (old : List (Node (StageWork S K))) (new : AreNewStages s k stages old)
-    (gathers : List Bool) (ins : List (List ℕ)) (homes : List ℕ) (gathers_is : gathers ≡ gathers_of stages) (ins_is : ins ≡ ins_of stages)
-    (are : AreHomes (gathers_of stages) (ins_of stages) homes) (queue : ℕ) where
+pub all-forest : (stages : List StageSpec) → IsTree (shapes stages) → IsForest (ins_of stages) (length (ins_of stages) - 1)
+all-forest stages tree = subst (λ n. IsForest (ins_of stages) (n - 1)) (sym (ins-size stages)) (stages-forest stages tree)
+
+pub planned-part : (stages : List StageSpec) (plan : Plan) → plan.gathers.items ≡ gathers_of stages → plan.ins ≡ ins_of stages → (home root : ℕ)
+    → part_ins plan.gathers.items plan.ins plan.homes.items home root ≡ part_ins (gathers_of stages) (ins_of stages) plan.homes.items home root
+planned-part stages plan gathers_is ins_is home root =
+    ap (λ gs. part_ins gs plan.ins plan.homes.items home root) gathers_is ∙ ap (λ xss. part_ins (gathers_of stages) xss plan.homes.items home root) ins_is
+
+module _ {S K : Type 0} (s : source.Ghosts S) (k : sink.Ghosts K) (stages : List StageSpec) (tree : IsTree (shapes stages)) {old : List (Node (StageWork S K))} (new : AreNewStages s k stages old)
+    (plan : Plan) (gathers_is : plan.gathers.items ≡ gathers_of stages) (ins_is : plan.ins ≡ ins_of stages)
+    (are : AreHomes (gathers_of stages) (ins_of stages) plan.homes.items) (queue : ℕ) where
+  abbrev homes : List ℕ
+  homes = plan.homes.items
+
   down : IsDown stages
   down = tree-down stages tree
 
   forest : IsForest (ins_of stages) (length (ins_of stages) - 1)
-  forest = subst (λ n. IsForest (ins_of stages) (n - 1)) (sym (ins-size stages)) (stages-forest stages tree)
+  forest = all-forest stages tree
 
   abbrev Done : ℕ → List (Node (StageWork S K)) → Type 0
   Done done now = AreRunBefore s k stages homes old done now
 
   abbrev part : ℕ → ℕ → List (List ℕ)
-  part home root = part_ins gathers ins homes home root
+  part home root = part_ins plan.gathers.items plan.ins homes home root
 
-  pub same-part : (home root : ℕ) → part home root ≡ part_ins (gathers_of stages) (ins_of stages) homes home root
-  same-part home root = ap (λ gs. part_ins gs ins homes home root) gathers_is ∙ ap (λ xss. part_ins (gathers_of stages) xss homes home root) ins_is
+  same-part : (home root : ℕ) → part home root ≡ part_ins (gathers_of stages) (ins_of stages) homes home root
+  same-part home root = planned-part stages plan gathers_is ins_is home root
 
   pub at-first : Done 0 old
   at-first = none-run s k stages old new down forest (ins-size stages) homes are queue
-
-  pub skipped : (w : ℕ) (now : List (Node (StageWork S K))) → length now ≡ length stages → w < length stages → is_gathering (role_at stages w) ≡ false → Done w now → Done (w + 1) now
-  skipped = none-here s k stages old new down forest (ins-size stages) homes are queue
 
   -- ---- all turns
 
@@ -92,120 +98,58 @@ module _ {S K : Type 0} (s : source.Ghosts S) (k : sink.Ghosts K) (stages : List
   one-more : (w : ℕ) (now : List (Node (StageWork S K))) → Turned (suc w) now → Turned (w + 1) now
   one-more w now t = subst (λ n. Turned n now) (let same : suc w ≡ w + 1 = omega arith in same) t
 
-  pub turned-on : (w : ℕ) (now after last : List (Node (StageWork S K))) → Turned w now → is_gathering (role_at stages w) ≡ true
-      → IsPartRun s k queue (part w w) homes w w now after → IsGatheredAt s k w after last → Turned (w + 1) last
-  turned-on w now after last before g ran made = one-more w last (
-    now,
-    before,
-    inl (record {
-      gathers = g;
-      after = after;
-      ran = subst (λ xss. IsPartRun s k queue xss homes w w now after) (same-part w w) ran;
-      made = made;
-    }),
-  )
+  -- ---- one stage more
 
-  pub turned-over : (w : ℕ) (now : List (Node (StageWork S K))) → Turned w now → is_gathering (role_at stages w) ≡ false → Turned (w + 1) now
-  turned-over w now before streams = one-more w now (now, before, inr (streams, refl))
+  module _ (w : ℕ) {now : List (Node (StageWork S K))} (later : AreLater s k old now) (done : Done w now) (inside : w < length stages)
+      {read : Bool} (reads : read ≡ slice_index_or plan.gathers.items w read) where
+    count : length now ≡ length stages
+    count = later.count ∙ new.count
 
-  pub by-leaf : (now new : List (Node (StageWork S K))) → Turned (length stages) now → is_gathering (role_at stages (length stages - 1)) ≡ true
-      → IsLeafRun s k queue (length stages - 1) now new → ByParts s k stages queue old new
-  by-leaf now new turned g run = record {
-    homes = homes;
-    are = are;
-    ran = record { now = now; turned = turned; streams = λ f. absurd (true≢false (sym g ∙ f)); gathers = λ _. run };
-  }
+    -- it streams
+    module _ (no : read ≡ false) where
+      streams_w : is_gathering (role_at stages w) ≡ false
+      streams_w = gathers-read stages plan.gathers.items gathers_is w read false inside reads no
 
-  pub by-part : (now new : List (Node (StageWork S K))) → Turned (length stages) now → is_gathering (role_at stages (length stages - 1)) ≡ false
-      → IsPartRun s k queue (part (length stages) (length stages - 1)) homes (length stages) (length stages - 1) now new → ByParts s k stages queue old new
-  by-part now new turned f run = record {
-    homes = homes;
-    are = are;
-    ran = record {
-      now = now;
-      turned = turned;
-      streams = λ _. subst (λ xss. IsPartRun s k queue xss homes (length stages) (length stages - 1) now new) (same-part (length stages) (length stages - 1)) run;
-      gathers = λ g. absurd (true≢false (sym g ∙ f));
-    };
-  }
+      pub skipped : Done (w + 1) now
+      skipped = none-here s k stages old new down forest (ins-size stages) homes are queue w now count inside streams_w done
 
-  -- where memory is wanting in the last part, a stage gathers
-  pub wanting : (now after : List (Node (StageWork S K))) → length now ≡ length stages → Done (length stages) now → RanShort now after → SomeGathers stages
-  wanting = short-gathers s k stages old new down forest (ins-size stages) homes are queue
+      pub turned-over : Turned w now → Turned (w + 1) now
+      turned-over before = one-more w now (now, before, inr (streams_w, refl))
 
-  -- ---- the part of a stage that gathers
+    -- it gathers
+    module _ (yes : read ≡ true) where
+      gathers_w : is_gathering (role_at stages w) ≡ true
+      gathers_w = gathers-read stages plan.gathers.items gathers_is w read true inside reads yes
 
-  module _ (w : ℕ) (now : List (Node (StageWork S K))) (count : length now ≡ length stages) (inside : w < length stages) (gathers_w : is_gathering (role_at stages w) ≡ true) (done : Done w now) where
-    at-w : IsRoot stages homes w w
-    at-w = inl (gathers_w, refl)
+      pub gathers-one : SomeGathers stages
+      gathers-one = (w, inside, gathers_w)
 
-    pub part-forest : IsForest (part w w) w
-    part-forest = subst (λ xss. IsForest xss w) (sym (same-part w w))
-        (gathered-forest (gathers_of stages) (ins_of stages) homes w forest are (let n = ins-size stages in omega (arith, inside, n)) (gathers-are stages w ∙ gathers_w))
+      at-w : IsRoot stages homes w w
+      at-w = inl (gathers_w, refl)
 
-    pub part-fresh : (i : ℕ) (n : Node (StageWork S K)) → i < w → is_of homes w i ≡ true → slice_get now i ≡ Some n → IsFresh (shown (as_works s k) (children (part w w) i) n)
-    part-fresh i n l h e = subst (λ xss. IsFresh (shown (as_works s k) (children xss i) n)) (sym (same-part w w))
-        (fresh-before s k stages old new down forest (ins-size stages) homes are queue w w at-w now count inside (λ j m. m) done i n l h e)
+      pub part-forest : IsForest (part w w) w
+      part-forest = subst (λ xss. IsForest xss w) (sym (same-part w w))
+          (gathered-forest (gathers_of stages) (ins_of stages) homes w forest are (let n = ins-size stages in omega (arith, inside, n)) (gathers-are stages w ∙ gathers_w))
 
-    pub part-inputs : (n : Node (StageWork S K)) → slice_get now w ≡ Some n → (is_leaf n.work ≡ true) ↔ (length (children (part w w) w) ≡ 0)
-    part-inputs n e = subst (λ xss. (is_leaf n.work ≡ true) ↔ (length (children xss w) ≡ 0)) (sym (same-part w w))
-        (root-inputs s k stages old new down forest (ins-size stages) homes are queue w w at-w now count inside (λ j m. m) done
-        (λ streams. absurd (true≢false (sym gathers_w ∙ streams))) n e)
+      pub part-fresh : (i : ℕ) (n : Node (StageWork S K)) → i < w → is_of homes w i ≡ true → slice_get now i ≡ Some n → IsFresh (shown (as_works s k) (children (part w w) i) n)
+      part-fresh i n l h e = subst (λ xss. IsFresh (shown (as_works s k) (children xss i) n)) (sym (same-part w w))
+          (fresh-before s k stages old new down forest (ins-size stages) homes are queue w w at-w now count inside (λ j m. m) done i n l h e)
 
-    module _ (after : List (Node (StageWork S K))) (run : IsPartRun s k queue (part w w) homes w w now after) where
-      ran : IsPartRun s k queue (part_ins (gathers_of stages) (ins_of stages) homes w w) homes w w now after
-      ran = subst (λ xss. IsPartRun s k queue xss homes w w now after) (same-part w w) run
+      pub part-inputs : (n : Node (StageWork S K)) → slice_get now w ≡ Some n → (is_leaf n.work ≡ true) ↔ (length (children (part w w) w) ≡ 0)
+      part-inputs n e = subst (λ xss. (is_leaf n.work ≡ true) ↔ (length (children xss w) ≡ 0)) (sym (same-part w w))
+          (root-inputs s k stages old new down forest (ins-size stages) homes are queue w w at-w now count inside (λ j m. m) done
+          (λ streams. absurd (true≢false (sym gathers_w ∙ streams))) n e)
 
-      pub collects : (m : Node (StageWork S K)) → slice_get after w ≡ Some m → IsCollecting m.work
-      collects = root-collects s k stages old new down forest (ins-size stages) homes are queue w w at-w now count inside (λ j m. m) done after ran gathers_w
+      module _ {after : List (Node (StageWork S K))} (run : IsPartRun s k queue (part w w) homes w w now after) where
+        ran : IsPartRun s k queue (part_ins (gathers_of stages) (ins_of stages) homes w w) homes w w now after
+        ran = subst (λ xss. IsPartRun s k queue xss homes w w now after) (same-part w w) run
 
-      pub taken-turn : (last : List (Node (StageWork S K))) → IsGatheredAt s k w after last → Done (w + 1) last
-      taken-turn last made = gathered-here s k stages old new down forest (ins-size stages) homes are queue w now after last count inside gathers_w done ran made
+        pub collects : (m : Node (StageWork S K)) → slice_get after w ≡ Some m → IsCollecting m.work
+        collects = root-collects s k stages old new down forest (ins-size stages) homes are queue w w at-w now count inside (λ j m. m) done after ran gathers_w
 
-  -- ---- the last part
+        module _ {last : List (Node (StageWork S K))} (made : IsGatheredAt s k w after last) where
+          pub taken-turn : Done (w + 1) last
+          taken-turn = gathered-here s k stages old new down forest (ins-size stages) homes are queue w now after last count inside gathers_w done ran made
 
-  module _ (now : List (Node (StageWork S K))) (count : length now ≡ length stages) (done : Done (length stages) now) where
-    some : 0 < length stages
-    some = some-stages stages tree
-
-    -- where the last stage gathers
-    pub last-waits : is_gathering (role_at stages (length stages - 1)) ≡ true → (n : Node (StageWork S K)) → slice_get now (length stages - 1) ≡ Some n → IsNewLeaf s k n
-    last-waits g n e = last-leaf s k stages old new down forest (ins-size stages) homes are queue now some g done n e
-
-    pub leaf-ran : (after : List (Node (StageWork S K))) → is_gathering (role_at stages (length stages - 1)) ≡ true → IsLeafRun s k queue (length stages - 1) now after → AreRanStages s k stages old after
-    leaf-ran after g run = last-gathers s k stages old new down forest (ins-size stages) homes are queue now after count some g done run
-
-    -- where it doesn't
-    module _ (streams : is_gathering (role_at stages (length stages - 1)) ≡ false) where
-      abbrev root : ℕ
-      root = length stages - 1
-
-      inside : root < length stages
-      inside = let m = some in omega (arith, m)
-
-      last-number : root ≡ length (ins_of stages) - 1
-      last-number = let n = ins-size stages in omega (arith, n)
-
-      at-last : IsRoot stages homes (length stages) root
-      at-last = inr (streams, ap (home_at homes) last-number ∙ are.root ∙ ins-size stages)
-
-      lower : (j : ℕ) → j < root → j < length stages
-      lower j l = omega (arith, l)
-
-      pub last-part-forest : IsForest (part (length stages) root) root
-      last-part-forest = subst (λ xss. IsForest xss root) (sym (same-part (length stages) root))
-          (subst (λ n. IsForest (part_ins (gathers_of stages) (ins_of stages) homes n (n - 1)) (n - 1)) (ins-size stages)
-          (last-forest (gathers_of stages) (ins_of stages) homes forest are (ap (gathers_at (gathers_of stages)) (sym last-number) ∙ gathers-are stages root ∙ streams)))
-
-      pub last-fresh : (i : ℕ) (n : Node (StageWork S K)) → i < root → is_of homes (length stages) i ≡ true → slice_get now i ≡ Some n → IsFresh (shown (as_works s k) (children (part (length stages) root) i) n)
-      last-fresh i n l h e = subst (λ xss. IsFresh (shown (as_works s k) (children xss i) n)) (sym (same-part (length stages) root))
-          (fresh-before s k stages old new down forest (ins-size stages) homes are queue (length stages) root at-last now count inside lower done i n l h e)
-
-      pub last-inputs : (n : Node (StageWork S K)) → slice_get now root ≡ Some n → (is_leaf n.work ≡ true) ↔ (length (children (part (length stages) root) root) ≡ 0)
-      last-inputs n e = subst (λ xss. (is_leaf n.work ≡ true) ↔ (length (children xss root) ≡ 0)) (sym (same-part (length stages) root))
-          (root-inputs s k stages old new down forest (ins-size stages) homes are queue (length stages) root at-last now count inside lower done
-          (λ f. let m = some in omega (arith, m)) n e)
-
-      pub part-ran : (after : List (Node (StageWork S K))) → IsPartRun s k queue (part (length stages) root) homes (length stages) root now after → AreRanStages s k stages old after
-      part-ran after run = last-streams s k stages old new down forest (ins-size stages) homes are queue now after count some streams done
-          (subst (λ xss. IsPartRun s k queue xss homes (length stages) root now after) (same-part (length stages) root) run)
+          pub turned-on : Turned w now → Turned (w + 1) last
+          turned-on before = one-more w last (now, before, inl (record { gathers = gathers_w; after = after; ran = ran; made = made }))

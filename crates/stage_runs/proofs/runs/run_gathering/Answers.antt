@@ -1,27 +1,21 @@
-use Rattle.std.proofs.Common.{◌≡◌, ◌+◌, ◌<◌, true, false, length, refl, ap, sym, subst, ◌∙◌, arith}
+use Rattle.std.proofs.Common.{◌≡◌, ◌+◌, ◌<◌, length, refl, ap, sym, subst, ◌∙◌, arith}
 use Rattle.network_theory.specs.Opening.{IsFresh}
 use Rattle.network_core.specs.Shown.{shown}
 use Rattle.stage_runs.specs.Works.{as_works, ins_of}
 use Rattle.stage_runs.specs.Parts.{AreLater, AreRunBefore, AreTurned}
-use Rattle.stage_runs.specs.Short.{SomeGathers}
 use Rattle.stage_runs.proofs.Answered.{always-on-err}
 use Rattle.stage_runs.proofs.Forests.{children-are}
 use Rattle.stage_runs.proofs.Later.{same-later, step-later}
-use Rattle.stage_runs.proofs.Turns.{few-stages, ins-size, gathers-size, gathers-read, gathers-inside, homes-size, at-first, skipped, part-forest, part-fresh, part-inputs, collects, taken-turn, turned-on, turned-over}
+use Rattle.stage_runs.proofs.Turns.{few-stages, ins-size, gathers-size, gathers-inside, homes-size, at-first, skipped, part-forest, part-fresh, part-inputs, gathers-one, collects, taken-turn, turned-on, turned-over}
 use Rattle.stage_runs.proofs.runs.run_gathering.Goals as goal
 use Rattle.stage_runs.proofs.runs.run_gathering.Goals.{then-index+in_ok-room+in_ok-run_part+in_ok-gather_at, else-index}
 
 pub loop-at-init : goal.loop-at-init
 loop-at-init g c =
-    let s = g.S.Source in
-    let k = g.K.Sink in
-    let stages = c.args.stages.now in
     let new = c.requires.new in
-    let plan = c.args.plan.now in
-    let is = c.requires in
     record {
-      later = same-later s k (ins_of stages) c.args.nodes.now (λ i n e. subst (λ xs. IsFresh (shown (as_works s k) xs n)) (sym (children-are stages i)) (new.fresh i n e));
-      done = at-first s k stages c.requires.tree c.args.nodes.now new plan.gathers.items plan.ins plan.homes.items is.gathers is.ins is.homes c.args.sizes.queue;
+      later = same-later g.S.Source g.K.Sink (ins_of c.args.stages.now) c.args.nodes.now (λ i n e. subst (λ xs. IsFresh (shown (as_works g.S.Source g.K.Sink) xs n)) (sym (children-are c.args.stages.now i)) (new.fresh i n e));
+      done = at-first g.S.Source g.K.Sink c.args.stages.now c.requires.tree c.requires.new c.args.plan.now c.requires.gathers c.requires.ins c.requires.homes c.args.sizes.queue;
       turned = refl;
     }
 
@@ -73,13 +67,7 @@ new-requires-clause-homes g c =
     homes-size stages plan.homes.items is.homes ∙ sym many
 
 pub returns-in_err-room-clause-gathers : goal.returns-in_err-room-clause-gathers
-returns-in_err-room-clause-gathers g c =
-    let stages = c.args.stages.now in
-    let plan = c.args.plan.now in
-    let is = c.requires in
-    let at = c.loop-at.at in
-    let inside : at < length stages = c.loop-at-test.true in
-    always-on-err c.from_residual.result (SomeGathers stages) (at, inside, gathers-read stages plan.gathers.items is.gathers at c.index.result.now true inside c.index.ensures c.if-index.true)
+returns-in_err-room-clause-gathers g c = always-on-err c.from_residual.result _ (gathers-one g.S.Source g.K.Sink c.args.stages.now c.requires.tree c.requires.new c.args.plan.now c.requires.gathers c.requires.ins c.requires.homes c.args.sizes.queue c.loop-at.at c.loop-at.invariant.later c.loop-at.invariant.done c.loop-at-test.true c.index.ensures c.if-index.true)
 
 pub run_part-requires-clause-room : goal.run_part-requires-clause-room
 run_part-requires-clause-room g c = c.in_ok-room.ensures
@@ -103,52 +91,13 @@ run_part-requires-clause-homes g c =
     homes-size stages plan.homes.items is.homes ∙ sym count
 
 pub run_part-requires-clause-forest : goal.run_part-requires-clause-forest
-run_part-requires-clause-forest g c =
-    let s = g.S.Source in
-    let k = g.K.Sink in
-    let stages = c.args.stages.now in
-    let new = c.requires.new in
-    let plan = c.args.plan.now in
-    let is = c.requires in
-    let now = c.loop-at.nodes in
-    let at = c.loop-at.at in
-    let count : length now ≡ length stages = c.loop-at.invariant.later.count ∙ new.count in
-    let inside : at < length stages = c.loop-at-test.true in
-    let done = c.loop-at.invariant.done in
-    let gathers = gathers-read stages plan.gathers.items is.gathers at c.index.result.now true inside c.index.ensures c.if-index.true in
-    part-forest s k stages c.requires.tree c.args.nodes.now new plan.gathers.items plan.ins plan.homes.items is.gathers is.ins is.homes c.args.sizes.queue at now count inside gathers done
+run_part-requires-clause-forest g c = part-forest g.S.Source g.K.Sink c.args.stages.now c.requires.tree c.requires.new c.args.plan.now c.requires.gathers c.requires.ins c.requires.homes c.args.sizes.queue c.loop-at.at c.loop-at.invariant.later c.loop-at.invariant.done c.loop-at-test.true c.index.ensures c.if-index.true
 
 pub run_part-requires-clause-fresh : goal.run_part-requires-clause-fresh
-run_part-requires-clause-fresh g c =
-    let s = g.S.Source in
-    let k = g.K.Sink in
-    let stages = c.args.stages.now in
-    let new = c.requires.new in
-    let plan = c.args.plan.now in
-    let is = c.requires in
-    let now = c.loop-at.nodes in
-    let at = c.loop-at.at in
-    let count : length now ≡ length stages = c.loop-at.invariant.later.count ∙ new.count in
-    let inside : at < length stages = c.loop-at-test.true in
-    let done = c.loop-at.invariant.done in
-    let gathers = gathers-read stages plan.gathers.items is.gathers at c.index.result.now true inside c.index.ensures c.if-index.true in
-    part-fresh s k stages c.requires.tree c.args.nodes.now new plan.gathers.items plan.ins plan.homes.items is.gathers is.ins is.homes c.args.sizes.queue at now count inside gathers done
+run_part-requires-clause-fresh g c = part-fresh g.S.Source g.K.Sink c.args.stages.now c.requires.tree c.requires.new c.args.plan.now c.requires.gathers c.requires.ins c.requires.homes c.args.sizes.queue c.loop-at.at c.loop-at.invariant.later c.loop-at.invariant.done c.loop-at-test.true c.index.ensures c.if-index.true
 
 pub run_part-requires-clause-inputs : goal.run_part-requires-clause-inputs
-run_part-requires-clause-inputs g c =
-    let s = g.S.Source in
-    let k = g.K.Sink in
-    let stages = c.args.stages.now in
-    let new = c.requires.new in
-    let plan = c.args.plan.now in
-    let is = c.requires in
-    let now = c.loop-at.nodes in
-    let at = c.loop-at.at in
-    let count : length now ≡ length stages = c.loop-at.invariant.later.count ∙ new.count in
-    let inside : at < length stages = c.loop-at-test.true in
-    let done = c.loop-at.invariant.done in
-    let gathers = gathers-read stages plan.gathers.items is.gathers at c.index.result.now true inside c.index.ensures c.if-index.true in
-    part-inputs s k stages c.requires.tree c.args.nodes.now new plan.gathers.items plan.ins plan.homes.items is.gathers is.ins is.homes c.args.sizes.queue at now count inside gathers done
+run_part-requires-clause-inputs g c = part-inputs g.S.Source g.K.Sink c.args.stages.now c.requires.tree c.requires.new c.args.plan.now c.requires.gathers c.requires.ins c.requires.homes c.args.sizes.queue c.loop-at.at c.loop-at.invariant.later c.loop-at.invariant.done c.loop-at-test.true c.index.ensures c.if-index.true
 
 pub returns-in_err-run_part-clause-later : goal.returns-in_err-run_part-clause-later
 returns-in_err-run_part-clause-later g c =
@@ -157,29 +106,10 @@ returns-in_err-run_part-clause-later g c =
     step-later s k c.args.nodes.now c.loop-at.nodes c.run_part.new.nodes c.loop-at.invariant.later c.run_part.ensures.later
 
 pub returns-in_err-run_part-clause-gathers : goal.returns-in_err-run_part-clause-gathers
-returns-in_err-run_part-clause-gathers g c =
-    let stages = c.args.stages.now in
-    let plan = c.args.plan.now in
-    let is = c.requires in
-    let at = c.loop-at.at in
-    let inside : at < length stages = c.loop-at-test.true in
-    always-on-err c.from_residual-in_err-run_part.result (SomeGathers stages) (at, inside, gathers-read stages plan.gathers.items is.gathers at c.index.result.now true inside c.index.ensures c.if-index.true)
+returns-in_err-run_part-clause-gathers g c = always-on-err c.from_residual-in_err-run_part.result _ (gathers-one g.S.Source g.K.Sink c.args.stages.now c.requires.tree c.requires.new c.args.plan.now c.requires.gathers c.requires.ins c.requires.homes c.args.sizes.queue c.loop-at.at c.loop-at.invariant.later c.loop-at.invariant.done c.loop-at-test.true c.index.ensures c.if-index.true)
 
 pub gather_at-requires-clause-collects : goal.gather_at-requires-clause-collects
-gather_at-requires-clause-collects g c =
-    let s = g.S.Source in
-    let k = g.K.Sink in
-    let stages = c.args.stages.now in
-    let new = c.requires.new in
-    let plan = c.args.plan.now in
-    let is = c.requires in
-    let now = c.loop-at.nodes in
-    let at = c.loop-at.at in
-    let count : length now ≡ length stages = c.loop-at.invariant.later.count ∙ new.count in
-    let inside : at < length stages = c.loop-at-test.true in
-    let done = c.loop-at.invariant.done in
-    let gathers = gathers-read stages plan.gathers.items is.gathers at c.index.result.now true inside c.index.ensures c.if-index.true in
-    collects s k stages c.requires.tree c.args.nodes.now new plan.gathers.items plan.ins plan.homes.items is.gathers is.ins is.homes c.args.sizes.queue at now count inside gathers done c.run_part.new.nodes c.in_ok-run_part.ensures.run
+gather_at-requires-clause-collects g c = collects g.S.Source g.K.Sink c.args.stages.now c.requires.tree c.requires.new c.args.plan.now c.requires.gathers c.requires.ins c.requires.homes c.args.sizes.queue c.loop-at.at c.loop-at.invariant.later c.loop-at.invariant.done c.loop-at-test.true c.index.ensures c.if-index.true c.in_ok-run_part.ensures.run
 
 pub returns-in_err-gather_at-clause-later : goal.returns-in_err-gather_at-clause-later
 returns-in_err-gather_at-clause-later g c =
@@ -188,42 +118,29 @@ returns-in_err-gather_at-clause-later g c =
     step-later s k c.args.nodes.now c.run_part.new.nodes c.gather_at.new.nodes (step-later s k c.args.nodes.now c.loop-at.nodes c.run_part.new.nodes c.loop-at.invariant.later c.run_part.ensures.later) c.gather_at.ensures.later
 
 pub returns-in_err-gather_at-clause-gathers : goal.returns-in_err-gather_at-clause-gathers
-returns-in_err-gather_at-clause-gathers g c =
-    let stages = c.args.stages.now in
-    let plan = c.args.plan.now in
-    let is = c.requires in
-    let at = c.loop-at.at in
-    let inside : at < length stages = c.loop-at-test.true in
-    always-on-err c.from_residual-in_err-gather_at.result (SomeGathers stages) (at, inside, gathers-read stages plan.gathers.items is.gathers at c.index.result.now true inside c.index.ensures c.if-index.true)
+returns-in_err-gather_at-clause-gathers g c = always-on-err c.from_residual-in_err-gather_at.result _ (gathers-one g.S.Source g.K.Sink c.args.stages.now c.requires.tree c.requires.new c.args.plan.now c.requires.gathers c.requires.ins c.requires.homes c.args.sizes.queue c.loop-at.at c.loop-at.invariant.later c.loop-at.invariant.done c.loop-at-test.true c.index.ensures c.if-index.true)
 
 pub loop-at-preserved : goal.loop-at-preserved
 loop-at-preserved g c =
     let s = g.S.Source in
     let k = g.K.Sink in
     let stages = c.args.stages.now in
-    let new = c.requires.new in
-    let plan = c.args.plan.now in
-    let is = c.requires in
+    let homes = c.args.plan.now.homes.items in
+    let old = c.args.nodes.now in
+    let queue = c.args.sizes.queue in
     let now = c.loop-at.nodes in
     let at = c.loop-at.at in
-    let count : length now ≡ length stages = c.loop-at.invariant.later.count ∙ new.count in
-    let inside : at < length stages = c.loop-at-test.true in
-    let done = c.loop-at.invariant.done in
     elim c.if-index.branch [
-      | then-index+in_ok-room+in_ok-run_part+in_ok-gather_at w ↦ (
-          let gathers = gathers-read stages plan.gathers.items is.gathers at c.index.result.now true inside c.index.ensures w.if-index.true in
-          subst (λ ns. record { later : AreLater s k c.args.nodes.now ns; done : AreRunBefore s k stages plan.homes.items c.args.nodes.now (at + 1) ns; turned : AreTurned s k stages plan.homes.items c.args.nodes.now c.args.sizes.queue (at + 1) ns }) (sym w.nodes-is) (record {
-            later = step-later s k c.args.nodes.now w.run_part.new.nodes w.gather_at.new.nodes (step-later s k c.args.nodes.now now w.run_part.new.nodes c.loop-at.invariant.later w.run_part.ensures.later) w.gather_at.ensures.later;
-            done = taken-turn s k stages c.requires.tree c.args.nodes.now new plan.gathers.items plan.ins plan.homes.items is.gathers is.ins is.homes c.args.sizes.queue at now count inside gathers done w.run_part.new.nodes w.in_ok-run_part.ensures.run w.gather_at.new.nodes w.in_ok-gather_at.ensures.gathered;
-            turned = turned-on s k stages c.requires.tree c.args.nodes.now new plan.gathers.items plan.ins plan.homes.items is.gathers is.ins is.homes c.args.sizes.queue at now w.run_part.new.nodes w.gather_at.new.nodes c.loop-at.invariant.turned gathers w.in_ok-run_part.ensures.run w.in_ok-gather_at.ensures.gathered;
-          }))
-      | else-index w ↦ (
-          let streams = gathers-read stages plan.gathers.items is.gathers at c.index.result.now false inside c.index.ensures w.if-index.false in
-          subst (λ ns. record { later : AreLater s k c.args.nodes.now ns; done : AreRunBefore s k stages plan.homes.items c.args.nodes.now (at + 1) ns; turned : AreTurned s k stages plan.homes.items c.args.nodes.now c.args.sizes.queue (at + 1) ns }) (sym w.nodes-is) (record {
-            later = c.loop-at.invariant.later;
-            done = skipped s k stages c.requires.tree c.args.nodes.now new plan.gathers.items plan.ins plan.homes.items is.gathers is.ins is.homes c.args.sizes.queue at now count inside streams done;
-            turned = turned-over s k stages c.requires.tree c.args.nodes.now new plan.gathers.items plan.ins plan.homes.items is.gathers is.ins is.homes c.args.sizes.queue at now c.loop-at.invariant.turned streams;
-          }))
+      | then-index+in_ok-room+in_ok-run_part+in_ok-gather_at w ↦ subst (λ ns. record { later : AreLater s k old ns; done : AreRunBefore s k stages homes old (at + 1) ns; turned : AreTurned s k stages homes old queue (at + 1) ns }) (sym w.nodes-is) (record {
+        later = step-later s k old w.run_part.new.nodes w.gather_at.new.nodes (step-later s k old now w.run_part.new.nodes c.loop-at.invariant.later w.run_part.ensures.later) w.gather_at.ensures.later;
+        done = taken-turn g.S.Source g.K.Sink c.args.stages.now c.requires.tree c.requires.new c.args.plan.now c.requires.gathers c.requires.ins c.requires.homes c.args.sizes.queue c.loop-at.at c.loop-at.invariant.later c.loop-at.invariant.done c.loop-at-test.true c.index.ensures w.if-index.true w.in_ok-run_part.ensures.run w.in_ok-gather_at.ensures.gathered;
+        turned = turned-on g.S.Source g.K.Sink c.args.stages.now c.requires.tree c.requires.new c.args.plan.now c.requires.gathers c.requires.ins c.requires.homes c.args.sizes.queue c.loop-at.at c.loop-at.invariant.later c.loop-at.invariant.done c.loop-at-test.true c.index.ensures w.if-index.true w.in_ok-run_part.ensures.run w.in_ok-gather_at.ensures.gathered c.loop-at.invariant.turned;
+      })
+      | else-index w ↦ subst (λ ns. record { later : AreLater s k old ns; done : AreRunBefore s k stages homes old (at + 1) ns; turned : AreTurned s k stages homes old queue (at + 1) ns }) (sym w.nodes-is) (record {
+        later = c.loop-at.invariant.later;
+        done = skipped g.S.Source g.K.Sink c.args.stages.now c.requires.tree c.requires.new c.args.plan.now c.requires.gathers c.requires.ins c.requires.homes c.args.sizes.queue c.loop-at.at c.loop-at.invariant.later c.loop-at.invariant.done c.loop-at-test.true c.index.ensures w.if-index.false;
+        turned = turned-over g.S.Source g.K.Sink c.args.stages.now c.requires.tree c.requires.new c.args.plan.now c.requires.gathers c.requires.ins c.requires.homes c.args.sizes.queue c.loop-at.at c.loop-at.invariant.later c.loop-at.invariant.done c.loop-at-test.true c.index.ensures w.if-index.false c.loop-at.invariant.turned;
+      })
     ]
 
 pub returns-clause-done : goal.returns-clause-done
