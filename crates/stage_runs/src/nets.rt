@@ -53,7 +53,8 @@ pub(crate) fn stand_ins<S: Source, K: FileSink>(
 
 /// Whether memory was wanting at one of these nodes.
 fn any_short<S: Source, K: FileSink>(nodes: &[Node<StageWork<S, K>>]) -> bool
-    ensures short { result ≡ true → (i : ℕ) × (n : node_type.Node (work_type.StageWork S K)) × (slice_get nodes.now i ≡ Some n) × (is_short n.work ≡ true) }
+    ensures short { result ≡ true
+        → (i : ℕ) × (n : node_type.Node (work_type.StageWork S K)) × (slice_get nodes.now i ≡ Some n) × (is_short n.work ≡ true) }
     ensures enough { result ≡ false → (i : ℕ) (n : node_type.Node (work_type.StageWork S K)) → slice_get nodes.now i ≡ Some n → is_short n.work ≡ false }
 {
     for i in 0..nodes.len() {
