@@ -6,5 +6,6 @@ pub mod Texts
 pub mod Answer
 pub mod Cause
 pub mod Left
+pub mod Reading
 pub mod Ends
 pub mod Codes

@@ -1,6 +1,6 @@
 //! The file of a pipeline, and its stages.
 
-ghost use Rattle.std.specs.Prelude.{◌≡◌, Some, None, Ok, IfOk, IfErr};
+ghost use Rattle.std.specs.Prelude.{◌≡◌, ◌+◌, Some, None, Ok, IfOk, IfErr};
 ghost use Rattle.file_devices.specs.Counts.{Rose};
 ghost use Rattle.file_devices.specs.Named.{Names};
 ghost use Rattle.answer_model.specs.Runs.{file_at};
@@ -9,6 +9,7 @@ ghost use Rattle.run_engine.specs.Cause.{Because, IsSettled};
 ghost use Rattle.stage_options.specs.TreeShown.{specs_view};
 ghost use Rattle.lasline_top.specs.Answer.{plan_in, stages_in};
 ghost use Rattle.lasline_top.specs.Cause.{AtText, Never, Risen, IsOfPlan, IsOfText};
+ghost use Rattle.lasline_top.specs.Reading.{ReadAtMost};
 ghost use Rattle.lasline_top.specs.Refusals.{refusal_of};
 
 use file_devices::{DeviceErr, Files, Op, WholeErr, read_whole};
@@ -33,6 +34,7 @@ pub(crate) fn read_text<F: Files>(
     ensures risen { IfErr result (λ refusal. F.map files.old ≡ None → Risen (Rose (F.faults files.old) (F.faults files.new)) ⊥ refusal) }
     ensures settled { IsSettled (F.map files.old) (F.map files.new) (F.lent files.old) (F.lent files.new)
         (F.faults files.old) (F.faults files.new) }
+    ensures opened { ReadAtMost (MOST_BYTES + 1) (F.read_to files.old) (F.read_to files.new) }
 {
     let mut source = match files.open_in(name) {
         Ok(source) => source,
@@ -75,7 +77,7 @@ pub(crate) fn read_stages(alloc: Global, text: &[u8]) -> Result<Tree, Refusal>
     }
 }
 
-/// The pipeline in a file: its stages with their options.
+/// The pipeline in a file: its stages with their options. No other file is opened.
 pub(crate) fn read_plan<F: Files>(alloc: Global, files: &mut F, name: &str) -> Result<Tree, Refusal>
     ensures ok { IfOk result (λ tree. (m : Names) → F.map files.old ≡ Some m → plan_in m name.now ≡ Ok (specs_view tree)) }
     ensures err { IfErr result (λ refusal. (m : Names) → F.map files.old ≡ Some m
@@ -84,6 +86,7 @@ pub(crate) fn read_plan<F: Files>(alloc: Global, files: &mut F, name: &str) -> R
     ensures risen { IfErr result (λ refusal. F.map files.old ≡ None → Risen (Rose (F.faults files.old) (F.faults files.new)) ⊥ refusal) }
     ensures settled { IsSettled (F.map files.old) (F.map files.new) (F.lent files.old) (F.lent files.new)
         (F.faults files.old) (F.faults files.new) }
+    ensures opened { ReadAtMost (MOST_BYTES + 1) (F.read_to files.old) (F.read_to files.new) }
 {
     let text = read_text(alloc, files, name)?;
     read_stages(alloc, &text)

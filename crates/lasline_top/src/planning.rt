@@ -1,15 +1,17 @@
 //! The plan of a pipeline is printed.
 
-ghost use Rattle.std.specs.Prelude.{◌≡◌, ◌≤◌, Ok, IfErr, OnOk};
+ghost use Rattle.std.specs.Prelude.{◌≡◌, ◌+◌, ◌≤◌, Ok, IfErr, OnOk};
 ghost use Rattle.file_devices.specs.Counts.{Rose};
 ghost use Rattle.lasline_top.specs.Words.{Plan_file};
 ghost use Rattle.lasline_top.specs.Cause.{IsOfFiles};
 ghost use Rattle.lasline_top.specs.Ends.{WasDone, WasRefused};
+ghost use Rattle.lasline_top.specs.Reading.{ReadAtMost};
 
 use crate::pipeline_file::read_plan;
 use crate::printing::print_text;
 use crate::texts::plan_text;
 use file_devices::{Files, Sink};
+use pipeline_json::MOST_BYTES;
 use run_report::Refusal;
 use stage_planner::plan;
 use std::alloc::Global;
@@ -27,6 +29,7 @@ pub(crate) fn plan_file<F: Files, K: Sink>(
     ensures of_files { IfErr result IsOfFiles }
     ensures lent { F.lent files.new ≡ F.lent files.old }
     ensures later { F.faults files.old ≤ F.faults files.new }
+    ensures opened { ReadAtMost (MOST_BYTES + 1) (F.read_to files.old) (F.read_to files.new) }
 {
     let tree = read_plan(alloc, files, name)?;
     let Ok(steps) = plan(alloc, &tree) else {

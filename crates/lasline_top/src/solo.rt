@@ -17,6 +17,7 @@ ghost use Rattle.lasline_top.specs.Refusals.{status_for};
 ghost use Rattle.lasline_top.specs.Cause.{RisenAt, ToldWhy, AtTask};
 ghost use Rattle.lasline_top.specs.Left.{AreTold, IsLeftBy};
 ghost use Rattle.lasline_top.specs.Ends.{WasDone, WasRefused};
+ghost use Rattle.lasline_top.specs.Reading.{IsReadBy};
 
 use crate::generating::make_file;
 use crate::planning::plan_file;
@@ -44,6 +45,7 @@ fn run_command<F: Files, K: Sink>(
     ensures page_part { (text : List ℕ) → task_of (map string_bytes words.now) ≡ Ok (Print text) → OnErr result (AppendsPart (K.bytes out.old) text (K.bytes out.new)) }
     ensures lent { F.lent files.new ≡ F.lent files.old }
     ensures later { F.faults files.old ≤ F.faults files.new }
+    ensures opened { IsReadBy (task_of (map string_bytes words.now)) (F.read_to files.old) (F.read_to files.new) }
 {
     match task_of(words)? {
         Task::Run { file, engine } => run_file(alloc, file, engine, files, out),
@@ -138,6 +140,7 @@ pub fn lasline_solo<F: Files, K: Sink, E: Sink>(
     // Every object that was handed out is given back, and no count falls.
     ensures lent { F.lent files.new ≡ F.lent files.old }
     ensures later { F.faults files.old ≤ F.faults files.new }
+    ensures opened { IsReadBy (task_of (map string_bytes words.now)) (F.read_to files.old) (F.read_to files.new) }
 {
     match run_command(alloc, words, files, out) {
         Ok(()) => Status::Ok,
