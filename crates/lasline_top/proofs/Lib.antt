@@ -1,3 +1,4 @@
+pub mod Absent
 pub mod Printed
 pub mod Planned
 pub mod Ran

@@ -4,15 +4,12 @@ use Rattle.file_devices.specs.Content.{AppendsPart}
 use Rattle.file_devices.specs.Named.{Names, put}
 use Rattle.file_devices.specs.declared.devices.Op.TheVariants as op
 use Rattle.cloud_gen.specs.GeneratedFile.{generated_file, IsPut}
-use Rattle.cloud_gen.specs.GeneratedFile.{IsLeft as IsUnmade}
-use Rattle.cloud_gen.specs.declared.faults.GenerateError.TheVariants as generating
 use Rattle.run_report.specs.declared.refusal.Place.TheVariants as at
 use Rattle.run_report.specs.declared.refusal.Refusal.{Refusal}
 use Rattle.run_report.specs.declared.refusal.Refusal.TheVariants as of
 use Rattle.run_engine.specs.Cause.{WerePut}
 use Rattle.lasline_top.specs.Texts.{generated_line}
 use Rattle.lasline_top.specs.Words.{Make_file}
-use Rattle.lasline_top.specs.Answer.{made}
 use Rattle.lasline_top.specs.Ends.{WasRefused}
 use Rattle.lasline_top.proofs.Printed.{unprinted}
 

@@ -48,7 +48,7 @@ pub unprinted : (task : Task) (files out : Type 0) (old new : Option Names) (out
     → WasRefused (Ok task) files out old new out0 out1 r
 unprinted task files out old new out0 out1 r is rose part device left = subst (WasRefused (Ok task) files out old new out0 out1) (sym is) (record {
   because = λ m t. inr (device m t);
-  risen = λ none. rose;
+  risen = rose;
   out_risen = λ o e. (named o e, rose);
   left = left;
   quiet = inr (refl, part);

@@ -1,9 +1,10 @@
 -- What the run of a pipeline comes to, the command does.
-use Rattle.std.proofs.Common.{◌≡◌, ℕ, List, Option, Some, Result, Ok, Err, IsOkAnd, ap, subst, sym, ◌∙◌, inl, inr}
+use Rattle.std.proofs.Common.{◌≡◌, ℕ, List, Option, Some, Result, Ok, Err, IsOkAnd, IfErr, ap, subst, sym, ◌∙◌, inl, inr}
 use Rattle.file_devices.specs.Named.{Names}
 use Rattle.file_devices.specs.Content.{Appends, AppendsPart}
 use Rattle.file_devices.specs.declared.devices.Op.{Op}
 use Rattle.file_devices.specs.declared.devices.Op.TheVariants as op
+use Rattle.stage_options.specs.declared.stage.StageSpec.{StageSpec}
 use Rattle.run_report.specs.declared.refusal.Place.{Place}
 use Rattle.run_report.specs.declared.refusal.Place.TheVariants as at
 use Rattle.run_report.specs.declared.refusal.Refusal.{Refusal}
@@ -12,11 +13,12 @@ use Rattle.run_report.specs.declared.report.StageCount.{StageCount}
 use Rattle.run_report.specs.Reports.{report_of}
 use Rattle.answer_model.specs.Steps.{and_then}
 use Rattle.answer_model.specs.Runs.{Run, file_at, run_of}
-use Rattle.run_engine.specs.Cause.{Because, IsRun, IsDone, IsPartDone}
+use Rattle.run_engine.specs.Cause.{Because, IsCause, IsLeft, IsRun, IsDone, IsPartDone, MayFail}
 use Rattle.lasline_top.specs.Words.{Engine, Run_file}
 use Rattle.lasline_top.specs.Answer.{ran, stages_in, text_run}
-use Rattle.lasline_top.specs.Cause.{Risen, IsOfRun}
-use Rattle.lasline_top.specs.Ends.{WasRefused}
+use Rattle.lasline_top.specs.Cause.{IsOfRun, AtStages}
+use Rattle.lasline_top.specs.Ends.{WasRefused, WasStopped}
+use Rattle.lasline_top.proofs.Absent.{cause_risen}
 use Rattle.lasline_top.proofs.Printed.{part_ok, part_put, unprinted}
 
 -- ---- refusals of a run
@@ -30,16 +32,44 @@ because-more (of.Data i f) expected failed later more h = h
 because-more (of.Pipeline f) expected failed later more h = h
 because-more (of.Usage k) expected failed later more h = h
 
--- a device that is named failed, whatever the output did
-pub risen-more : (rose files out : Type 0) (r : Refusal) → (rose → files) → IsOfRun r → Risen rose ⊥ r → Risen files out r
-risen-more rose files out of.Memory more inside h = tt
-risen-more rose files out (of.Pipeline f) more inside h = tt
-risen-more rose files out (of.Data i f) more inside h = tt
-risen-more rose files out (of.Device (at.Stage i) o) more inside h = more h
-risen-more rose files out (of.Device at.PipelineFile o) more inside h = absurd inside
-risen-more rose files out (of.Device at.Generated o) more inside h = absurd inside
-risen-more rose files out (of.Device at.Out o) more inside h = absurd inside
-risen-more rose files out (of.Usage k) more inside h = absurd inside
+-- why the run of a text is refused, by the cause of the run of its stages
+module _ (rose : Type 0) (old new : Option Names) (text : List ℕ) (stages : List StageSpec) (is : stages_in text ≡ Ok stages) where
+  of-run : (r : Refusal) → IsCause rose old stages r → IsOfRun r
+  of-run of.Memory c = tt
+  of-run (of.Data i f) c = tt
+  of-run (of.Pipeline f) c = tt
+  of-run (of.Device (at.Stage i) o) c = tt
+  of-run (of.Device at.PipelineFile o) c = absurd c
+  of-run (of.Device at.Generated o) c = absurd c
+  of-run (of.Device at.Out o) c = absurd c
+  of-run (of.Usage k) c = absurd c
+
+  run-because : (r : Refusal) (m : Names) → old ≡ Some m → IsCause rose old stages r → Because (text_run m text) (AtStages rose ⊥ m (stages_in text) ⊥) r
+  run-because of.Memory m t c = tt
+  run-because (of.Data i f) m t c = ap (λ p. and_then p (run_of m)) is ∙ c m t
+  run-because (of.Pipeline f) m t c = ap (λ p. and_then p (run_of m)) is ∙ c m t
+  run-because (of.Device (at.Stage i) o) m t (inl a) =
+      let told : Some a.0 ≡ Some m = sym a.1 ∙ t in
+      let one : a.0 ≡ m = cc in
+      inl (ap (λ p. and_then p (run_of m)) is ∙ subst (λ n. run_of n stages ≡ Err (of.Device (at.Stage i) o)) one a.2)
+  run-because (of.Device (at.Stage i) o) m t (inr a) = inr (a.0, subst (λ p. IsOkAnd p (λ ss. MayFail m ss i o)) (sym is) (a.1 m t))
+  run-because (of.Device at.PipelineFile o) m t c = absurd c
+  run-because (of.Device at.Generated o) m t c = absurd c
+  run-because (of.Device at.Out o) m t c = absurd c
+  run-because (of.Usage k) m t c = absurd c
+
+  run-stopped : (r : Refusal) → IsCause rose old stages r → ((m : Names) → old ≡ Some m → IsLeft r old new (run_of m stages)) → WasStopped rose old new text r
+  run-stopped r c left = record {
+    of_run = of-run r c;
+    because = λ m t. run-because r m t c;
+    risen = cause_risen rose old stages r c;
+    left = λ m t. subst (λ p. IsLeft r old new (and_then p (run_of m))) (sym is) (left m t);
+  }
+
+  pub if-stopped : {T : Type 0} (result : Result T Refusal) → IfErr result (IsCause rose old stages) → IfErr result (λ r. (m : Names) → old ≡ Some m → IsLeft r old new (run_of m stages))
+      → IfErr result (WasStopped rose old new text)
+  if-stopped (Ok x) c left = tt
+  if-stopped (Err r) c left = run-stopped r c left
 
 -- ---- the run of a file
 

@@ -24,7 +24,8 @@ use Rattle.lasline_top.specs.Left.{IsTrialLeft}
 use Rattle.lasline_top.specs.Ends.{WasDone, WasRefused, WasStopped}
 use Rattle.lasline_top.proofs.Planned.{because-then}
 use Rattle.lasline_top.proofs.Printed.{ok-only, ok-more, unprinted}
-use Rattle.lasline_top.proofs.Ran.{because-more, risen-more}
+use Rattle.lasline_top.proofs.Absent.{risen_more, absent_behind}
+use Rattle.lasline_top.proofs.Ran.{because-more}
 
 -- ---- the map behind the file that was made
 
@@ -34,12 +35,6 @@ told-between : (count : ℕ) (old middle new : Option Names) (m : Names) → IsP
 told-between count old None new m put-in untold told end = absurd (let none = untold refl in let e = ap is_some (sym none) ∙ end in cc)
 told-between count old (Some n) new m put-in untold told end =
     sym (put-in n refl) ∙ ap (option_map (λ o. put o trial_name (generated_file count))) told
-
--- a map that tells nothing tells nothing then
-none-between : (count : ℕ) (old middle : Option Names) → IsPut old trial_name (generated_file count) middle → old ≡ None → middle ≡ None
-none-between count old None put-in none = refl
-none-between count old (Some n) put-in none =
-    absurd (let e : None ≡ Some n = ap (option_map (λ o. put o trial_name (generated_file count))) (sym none) ∙ put-in n refl in cc)
 
 -- ---- refusals
 
@@ -75,7 +70,7 @@ module _ (count : ℕ) (engine : Engine) (files out : Type 0) where
   trial-stopped rose text old middle new out0 out1 r quiet put-in is more untold text-stopped = record {
     because = λ m t. trial-because m r (because-more r (trial_run m count) (AtStages rose ⊥ (with_trial m count) (stages_in trial_text) ⊥) (AtTrial files out m count) (at-trial rose m more)
         (stopped.because (with_trial m count) (told-between count old middle new m put-in untold t.0 t.1)));
-    risen = λ none. risen-more rose files out r more stopped.of_run (stopped.risen (none-between count old middle put-in none));
+    risen = risen_more rose ⊥ files out middle old r more (λ never. absurd never) (absent_behind trial_name (generated_file count) old middle put-in) stopped.risen;
     out_risen = λ o e. absurd (subst IsOfRun e stopped.of_run);
     left = λ m t. let told = told-between count old middle new m put-in untold t.0 t.1 in
         run-left r old new m stopped.of_run (subst (λ o. IsLeft r o new (trial_run m count)) told (stopped.left (with_trial m count) told));

@@ -1,5 +1,5 @@
 -- Why a command was refused, and what is told of it.
-use Rattle.std.specs.Prelude.{◌≡◌, ◌⊎◌, ℕ, List, Option, Result, Ok, Err, IsOk, IsOkAnd, ⊤}
+use Rattle.std.specs.Prelude.{◌≡◌, ◌⊎◌, ℕ, List, Option, Some, None, Result, Ok, Err, IsOk, IsOkAnd, ⊤}
 use Rattle.file_devices.specs.Counts.{Rose}
 use Rattle.file_devices.specs.Content.{Appends, AppendsPart}
 use Rattle.file_devices.specs.declared.devices.Op.{Op}
@@ -40,14 +40,23 @@ IsOfRun refusal = IsOfText refusal
 abbrev pub Never : Place → Op → Type 0
 Never p o = ⊥
 
--- over files that tell nothing a device is named only where its count rose: that of the files, or that of the output
+-- the count of a device rose: that of the files, or that of the output
 abbrev pub RisenAt : Type 0 → Type 0 → Place → Type 0
 RisenAt files out at.Out = out
 RisenAt files out place = files
 
-abbrev pub Risen : Type 0 → Type 0 → Refusal → Type 0
-Risen files out (of.Device p o) = RisenAt files out p
-Risen files out refusal = ⊤
+-- the files told what names have, and one of these names had nothing
+abbrev pub IsAbsent : Option Names → Type 0
+IsAbsent map = (m : Names) × (name : List ℕ) × (map ≡ Some m) × (m name ≡ None)
+
+-- a device is named only where its count rose, or for a file that was to be opened and wasn't there
+abbrev pub HasFailed : Type 0 → Type 0 → Option Names → Place → Op → Type 0
+HasFailed files out map p op.Open = RisenAt files out p ⊎ IsAbsent map
+HasFailed files out map p o = RisenAt files out p
+
+abbrev pub Risen : Type 0 → Type 0 → Option Names → Refusal → Type 0
+Risen files out map (of.Device p o) = HasFailed files out map p o
+Risen files out map refusal = ⊤
 
 -- the pipeline's file failed
 abbrev pub AtText : Type 0 → Place → Op → Type 0

@@ -1,5 +1,5 @@
 -- How a command ends.
-use Rattle.std.specs.Prelude.{◌≡◌, ◌⊎◌, ℕ, List, Option, None, Result, IsOkAnd, Some}
+use Rattle.std.specs.Prelude.{◌≡◌, ◌⊎◌, ℕ, List, Option, Result, IsOkAnd, Some}
 use Rattle.file_devices.specs.Named.{Names}
 use Rattle.file_devices.specs.declared.devices.Op.{Op}
 use Rattle.file_devices.specs.declared.devices.Op.TheVariants as op
@@ -28,7 +28,7 @@ WasDone task old new out_before out = (m : Names) → AreTold task old new m →
 pub record WasRefused (task : Result Task Refusal) (files_rose out_rose : Type 0) (old new : Option Names) (out_before out : Option (List ℕ)) (refusal : Refusal) : Type 0 where
   -- for its own refusal, for want of memory, or for a device that failed
   pub because : (m : Names) → AreTold task old new m → Because (answered task m) (AtTask files_rose out_rose m task) refusal
-  pub risen : old ≡ None → Risen files_rose out_rose refusal
+  pub risen : Risen files_rose out_rose old refusal
   pub out_risen : (o : Op) → refusal ≡ of.Device at.Out o → (o ≡ op.Write) × out_rose
   -- and left this
   pub left : (m : Names) → AreTold task old new m → IsLeftBy task refusal old new m
@@ -46,6 +46,6 @@ pub record WasStopped (rose : Type 0) (old new : Option Names) (text : List ℕ)
   pub of_run : IsOfRun refusal
   -- for its own refusal, for want of memory, or for a stage's device that failed
   pub because : (m : Names) → old ≡ Some m → Because (text_run m text) (AtStages rose ⊥ m (stages_in text) ⊥) refusal
-  pub risen : old ≡ None → Risen rose ⊥ refusal
+  pub risen : Risen rose ⊥ old refusal
   -- and left this
   pub left : (m : Names) → old ≡ Some m → IsLeft refusal old new (text_run m text)

@@ -1,6 +1,6 @@
 //! The file of a pipeline, and its stages.
 
-ghost use Rattle.std.specs.Prelude.{◌≡◌, ◌+◌, Some, None, Ok, IfOk, IfErr};
+ghost use Rattle.std.specs.Prelude.{◌≡◌, ◌+◌, Some, Ok, IfOk, IfErr};
 ghost use Rattle.file_devices.specs.Counts.{Rose};
 ghost use Rattle.file_devices.specs.Named.{Names};
 ghost use Rattle.answer_model.specs.Runs.{file_at};
@@ -31,7 +31,7 @@ pub(crate) fn read_text<F: Files>(
     ensures err { IfErr result (λ refusal. (m : Names) → F.map files.old ≡ Some m
         → Because (plan_in m name.now) (AtText (Rose (F.faults files.old) (F.faults files.new))) refusal) }
     ensures of_plan { IfErr result IsOfPlan }
-    ensures risen { IfErr result (λ refusal. F.map files.old ≡ None → Risen (Rose (F.faults files.old) (F.faults files.new)) ⊥ refusal) }
+    ensures risen { IfErr result (Risen (Rose (F.faults files.old) (F.faults files.new)) ⊥ (F.map files.old)) }
     ensures settled { IsSettled (F.map files.old) (F.map files.new) (F.lent files.old) (F.lent files.new)
         (F.faults files.old) (F.faults files.new) }
     ensures opened { ReadAtMost (MOST_BYTES + 1) (F.read_to files.old) (F.read_to files.new) }
@@ -83,7 +83,7 @@ pub(crate) fn read_plan<F: Files>(alloc: Global, files: &mut F, name: &str) -> R
     ensures err { IfErr result (λ refusal. (m : Names) → F.map files.old ≡ Some m
         → Because (plan_in m name.now) (AtText (Rose (F.faults files.old) (F.faults files.new))) refusal) }
     ensures of_plan { IfErr result IsOfPlan }
-    ensures risen { IfErr result (λ refusal. F.map files.old ≡ None → Risen (Rose (F.faults files.old) (F.faults files.new)) ⊥ refusal) }
+    ensures risen { IfErr result (Risen (Rose (F.faults files.old) (F.faults files.new)) ⊥ (F.map files.old)) }
     ensures settled { IsSettled (F.map files.old) (F.map files.new) (F.lent files.old) (F.lent files.new)
         (F.faults files.old) (F.faults files.new) }
     ensures opened { ReadAtMost (MOST_BYTES + 1) (F.read_to files.old) (F.read_to files.new) }

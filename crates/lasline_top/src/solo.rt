@@ -14,7 +14,7 @@ ghost use Rattle.run_engine.specs.Cause.{IsPartDone, WerePut};
 ghost use Rattle.lasline_top.specs.Words.{Print, task_of};
 ghost use Rattle.lasline_top.specs.Answer.{answer, status_of};
 ghost use Rattle.lasline_top.specs.Refusals.{status_for};
-ghost use Rattle.lasline_top.specs.Cause.{RisenAt, ToldWhy, AtTask};
+ghost use Rattle.lasline_top.specs.Cause.{HasFailed, ToldWhy, AtTask};
 ghost use Rattle.lasline_top.specs.Left.{AreTold, IsLeftBy};
 ghost use Rattle.lasline_top.specs.Ends.{WasDone, WasRefused};
 ghost use Rattle.lasline_top.specs.Reading.{IsReadBy};
@@ -115,8 +115,8 @@ pub fn lasline_solo<F: Files, K: Sink, E: Sink>(
     ensures device { (p : Place) (o : Op) → result ≡ Status.Device p o → (m : Names) → AreTold (task_of (map string_bytes words.now)) (F.map files.old) (F.map files.new) m
         → (answer (map string_bytes words.now) m ≡ Err (Refusal.Device p o))
         ⊎ AtTask (Rose (F.faults files.old) (F.faults files.new)) (Rose (K.faults out.old) (K.faults out.new)) m (task_of (map string_bytes words.now)) p o }
-    ensures risen { (p : Place) (o : Op) → result ≡ Status.Device p o → F.map files.old ≡ None
-        → RisenAt (Rose (F.faults files.old) (F.faults files.new)) (Rose (K.faults out.old) (K.faults out.new)) p }
+    ensures risen { (p : Place) (o : Op) → result ≡ Status.Device p o
+        → HasFailed (Rose (F.faults files.old) (F.faults files.new)) (Rose (K.faults out.old) (K.faults out.new)) (F.map files.old) p o }
     ensures out_risen { (o : Op) → result ≡ Status.Device Place.Out o → (o ≡ Op.Write) × Rose (K.faults out.old) (K.faults out.new) }
 
     // Where no device fails, the answer is the one that is defined, or want of memory.
