@@ -6,3 +6,4 @@ pub mod Made
 pub mod Tried
 pub mod Failing
 pub mod Statuses
+pub mod Called

@@ -9,3 +9,4 @@ pub mod Left
 pub mod Reading
 pub mod Ends
 pub mod Codes
+pub mod Calls

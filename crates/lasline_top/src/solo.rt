@@ -1,23 +1,16 @@
 //! The top call.
 
-ghost use Rattle.std.specs.Prelude.{◌≡◌, ◌≤◌, ◌⊎◌, ℕ, List, map, None, Ok, Err, IsOkAnd, IfErr, OnOk, OnErr, string_bytes};
+ghost use Rattle.std.specs.Prelude.{◌≡◌, ◌≤◌, ℕ, List, map, Ok, Err, IfErr, OnOk, OnErr, string_bytes};
 ghost use Rattle.file_devices.specs.Counts.{Rose};
 ghost use Rattle.file_devices.specs.Content.{Appends, AppendsPart};
-ghost use Rattle.file_devices.specs.Named.{Names};
-ghost use Rattle.file_devices.specs.declared.devices.Op.{Op};
-ghost use Rattle.stage_names.specs.declared.faults.PipeFault.{PipeFault};
-ghost use Rattle.run_report.specs.declared.refusal.Fault.{Fault};
-ghost use Rattle.run_report.specs.declared.refusal.Place.{Place};
 ghost use Rattle.run_report.specs.declared.refusal.Refusal.{Refusal};
 ghost use Rattle.run_report.specs.Faults.{fault_line};
-ghost use Rattle.run_engine.specs.Cause.{IsPartDone, WerePut};
 ghost use Rattle.lasline_top.specs.Words.{Print, task_of};
-ghost use Rattle.lasline_top.specs.Answer.{answer, status_of};
 ghost use Rattle.lasline_top.specs.Refusals.{status_for};
-ghost use Rattle.lasline_top.specs.Cause.{HasFailed, ToldWhy, AtTask};
-ghost use Rattle.lasline_top.specs.Left.{AreTold, IsLeftBy};
+ghost use Rattle.lasline_top.specs.Cause.{ToldWhy};
 ghost use Rattle.lasline_top.specs.Ends.{WasDone, WasRefused};
 ghost use Rattle.lasline_top.specs.Reading.{IsReadBy};
+ghost use Rattle.lasline_top.specs.Calls.{HasAnswered};
 
 use crate::generating::make_file;
 use crate::planning::plan_file;
@@ -95,52 +88,28 @@ pub fn lasline_solo<F: Files, K: Sink, E: Sink>(
     out: &mut K,
     err: &mut E,
 ) -> Status
-    // An Ok run has kept exactly the files that are defined, and printed the report.
-    ensures kept { result ≡ Status.Ok → (m : Names) → AreTold (task_of (map string_bytes words.now)) (F.map files.old) (F.map files.new) m
-        → IsOkAnd (answer (map string_bytes words.now) m) (λ run. WerePut (F.map files.old) run.outputs (F.map files.new)) }
-    ensures report { result ≡ Status.Ok → (m : Names) → AreTold (task_of (map string_bytes words.now)) (F.map files.old) (F.map files.new) m
-        → IsOkAnd (answer (map string_bytes words.now) m) (λ run. Appends (K.bytes out.old) run.report (K.bytes out.new)) }
-
-    // A page is printed whatever the files tell, or a part of it where printing failed.
-    ensures page { result ≡ Status.Ok → (text : List ℕ) → task_of (map string_bytes words.now) ≡ Ok (Print text) → Appends (K.bytes out.old) text (K.bytes out.new) }
-    ensures page_part { (result ≡ Status.Ok → ⊥) → (text : List ℕ) → task_of (map string_bytes words.now) ≡ Ok (Print text) → AppendsPart (K.bytes out.old) text (K.bytes out.new) }
-
-    // Each other answer has its cause.
-    ensures pipeline { (f : PipeFault) → result ≡ Status.Pipeline f → (m : Names) → AreTold (task_of (map string_bytes words.now)) (F.map files.old) (F.map files.new) m
-        → answer (map string_bytes words.now) m ≡ Err (Refusal.Pipeline f) }
-    ensures data { (i : ℕ) (f : Fault) → result ≡ Status.Data i f → (m : Names) → AreTold (task_of (map string_bytes words.now)) (F.map files.old) (F.map files.new) m
-        → answer (map string_bytes words.now) m ≡ Err (Refusal.Data i f) }
-    ensures usage { (k : ℕ) → result ≡ Status.Usage k → task_of (map string_bytes words.now) ≡ Err (Refusal.Usage k) }
-    ensures words_first { (refusal : Refusal) → task_of (map string_bytes words.now) ≡ Err refusal → result ≡ status_for refusal }
-    ensures device { (p : Place) (o : Op) → result ≡ Status.Device p o → (m : Names) → AreTold (task_of (map string_bytes words.now)) (F.map files.old) (F.map files.new) m
-        → (answer (map string_bytes words.now) m ≡ Err (Refusal.Device p o))
-        ⊎ AtTask (Rose (F.faults files.old) (F.faults files.new)) (Rose (K.faults out.old) (K.faults out.new)) m (task_of (map string_bytes words.now)) p o }
-    ensures risen { (p : Place) (o : Op) → result ≡ Status.Device p o
-        → HasFailed (Rose (F.faults files.old) (F.faults files.new)) (Rose (K.faults out.old) (K.faults out.new)) (F.map files.old) p o }
-    ensures out_risen { (o : Op) → result ≡ Status.Device Place.Out o → (o ≡ Op.Write) × Rose (K.faults out.old) (K.faults out.new) }
-
-    // Where no device fails, the answer is the one that is defined, or want of memory.
-    ensures complete { (m : Names) → AreTold (task_of (map string_bytes words.now)) (F.map files.old) (F.map files.new) m → (Rose (F.faults files.old) (F.faults files.new) → ⊥)
-        → (Rose (K.faults out.old) (K.faults out.new) → ⊥)
-        → (result ≡ status_of (answer (map string_bytes words.now) m)) ⊎ (result ≡ Status.Memory) }
-
-    // After a refusal the files are as before, but for the first outputs where one couldn't be kept, for all where only the report
-    // couldn't be printed, and for the file that a trial made.
-    ensures refused { (refusal : Refusal) → result ≡ status_for refusal → (m : Names) → AreTold (task_of (map string_bytes words.now)) (F.map files.old) (F.map files.new) m
-        → IsLeftBy (task_of (map string_bytes words.now)) refusal (F.map files.old) (F.map files.new) m }
-    ensures quiet { (result ≡ Status.Ok → ⊥) → (K.bytes out.new ≡ K.bytes out.old) ⊎ ((result ≡ Status.Device Place.Out Op.Write)
-        × ((m : Names) → AreTold (task_of (map string_bytes words.now)) (F.map files.old) (F.map files.new) m
-        → IsOkAnd (answer (map string_bytes words.now) m) (IsPartDone (F.map files.old) (F.map files.new) (K.bytes out.old) (K.bytes out.new)))) }
-
-    // The line that says why goes to `err`, and nothing goes there on Ok.
-    ensures silent { result ≡ Status.Ok → E.bytes err.new ≡ E.bytes err.old }
-    ensures told_why { (refusal : Refusal) → result ≡ status_for refusal
-        → ToldWhy (E.bytes err.old) (E.bytes err.new) (E.faults err.old) (E.faults err.new) (fault_line refusal) }
-
-    // Every object that was handed out is given back, and no count falls.
-    ensures lent { F.lent files.new ≡ F.lent files.old }
-    ensures later { F.faults files.old ≤ F.faults files.new }
-    ensures opened { IsReadBy (task_of (map string_bytes words.now)) (F.read_to files.old) (F.read_to files.new) }
+    ensures answered { HasAnswered (map string_bytes words.now)
+        (record {
+          map = F.map files.old;
+          faults = F.faults files.old;
+          read_to = F.read_to files.old;
+          lent = F.lent files.old;
+          out = K.bytes out.old;
+          out_faults = K.faults out.old;
+          err = E.bytes err.old;
+          err_faults = E.faults err.old;
+        })
+        (record {
+          map = F.map files.new;
+          faults = F.faults files.new;
+          read_to = F.read_to files.new;
+          lent = F.lent files.new;
+          out = K.bytes out.new;
+          out_faults = K.faults out.new;
+          err = E.bytes err.new;
+          err_faults = E.faults err.new;
+        })
+        result }
 {
     match run_command(alloc, words, files, out) {
         Ok(()) => Status::Ok,

@@ -1,21 +1,16 @@
-use Rattle.std.proofs.Common.{map, string_bytes}
-use Rattle.lasline_top.specs.Answer.{answer}
-use Rattle.lasline_top.proofs.Printed.{done_put, done_report}
-use Rattle.lasline_top.proofs.Failing.{answer_or_memory}
-use Rattle.lasline_top.proofs.Statuses.{status_tells}
+use Rattle.std.proofs.Common.{Err, refl, ap}
+use Rattle.lasline_top.proofs.Called.{done_answered, refused_answered}
 use Rattle.lasline_top.proofs.solo.lasline_solo.Goals as goal
 
-pub returns-in-Ok-clause-kept : goal.returns-in-Ok-clause-kept
-returns-in-Ok-clause-kept g c = λ _ m e. done_put (answer (map string_bytes c.args.words.now) m) _ _ _ _ (c.in-Ok.ensures.ok m e)
+pub returns-in-Ok : goal.returns-in-Ok
+returns-in-Ok g c = record {
+  answered = done_answered _ _ _ c.in-Ok.ensures.lent c.in-Ok.ensures.later c.in-Ok.ensures.opened
+      c.in-Ok.ensures.ok c.in-Ok.ensures.page (λ r e. let wrong = c.in-Ok.ensures.words_first r e in cc) refl;
+}
 
-pub returns-in-Ok-clause-report : goal.returns-in-Ok-clause-report
-returns-in-Ok-clause-report g c = λ _ m e. done_report (answer (map string_bytes c.args.words.now) m) _ _ _ _ (c.in-Ok.ensures.ok m e)
-
-pub returns-in-Err-clause-complete : goal.returns-in-Err-clause-complete
-returns-in-Err-clause-complete g c = λ m e no_files no_output.
-    answer_or_memory (answer (map string_bytes c.args.words.now) m) _ _ m _ c.in-Err.refusal c.refused.result c.refused.ensures.status no_files no_output (c.in-Err.ensures.err.because m e)
-
-pub returns-in-Err-clause-told_why : goal.returns-in-Err-clause-told_why
-returns-in-Err-clause-told_why g c = λ refusal is.
-    let same = status_tells c.refused.result c.in-Err.refusal refusal c.refused.ensures.status is in
-    rw (← same) c.refused.ensures.line
+pub returns-in-Err : goal.returns-in-Err
+returns-in-Err g c = record {
+  answered = refused_answered _ _ _ c.in-Err.ensures.lent c.in-Err.ensures.later c.in-Err.ensures.opened
+      c.in-Err.refusal c.refused.result c.refused.ensures.status c.in-Err.ensures.err c.in-Err.ensures.page_part
+      (λ r e. let is = c.in-Err.ensures.words_first r e in cc) (λ k e. c.in-Err.ensures.of_words k (ap (λ r. Err r) e)) c.refused.ensures.line;
+}

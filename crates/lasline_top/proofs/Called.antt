@@ -1,0 +1,95 @@
+-- What the end of a command says of the call.
+use Rattle.std.proofs.Common.{◌≡◌, ◌≤◌, ℕ, List, Result, Ok, Err, IsOkAnd, refl, ap, subst, sym, ◌∙◌, inl, inr}
+use Rattle.file_devices.specs.Content.{Appends, AppendsPart}
+use Rattle.run_report.specs.declared.refusal.Place.TheVariants as at
+use Rattle.run_report.specs.declared.refusal.Refusal.{Refusal}
+use Rattle.run_report.specs.declared.refusal.Refusal.TheVariants as of
+use Rattle.run_report.specs.Faults.{fault_line}
+use Rattle.answer_model.specs.Runs.{Run}
+use Rattle.run_engine.specs.Cause.{Because, IsDone}
+use Rattle.lasline_top.specs.declared.status.Status.{Status}
+use Rattle.lasline_top.specs.declared.status.Status.TheVariants as ends
+use Rattle.lasline_top.specs.Words.{Print, task_of}
+use Rattle.lasline_top.specs.Answer.{answer, status_of}
+use Rattle.lasline_top.specs.Calls.{Seen, FilesRose, OutRose, HasAnswered}
+use Rattle.lasline_top.specs.Cause.{AtTask, Risen, ToldWhy}
+use Rattle.lasline_top.specs.Ends.{WasDone, WasRefused}
+use Rattle.lasline_top.specs.Left.{IsLeftBy}
+use Rattle.lasline_top.specs.Reading.{IsReadBy}
+use Rattle.lasline_top.specs.Refusals.{status_for}
+use Rattle.lasline_top.proofs.Failing.{answer_or_memory}
+use Rattle.lasline_top.proofs.Printed.{done_put, done_report}
+use Rattle.lasline_top.proofs.Statuses.{status_tells}
+
+-- a refusal's status isn't Ok
+never-ok : (r : Refusal) → ends.Ok ≡ status_for r → ⊥
+never-ok of.Memory e = cc
+never-ok (of.Usage k) e = cc
+never-ok (of.Pipeline f) e = cc
+never-ok (of.Data i f) e = cc
+never-ok (of.Device p o) e = cc
+
+-- a right answer's status is Ok
+ok-status : (r : Result Run Refusal) (P : Run → Type 0) → IsOkAnd r P → ends.Ok ≡ status_of r
+ok-status (Ok run) P h = refl
+ok-status (Err refusal) P h = absurd h
+
+module _ (words : List (List ℕ)) (before after : Seen) (lent : after.lent ≡ before.lent) (later : before.faults ≤ after.faults) (opened : IsReadBy (task_of words) before.read_to after.read_to) where
+  -- the command was done
+  pub done_answered : WasDone (task_of words) before.map after.map before.out after.out → ((text : List ℕ) → task_of words ≡ Ok (Print text) → Appends before.out text after.out)
+      → ((r : Refusal) → task_of words ≡ Err r → ⊥) → after.err ≡ before.err → HasAnswered words before after ends.Ok
+  done_answered done page right silent = record {
+    kept = λ _ m t. done_put (answer words m) before.map after.map before.out after.out (done m t);
+    report = λ _ m t. done_report (answer words m) before.map after.map before.out after.out (done m t);
+    page = λ _. page;
+    page_part = λ other. absurd (other refl);
+    pipeline = λ f e. absurd (cc);
+    «data» = λ i f e. absurd (cc);
+    usage = λ k e. absurd (cc);
+    words_first = λ r e. absurd (right r e);
+    device = λ p o e. absurd (cc);
+    risen = λ p o e. absurd (cc);
+    out_risen = λ o e. absurd (cc);
+    complete = λ m t _ _. inl (ok-status (answer words m) (IsDone before.map after.map before.out after.out) (done m t));
+    refused = λ r e. absurd (never-ok r e);
+    quiet = λ other. absurd (other refl);
+    silent = λ _. silent;
+    told_why = λ r e. absurd (never-ok r e);
+    lent = lent;
+    later = later;
+    opened = opened;
+  }
+
+  -- it was refused
+  pub refused_answered : (refusal : Refusal) (status : Status) → status ≡ status_for refusal
+      → WasRefused (task_of words) (FilesRose before after) (OutRose before after) before.map after.map before.out after.out refusal
+      → ((text : List ℕ) → task_of words ≡ Ok (Print text) → AppendsPart before.out text after.out) → ((r : Refusal) → task_of words ≡ Err r → refusal ≡ r)
+      → ((k : ℕ) → refusal ≡ of.Usage k → task_of words ≡ Err (of.Usage k)) → ToldWhy before.err after.err before.err_faults after.err_faults (fault_line refusal)
+      → HasAnswered words before after status
+  refused_answered refusal status is was part words_first of_words told = record {
+    kept = λ e. absurd (not_ok e);
+    report = λ e. absurd (not_ok e);
+    page = λ e. absurd (not_ok e);
+    page_part = λ _. part;
+    pipeline = λ f e m t. subst (Because (answer words m) (AtTask (FilesRose before after) (OutRose before after) m (task_of words))) (same (of.Pipeline f) e) (was.because m t);
+    «data» = λ i f e m t. subst (Because (answer words m) (AtTask (FilesRose before after) (OutRose before after) m (task_of words))) (same (of.Data i f) e) (was.because m t);
+    usage = λ k e. of_words k (same (of.Usage k) e);
+    words_first = λ r e. is ∙ ap status_for (words_first r e);
+    device = λ p o e m t. subst (Because (answer words m) (AtTask (FilesRose before after) (OutRose before after) m (task_of words))) (same (of.Device p o) e) (was.because m t);
+    risen = λ p o e. subst (Risen (FilesRose before after) (OutRose before after) before.map) (same (of.Device p o) e) was.risen;
+    out_risen = λ o e. was.out_risen o (same (of.Device at.Out o) e);
+    complete = λ m t no_files no_output. answer_or_memory (answer words m) (FilesRose before after) (OutRose before after) m (task_of words) refusal status is no_files no_output (was.because m t);
+    refused = λ r e m t. subst (λ x. IsLeftBy (task_of words) x before.map after.map m) (same r e) (was.left m t);
+    quiet = λ _. elim was.quiet [ inl e ↦ inl e | inr p ↦ inr (is ∙ ap status_for p.0, p.1) ];
+    silent = λ e. absurd (not_ok e);
+    told_why = λ r e. subst (λ x. ToldWhy before.err after.err before.err_faults after.err_faults (fault_line x)) (same r e) told;
+    lent = lent;
+    later = later;
+    opened = opened;
+  }
+    where
+      not_ok : status ≡ ends.Ok → ⊥
+      not_ok e = never-ok refusal (sym e ∙ is)
+
+      same : (r : Refusal) → status ≡ status_for r → refusal ≡ r
+      same r e = status_tells status refusal r is e

@@ -1,0 +1,96 @@
+-- What an answer of the top call says.
+use Rattle.std.specs.Prelude.{◌≡◌, ◌≤◌, ◌⊎◌, ℕ, List, Option, Ok, Err, IsOkAnd}
+use Rattle.file_devices.specs.Counts.{Rose}
+use Rattle.file_devices.specs.Content.{Appends, AppendsPart}
+use Rattle.file_devices.specs.Named.{Names}
+use Rattle.file_devices.specs.declared.devices.Op.{Op}
+use Rattle.file_devices.specs.declared.devices.Op.TheVariants as op
+use Rattle.stage_names.specs.declared.faults.PipeFault.{PipeFault}
+use Rattle.run_report.specs.declared.refusal.Fault.{Fault}
+use Rattle.run_report.specs.declared.refusal.Place.{Place}
+use Rattle.run_report.specs.declared.refusal.Place.TheVariants as at
+use Rattle.run_report.specs.declared.refusal.Refusal.{Refusal}
+use Rattle.run_report.specs.declared.refusal.Refusal.TheVariants as of
+use Rattle.run_report.specs.Faults.{fault_line}
+use Rattle.run_engine.specs.Cause.{IsPartDone, WerePut}
+use Rattle.lasline_top.specs.declared.status.Status.{Status}
+use Rattle.lasline_top.specs.declared.status.Status.TheVariants as ends
+use Rattle.lasline_top.specs.Words.{Print, task_of}
+use Rattle.lasline_top.specs.Answer.{answer, status_of}
+use Rattle.lasline_top.specs.Cause.{AtTask, HasFailed, ToldWhy}
+use Rattle.lasline_top.specs.Codes.{code_of}
+use Rattle.lasline_top.specs.Left.{AreTold, IsLeftBy}
+use Rattle.lasline_top.specs.Reading.{IsReadBy}
+use Rattle.lasline_top.specs.Refusals.{status_for}
+
+-- what can be seen at one time: of the files what names have, how often they failed, how far they were read and how many objects
+-- are handed out; of the output and of the errors their bytes and how often they failed
+pub record Seen : Type 0 where
+  pub map : Option Names
+  pub faults : ℕ
+  pub read_to : Option ℕ
+  pub lent : ℕ
+  pub out : Option (List ℕ)
+  pub out_faults : ℕ
+  pub err : Option (List ℕ)
+  pub err_faults : ℕ
+
+-- the count of the files' faults rose
+abbrev pub FilesRose : Seen → Seen → Type 0
+FilesRose before after = Rose before.faults after.faults
+
+-- that of the output rose
+abbrev pub OutRose : Seen → Seen → Type 0
+OutRose before after = Rose before.out_faults after.out_faults
+
+-- the files told this map, as long as the command of these words needs it
+abbrev pub Told : List (List ℕ) → Seen → Seen → Names → Type 0
+Told words before after m = AreTold (task_of words) before.map after.map m
+
+-- a call with these words, over what was seen before, has answered this and left what is seen after it
+pub record HasAnswered (words : List (List ℕ)) (before after : Seen) (status : Status) : Type 0 where
+  -- an Ok run has kept exactly the files that are defined, and printed the report
+  pub kept : status ≡ ends.Ok → (m : Names) → Told words before after m
+      → IsOkAnd (answer words m) (λ run. WerePut before.map run.outputs after.map)
+  pub report : status ≡ ends.Ok → (m : Names) → Told words before after m
+      → IsOkAnd (answer words m) (λ run. Appends before.out run.report after.out)
+  -- a page is printed whatever the files tell, or a part of it where printing failed
+  pub page : status ≡ ends.Ok → (text : List ℕ) → task_of words ≡ Ok (Print text) → Appends before.out text after.out
+  pub page_part : (status ≡ ends.Ok → ⊥) → (text : List ℕ) → task_of words ≡ Ok (Print text)
+      → AppendsPart before.out text after.out
+  -- each other answer has its cause: the pipeline has that fault, the files hold it, or the words are no command
+  pub pipeline : (f : PipeFault) → status ≡ ends.Pipeline f → (m : Names) → Told words before after m
+      → answer words m ≡ Err (of.Pipeline f)
+  pub «data» : (i : ℕ) (f : Fault) → status ≡ ends.Data i f → (m : Names) → Told words before after m
+      → answer words m ≡ Err (of.Data i f)
+  pub usage : (k : ℕ) → status ≡ ends.Usage k → task_of words ≡ Err (of.Usage k)
+  pub words_first : (refusal : Refusal) → task_of words ≡ Err refusal → status ≡ status_for refusal
+  -- or a device failed, once the command had come that far: its count rose, or a file to read isn't there
+  pub device : (p : Place) (o : Op) → status ≡ ends.Device p o → (m : Names) → Told words before after m
+      → (answer words m ≡ Err (of.Device p o)) ⊎ AtTask (FilesRose before after) (OutRose before after) m (task_of words) p o
+  pub risen : (p : Place) (o : Op) → status ≡ ends.Device p o
+      → HasFailed (FilesRose before after) (OutRose before after) before.map p o
+  pub out_risen : (o : Op) → status ≡ ends.Device at.Out o → (o ≡ op.Write) × OutRose before after
+  -- where no device fails, the answer is the one that is defined, or want of memory
+  pub complete : (m : Names) → Told words before after m → (FilesRose before after → ⊥) → (OutRose before after → ⊥)
+      → (status ≡ status_of (answer words m)) ⊎ (status ≡ ends.Memory)
+  -- after a refusal the files are as before, but for the first outputs where one couldn't be kept, for all where only the report
+  -- couldn't be printed, and for the file that a trial made
+  pub refused : (refusal : Refusal) → status ≡ status_for refusal → (m : Names) → Told words before after m
+      → IsLeftBy (task_of words) refusal before.map after.map m
+  -- and nothing was printed, or where only the output failed a part of what there was to print
+  pub quiet : (status ≡ ends.Ok → ⊥) → (after.out ≡ before.out) ⊎ ((status ≡ ends.Device at.Out op.Write)
+      × ((m : Names) → Told words before after m → IsOkAnd (answer words m) (IsPartDone before.map after.map before.out after.out)))
+  -- the line that says why goes to the errors, and nothing goes there on Ok
+  pub silent : status ≡ ends.Ok → after.err ≡ before.err
+  pub told_why : (refusal : Refusal) → status ≡ status_for refusal
+      → ToldWhy before.err after.err before.err_faults after.err_faults (fault_line refusal)
+  -- every object that was handed out is given back, and no count falls
+  pub lent : after.lent ≡ before.lent
+  pub later : before.faults ≤ after.faults
+  -- a plan reads no more than the pipeline's file may have, and one byte; a page reads nothing
+  pub opened : IsReadBy (task_of words) before.read_to after.read_to
+
+-- it has answered some status, and this is the code of that
+abbrev pub HasExited : List (List ℕ) → Seen → Seen → ℕ → Type 0
+HasExited words before after code = (status : Status) × (code ≡ code_of status) × HasAnswered words before after status
