@@ -1,7 +1,7 @@
 //! The program: its words, the files of the system, and its output.
 #![tactic(auto)]
 
-use lasline_top::{Refusal, lasline_solo, refused};
+use lasline_top::run_program;
 use real_files::{RealFiles, RealStream, words};
 use std::process::ExitCode;
 
@@ -10,9 +10,5 @@ fn main(rt: HostRuntime) -> ExitCode {
     let mut files = RealFiles::new(&rt, alloc);
     let mut out = RealStream::new(rt.stdout());
     let mut err = RealStream::new(rt.stderr());
-    let status = match words(&rt) {
-        Ok(words) => lasline_solo(alloc, &words, &mut files, &mut out, &mut err),
-        Err(_) => refused(Refusal::Memory, &mut err),
-    };
-    ExitCode::from(status.code())
+    ExitCode::from(run_program(alloc, words(&rt), &mut files, &mut out, &mut err))
 }

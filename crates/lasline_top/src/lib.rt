@@ -7,12 +7,14 @@ mod pages;
 mod pipeline_file;
 mod planning;
 mod printing;
+mod program;
 mod running;
 mod solo;
 mod status;
 mod texts;
 mod words;
 
+pub use program::run_program;
 pub use run_report::{Fault, Place, Refusal, StageCount, fault_text, report_text};
 pub use solo::{lasline_solo, refused};
 pub use status::Status;

@@ -1,0 +1,58 @@
+//! The program, over any files and streams.
+
+ghost use Rattle.std.specs.Prelude.{◌≡◌, map, IfOk, OnErr, string_bytes};
+ghost use Rattle.run_report.specs.declared.refusal.Refusal.{Refusal};
+ghost use Rattle.run_report.specs.Faults.{fault_line};
+ghost use Rattle.lasline_top.specs.declared.status.Status.{Status};
+ghost use Rattle.lasline_top.specs.Calls.{HasExited};
+ghost use Rattle.lasline_top.specs.Cause.{ToldWhy};
+ghost use Rattle.lasline_top.specs.Codes.{code_of};
+
+use crate::solo::{lasline_solo, refused};
+use crate::status::Status;
+use file_devices::{Files, Sink};
+use run_report::Refusal;
+use std::alloc::{AllocError, Global};
+
+/// Does the command of the words, and answers the exit code of its status: 0 where all was done, else 1 to 5.
+///
+/// Where there was no memory for the words themselves nothing is done, and it is refused for that.
+pub fn run_program<F: Files, K: Sink, E: Sink>(
+    alloc: Global,
+    words: Result<Vec<String>, AllocError>,
+    files: &mut F,
+    out: &mut K,
+    err: &mut E,
+) -> u8
+    ensures exited { IfOk words (λ words. HasExited (map string_bytes words.items)
+        (record {
+          map = F.map files.old;
+          faults = F.faults files.old;
+          read_to = F.read_to files.old;
+          lent = F.lent files.old;
+          out = K.bytes out.old;
+          out_faults = K.faults out.old;
+          err = E.bytes err.old;
+          err_faults = E.faults err.old;
+        })
+        (record {
+          map = F.map files.new;
+          faults = F.faults files.new;
+          read_to = F.read_to files.new;
+          lent = F.lent files.new;
+          out = K.bytes out.new;
+          out_faults = K.faults out.new;
+          err = E.bytes err.new;
+          err_faults = E.faults err.new;
+        })
+        result) }
+    ensures code { OnErr words (result ≡ code_of Status.Memory) }
+    ensures told_why { OnErr words (ToldWhy (E.bytes err.old) (E.bytes err.new) (E.faults err.old) (E.faults err.new)
+        (fault_line Refusal.Memory)) }
+    ensures idle { OnErr words ((files.new ≡ files.old) × (out.new ≡ out.old)) }
+{
+    match words {
+        Ok(words) => lasline_solo(alloc, &words, files, out, err).code(),
+        Err(_) => refused(Refusal::Memory, err).code(),
+    }
+}
