@@ -18,7 +18,7 @@ use Rattle.answer_model.specs.Steps.{why}
 use Rattle.answer_model.specs.Values.{LasFile, Ended, evaluated, least_from, role_at, unbound_at}
 use Rattle.answer_model.specs.Runs.{las_at, las_file_of, las_read, opened_in, run_of, run_over, run_with, unless_unbound, unless_unread, unread, unread_at}
 use Rattle.answer_model.proofs.Least.{found}
-use Rattle.run_engine.specs.Cause.{IsCause}
+use Rattle.run_outcome.specs.Cause.{IsCause}
 use Rattle.lasline_top.specs.Cause.{HasFailed, IsAbsent, Risen, RisenAt}
 
 -- ---- counts

@@ -6,7 +6,7 @@ use Rattle.run_report.specs.declared.refusal.Refusal.{Refusal}
 use Rattle.run_report.specs.declared.refusal.Refusal.TheVariants as of
 use Rattle.run_report.specs.Faults.{fault_line}
 use Rattle.answer_model.specs.Runs.{Run}
-use Rattle.run_engine.specs.Cause.{Because, IsDone}
+use Rattle.run_outcome.specs.Cause.{Because, IsDone}
 use Rattle.lasline_top.specs.declared.status.Status.{Status}
 use Rattle.lasline_top.specs.declared.status.Status.TheVariants as ends
 use Rattle.lasline_top.specs.Words.{Print, task_of}

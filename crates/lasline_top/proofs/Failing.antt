@@ -8,7 +8,7 @@ use Rattle.run_report.specs.declared.refusal.Place.TheVariants.{PipelineFile, Ge
 use Rattle.run_report.specs.declared.refusal.Refusal.{Refusal}
 use Rattle.run_report.specs.declared.refusal.Refusal.TheVariants.{Usage, Pipeline, Data, Device, Memory}
 use Rattle.answer_model.specs.Runs.{Run}
-use Rattle.run_engine.specs.Cause.{Because}
+use Rattle.run_outcome.specs.Cause.{Because}
 use Rattle.lasline_top.specs.declared.status.Status.{Status}
 use Rattle.lasline_top.specs.declared.status.Status.TheVariants as status
 use Rattle.lasline_top.specs.Refusals.{status_for}

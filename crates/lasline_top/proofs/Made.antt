@@ -7,7 +7,7 @@ use Rattle.cloud_gen.specs.GeneratedFile.{generated_file, IsPut}
 use Rattle.run_report.specs.declared.refusal.Place.TheVariants as at
 use Rattle.run_report.specs.declared.refusal.Refusal.{Refusal}
 use Rattle.run_report.specs.declared.refusal.Refusal.TheVariants as of
-use Rattle.run_engine.specs.Cause.{WerePut}
+use Rattle.run_outcome.specs.Cause.{WerePut}
 use Rattle.lasline_top.specs.Texts.{generated_line}
 use Rattle.lasline_top.specs.Words.{Make_file}
 use Rattle.lasline_top.specs.Ends.{WasRefused}

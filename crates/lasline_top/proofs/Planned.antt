@@ -10,7 +10,7 @@ use Rattle.run_report.specs.declared.refusal.Place.TheVariants as at
 use Rattle.run_report.specs.declared.refusal.Refusal.{Refusal}
 use Rattle.run_report.specs.declared.refusal.Refusal.TheVariants as of
 use Rattle.answer_model.specs.Steps.{and_then}
-use Rattle.run_engine.specs.Cause.{Because, IsPartDone, WerePut}
+use Rattle.run_outcome.specs.Cause.{Because, IsPartDone, WerePut}
 use Rattle.stage_planner.specs.Plans.{plan_of}
 use Rattle.lasline_top.specs.Texts.{plan_text}
 use Rattle.lasline_top.specs.Words.{Plan_file}

@@ -8,7 +8,7 @@ use Rattle.run_report.specs.declared.refusal.Place.TheVariants as at
 use Rattle.run_report.specs.declared.refusal.Refusal.{Refusal}
 use Rattle.run_report.specs.declared.refusal.Refusal.TheVariants as of
 use Rattle.answer_model.specs.Runs.{Run}
-use Rattle.run_engine.specs.Cause.{WerePut, IsDone, IsPartDone}
+use Rattle.run_outcome.specs.Cause.{WerePut, IsDone, IsPartDone}
 use Rattle.lasline_top.specs.Words.{Task}
 use Rattle.lasline_top.specs.Answer.{done}
 use Rattle.lasline_top.specs.Cause.{AtTask}

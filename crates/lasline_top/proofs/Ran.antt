@@ -13,7 +13,7 @@ use Rattle.run_report.specs.declared.report.StageCount.{StageCount}
 use Rattle.run_report.specs.Reports.{report_of}
 use Rattle.answer_model.specs.Steps.{and_then}
 use Rattle.answer_model.specs.Runs.{Run, file_at, run_of}
-use Rattle.run_engine.specs.Cause.{Because, IsCause, IsLeft, IsRun, IsDone, IsPartDone, MayFail}
+use Rattle.run_outcome.specs.Cause.{Because, IsCause, IsLeft, IsRun, IsDone, IsPartDone, MayFail}
 use Rattle.lasline_top.specs.Words.{Engine, Run_file}
 use Rattle.lasline_top.specs.Answer.{ran, stages_in, text_run}
 use Rattle.lasline_top.specs.Cause.{IsOfRun, AtStages}

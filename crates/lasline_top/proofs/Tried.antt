@@ -15,7 +15,7 @@ use Rattle.run_report.specs.Reports.{report_of}
 use Rattle.run_report.proofs.Lines.{part_of_first, part_of_second}
 use Rattle.answer_model.specs.Steps.{and_then}
 use Rattle.answer_model.specs.Runs.{Run}
-use Rattle.run_engine.specs.Cause.{Because, WerePut, IsRun, IsDone, IsPartDone, IsLeft}
+use Rattle.run_outcome.specs.Cause.{Because, WerePut, IsRun, IsDone, IsPartDone, IsLeft}
 use Rattle.lasline_top.specs.Texts.{generated_line}
 use Rattle.lasline_top.specs.Words.{Engine, Trial}
 use Rattle.lasline_top.specs.Answer.{made, behind, stages_in, text_run, trial_name, trial_text, with_trial, trial_run, done}

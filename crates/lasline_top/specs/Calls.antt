@@ -12,7 +12,7 @@ use Rattle.run_report.specs.declared.refusal.Place.TheVariants as at
 use Rattle.run_report.specs.declared.refusal.Refusal.{Refusal}
 use Rattle.run_report.specs.declared.refusal.Refusal.TheVariants as of
 use Rattle.run_report.specs.Faults.{fault_line}
-use Rattle.run_engine.specs.Cause.{IsPartDone, WerePut}
+use Rattle.run_outcome.specs.Cause.{IsPartDone, WerePut}
 use Rattle.lasline_top.specs.declared.status.Status.{Status}
 use Rattle.lasline_top.specs.declared.status.Status.TheVariants as ends
 use Rattle.lasline_top.specs.Words.{Print, task_of}

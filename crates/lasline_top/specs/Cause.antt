@@ -10,7 +10,7 @@ use Rattle.run_report.specs.declared.refusal.Place.{Place}
 use Rattle.run_report.specs.declared.refusal.Place.TheVariants as at
 use Rattle.run_report.specs.declared.refusal.Refusal.{Refusal}
 use Rattle.run_report.specs.declared.refusal.Refusal.TheVariants as of
-use Rattle.run_engine.specs.Cause.{MayFail}
+use Rattle.run_outcome.specs.Cause.{MayFail}
 use Rattle.lasline_top.specs.Words.{Task, Run_file, Plan_file, Make_file, Trial, Print}
 use Rattle.lasline_top.specs.Answer.{plan_in, ran, stages_in, trial_text, with_trial, trial_run}
 

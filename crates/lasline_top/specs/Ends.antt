@@ -10,7 +10,7 @@ use Rattle.run_report.specs.declared.refusal.Refusal.{Refusal}
 use Rattle.run_report.specs.declared.refusal.Refusal.TheVariants as of
 use Rattle.answer_model.specs.Steps.{and_then}
 use Rattle.answer_model.specs.Runs.{Run}
-use Rattle.run_engine.specs.Cause.{Because, IsDone, IsPartDone, IsLeft}
+use Rattle.run_outcome.specs.Cause.{Because, IsDone, IsPartDone, IsLeft}
 use Rattle.lasline_top.specs.Words.{Task}
 use Rattle.lasline_top.specs.Answer.{stages_in, text_run, done}
 use Rattle.lasline_top.specs.Cause.{Risen, IsOfRun, AtMade, AtStages, AtTask}

@@ -1,14 +1,13 @@
 -- What the files tell, and what a refusal of a command leaves of them.
 use Rattle.std.specs.Prelude.{◌≡◌, ◌⊎◌, ℕ, List, true, Option, Some, is_some, Result, Ok}
 use Rattle.file_devices.specs.Named.{Names}
-use Rattle.cloud_gen.specs.GeneratedFile.{generated_file, IsPut}
-use Rattle.cloud_gen.specs.GeneratedFile.{IsLeft as IsUnmade}
+use Rattle.cloud_gen.specs.GeneratedFile.{generated_file, IsPut, IsLeft as IsUnmade}
 use Rattle.cloud_gen.specs.declared.faults.GenerateError.TheVariants as generating
 use Rattle.run_report.specs.declared.refusal.Place.TheVariants as at
 use Rattle.run_report.specs.declared.refusal.Refusal.{Refusal}
 use Rattle.run_report.specs.declared.refusal.Refusal.TheVariants as of
 use Rattle.answer_model.specs.Steps.{and_then}
-use Rattle.run_engine.specs.Cause.{IsLeft}
+use Rattle.run_outcome.specs.Cause.{IsLeft}
 use Rattle.lasline_top.specs.Words.{Task, Make_file, Trial}
 use Rattle.lasline_top.specs.Answer.{done, trial_name, with_trial, trial_run}
 

@@ -5,7 +5,7 @@ ghost use Rattle.file_devices.specs.Counts.{Rose};
 ghost use Rattle.file_devices.specs.Named.{Names};
 ghost use Rattle.answer_model.specs.Runs.{file_at};
 ghost use Rattle.run_report.specs.declared.refusal.Place.{Place};
-ghost use Rattle.run_engine.specs.Cause.{Because, IsSettled};
+ghost use Rattle.run_outcome.specs.Cause.{Because, IsSettled};
 ghost use Rattle.stage_options.specs.TreeShown.{specs_view};
 ghost use Rattle.lasline_top.specs.Answer.{plan_in, stages_in};
 ghost use Rattle.lasline_top.specs.Cause.{AtText, Never, Risen, IsOfPlan, IsOfText};

@@ -3,7 +3,7 @@
 ghost use Rattle.std.specs.Prelude.{◌≡◌, ◌≤◌, Some, None, Ok, IsOkAnd, IfOk, IfErr, OnOk};
 ghost use Rattle.file_devices.specs.Counts.{Rose};
 ghost use Rattle.file_devices.specs.Named.{Names};
-ghost use Rattle.run_engine.specs.Cause.{IsRun};
+ghost use Rattle.run_outcome.specs.Cause.{IsRun};
 ghost use Rattle.lasline_top.specs.Tasks.{engine_view};
 ghost use Rattle.lasline_top.specs.Words.{Run_file, Trial};
 ghost use Rattle.lasline_top.specs.Answer.{text_run, trial_name, trial_text};

@@ -1,5 +1,5 @@
 -- What a run comes to, by its steps.
-use Rattle.std.proofs.Common.{◌≡◌, ◌⊎◌, ℕ, ◌+◌, ◌≤◌, suc, ◌<◌, true, List, [], ◌∷◌, length, slice_get, Option, Some, None, Result, Ok, Err, IsOk, IsOkAnd, refl, ap, sym, subst, ◌∙◌, inl, inr, arith}
+use Rattle.std.proofs.Common.{◌≡◌, ◌⊎◌, ℕ, ◌+◌, ◌≤◌, suc, ◌<◌, true, List, [], ◌∷◌, length, slice_get, Option, Some, None, Result, Ok, IsOk, IsOkAnd, refl, ap, sym, subst, ◌∙◌, inl, inr, arith}
 use Rattle.std.specs.Prelude.{option_map}
 use Rattle.std.proofs.lemmas.Option.{same_Some, slice_get_within}
 use Rattle.file_devices.specs.Counts.{Rose, saturating}
@@ -15,10 +15,12 @@ use Rattle.stage_kinds.specs.declared.file_form.StageForm.TheVariants as form
 use Rattle.stage_kinds.specs.declared.file_form.Writing.{Writing}
 use Rattle.stage_kinds.specs.Files.{finishing_op}
 use Rattle.cloud_points.specs.declared.faults.PointFault.{PointFault}
+use Rattle.cloud_points.specs.declared.faults.StageFault.{StageFault}
+use Rattle.cloud_points.specs.declared.faults.StageFault.TheVariants as stage
 use Rattle.stage_kinds.specs.declared.stage_work.StageWork.{StageWork}
 use Rattle.stage_kinds.specs.declared.held.Held.{Held}
 use Rattle.stage_kinds.specs.declared.held.Held.TheVariants.{Nothing, Source, Sink}
-use Rattle.stage_kinds.specs.Held.{op_of, held_by, op_on}
+use Rattle.stage_kinds.specs.Held.{op_of, faults_of, held_by, op_on}
 use Rattle.stage_options.specs.Roles.{Role, Reads, Filters, Gathers, Writes, is_writing}
 use Rattle.stage_options.specs.declared.options.Options.{Options}
 use Rattle.stage_options.specs.declared.options.Options.TheVariants.{WritersLas, WritersText}
@@ -27,23 +29,26 @@ use Rattle.run_report.specs.Reports.{report_of}
 use Rattle.run_report.specs.declared.refusal.Refusal.{Refusal}
 use Rattle.run_report.specs.declared.refusal.Refusal.TheVariants as of
 use Rattle.run_report.specs.declared.refusal.Place.TheVariants as at
-use Rattle.run_report.specs.declared.refusal.Fault.TheVariants as fault
 use Rattle.answer_model.specs.Rows.{Setting}
-use Rattle.answer_model.specs.Values.{Opened, options_at, role_at, setting_at, unbound_at, unless_fault, evaluated, least_fault, outputs_of, counts_of}
-use Rattle.answer_model.specs.Runs.{Run, AreRead, holds, unread_at, unless_unread, unless_unbound, run_with, run_over, run_of, opened_in}
-use Rattle.answer_model.proofs.Least.{least-nowhere}
-use Rattle.stage_forms.specs.Below.{Tells}
-use Rattle.stage_runs.specs.Works.{form_for, op_for}
-use Rattle.stage_runs.proofs.Works.{writes-form}
-use Rattle.las_reader.specs.declared.reader.LasReader.{LasReader}
+use Rattle.answer_model.specs.Values.{Opened, options_at, role_at, setting_at, stage_fault, least_fault}
+use Rattle.answer_model.specs.Runs.{Run, AreRead, holds, run_of, opened_in}
+use Rattle.answer_model.proofs.Least.{least-at}
+use Rattle.stage_forms.specs.Starts.{form_for, op_for, HaveDevices, AreTold}
+use Rattle.stage_forms.proofs.Works.{writes-form}
 use Rattle.std.proofs.lemmas.List.Sums.{sum_by-cons}
-use Rattle.run_engine.specs.Begun.{there, all_held}
-use Rattle.run_engine.specs.Keeping.{AreFor, kept_first, BrokeOff}
-use Rattle.run_engine.specs.Cause.{CanBegin, IsCause, IsEarly, IsLeft, IsRun, WerePut, WerePutBefore, AtRole, patches}
-use Rattle.run_engine.specs.Jobs.{AreReady}
-use Rattle.set_engine.specs.Evaluated.{AreTold, IsUnevaluated}
-use Rattle.run_engine.specs.Turns.{AreLater, CameToEnd, AreDone, IsUnfinished}
-use Rattle.run_engine.proofs.Finishing.{finishing-writes}
+use Rattle.held_devices.specs.Holding.{there, all_held}
+use Rattle.run_ending.specs.Keeping.{kept_first, BrokeOff}
+use Rattle.run_outcome.specs.Cause.{CanBegin, IsCause, IsEarly, IsLeft, IsRun, WerePut, WerePutBefore, AtRole, patches}
+use Rattle.run_opening.specs.Ready.{AreReady}
+use Rattle.run_outcome.specs.Faults.{fault_at}
+use Rattle.run_outcome.specs.Outcomes.{refusal_for}
+use Rattle.run_outcome.proofs.Outcomes.{IsForPoint, why-refused}
+use Rattle.stage_forms.specs.Later.{AreLater, CameToEnd}
+use Rattle.set_engine.specs.Evaluated.{HaveEnded}
+use Rattle.run_engine.specs.Done.{AreDone}
+use Rattle.run_ending.specs.Finished.{IsUnfinished}
+use Rattle.run_ending.proofs.Finished.{finishing-writes}
+use Rattle.run_outcome.proofs.Runs.{right_run, run-right, run-fault}
 use Rattle.run_engine.proofs.Puts.{outputs_below, were-put, before-below}
 
 -- an early refusal leaves the files as they were
@@ -61,28 +66,6 @@ early-left (of.Device (at.Stage i) op.Create) old new expected early same = same
 early-left (of.Device (at.Stage i) op.Write) old new expected early same = same
 early-left (of.Device (at.Stage i) op.Patch) old new expected early same = same
 early-left (of.Device (at.Stage i) op.Keep) old new expected early same = absurd early
-
--- where all files are read, the answer is what the stages come to
-pub all-read : (m : Names) (stages : List StageSpec) → AreRead m stages (length stages) → run_of m stages ≡ run_over stages (opened_in m stages)
-all-read m stages read = ap (λ o. unless_unread o (run_over stages (opened_in m stages))) (least-nowhere (unread_at m stages) (length stages) read)
-
--- and where all names are bound too, what they are evaluated to
-all-bound : (m : Names) (stages : List StageSpec) → CanBegin m stages → run_of m stages ≡ run_with (evaluated stages (opened_in m stages))
-all-bound m stages come = all-read m stages come.0
-    ∙ ap (λ o. unless_unbound o (run_with (evaluated stages (opened_in m stages)))) (least-nowhere (unbound_at stages (opened_in m stages)) (length stages) come.1)
-
-abbrev pub right_run : List StageSpec → Opened → Run
-right_run stages opened = record { outputs = outputs_of stages opened; report = report_of (counts_of stages opened) }
-
-pub run-right : (m : Names) (stages : List StageSpec) → CanBegin m stages → least_fault stages (opened_in m stages) ≡ None → run_of m stages ≡ Ok (right_run stages (opened_in m stages))
-unfolding evaluated
-run-right m stages come sound = all-bound m stages come
-    ∙ ap (λ f. run_with (unless_fault f (record { outputs = outputs_of stages (opened_in m stages); counts = counts_of stages (opened_in m stages) }))) sound
-
-pub run-fault : (m : Names) (stages : List StageSpec) (i : ℕ) (f : PointFault) → CanBegin m stages → least_fault stages (opened_in m stages) ≡ Some (i, f) → run_of m stages ≡ Err (of.Data i (fault.Point f))
-unfolding evaluated
-run-fault m stages i f come found = all-bound m stages come
-    ∙ ap (λ f. run_with (unless_fault f (record { outputs = outputs_of stages (opened_in m stages); counts = counts_of stages (opened_in m stages) }))) found
 
 at-turns : (earlier all right : Type 0) (role : Role) (o : Op) → earlier → all → op_for role ≡ Some o → AtRole earlier all right role o
 at-turns earlier all right (Reads name) op.Read e a is = e
@@ -145,35 +128,71 @@ patched-las o setting x is e = let no : op.Read ≡ op.Patch = ap last_op is ∙
 rose-given : (before after files end : ℕ) → Rose before after → saturating files after ≤ end → Rose files end
 rose-given before after files end rose back = omega (arith, rose, back)
 
-module _ {S K : Type 0} (s : source.Ghosts S) (faults : StageWork S K → ℕ) (map : Option Names) (stages : List StageSpec) (old new : List (StageWork S K)) (start mid end : ℕ)
-    (few : length old ≡ length stages)
-    (come : (m : Names) → map ≡ Some m → CanBegin m stages)
-    (tells : (m : Names) → map ≡ Some m → AreTold s old (opened_in m stages))
-    (fit : (i : ℕ) (w : StageWork S K) → slice_get old i ≡ Some w → op_of w ≡ op_for (role_at stages i))
-    (low : start ≤ mid) (back : (i : ℕ) (w : StageWork S K) → slice_get new i ≡ Some w → saturating mid (faults w) ≤ end) where
-  pub turns-to-cause : (r : Refusal) → IsUnevaluated s faults stages old new r → IsCause (Rose start end) map stages r
-  turns-to-cause of.Memory c = tt
-  turns-to-cause (of.Data i (fault.Point f)) c = λ m e. run-fault m stages i f (come m e) (c (opened_in m stages) (tells m e))
-  turns-to-cause (of.Data i (fault.Header f)) c = absurd c
-  turns-to-cause (of.Data i (fault.Vlr f)) c = absurd c
-  turns-to-cause (of.Device (at.Stage i) o) c = inr (
-    (let a = rose-given (faults c.before) (faults c.after) mid end c.rose (back i c.after c.is) in omega (arith, a, low)),
-    λ m e. (let inside : i < length stages = (let a = slice_get_within old i c.before c.was in omega (arith, a, few)) in record {
-      inside = inside;
-      come = at-turns (AreRead m stages i) (CanBegin m stages) (IsOk (run_of m stages)) (role_at stages i) o
-          (λ j lt. (come m e).0 j (omega (arith, lt, inside))) (come m e) (sym (fit i c.before c.was) ∙ c.does);
-      patched = λ p. absurd (never-patched (role_at stages i) (sym (fit i c.before c.was) ∙ c.does ∙ ap (λ x. Some x) p));
-    }),
-  )
-  turns-to-cause (of.Device at.PipelineFile o) c = absurd c
-  turns-to-cause (of.Device at.Generated o) c = absurd c
-  turns-to-cause (of.Device at.Out o) c = absurd c
-  turns-to-cause (of.Pipeline f) c = absurd c
-  turns-to-cause (of.Usage k) c = absurd c
+-- what a work does with its device isn't a keeping
+op-early : {S K : Type 0} (i : ℕ) (h : Held S K) (o : Op) → op_on h ≡ Some o → IsEarly (of.Device (at.Stage i) o)
+op-early i Nothing o e = cc
+op-early i (Source s) op.Keep e = cc
+op-early i (Sink k) op.Keep e = cc
+op-early i h op.Open e = tt
+op-early i h op.Read e = tt
+op-early i h op.Create e = tt
+op-early i h op.Write e = tt
+op-early i h op.Patch e = tt
+
+no-point : (o : Option PointFault) → None ≡ option_map stage.Point o → o ≡ None
+no-point None e = refl
+no-point (Some f) e = cc
+
+the-point : (f : PointFault) (o : Option PointFault) → Some (stage.Point f) ≡ option_map stage.Point o → o ≡ Some f
+the-point f None e = cc
+the-point f (Some g) e = cc
+
+-- the fault of a run's stages that goes first is the cause
+module _ {S K : Type 0} (s : source.Ghosts S) (k : sink.Ghosts K) (map : Option Names) (stages : List StageSpec) (old new : List (StageWork S K)) (found : List (Option StageFault)) (counts : List StageCount)
+    (ended : HaveEnded s k stages old new found counts) where
+  least-is : (r : Refusal) (p : IsForPoint found r) (opened : Opened) → AreTold s old opened → least_fault stages opened ≡ Some (p.stage, p.fault)
+  least-is r p opened told =
+      let have = ended.faulty p.none_failed opened told in
+      let inside : p.stage < length stages = (let a = p.inside in let b = ended.count in omega (arith, a, b)) in
+      least-at (stage_fault stages opened) (length stages) p.stage p.fault inside (the-point p.fault (stage_fault stages opened p.stage) (sym p.has ∙ have p.stage inside))
+      (λ j lt. no-point (stage_fault stages opened j) (sym (p.least j lt) ∙ have j (omega (arith, lt, inside))))
+
+  -- no device fails in a keeping before the files are kept
+  pub fault-early : (r : Refusal) → refusal_for found ≡ Some r → IsEarly r
+  fault-early r e = elim (why-refused found r e) [
+    | inl d ↦ (let c = ended.caused d.stage d.op d.has in subst IsEarly (sym d.is) (op-early d.stage (held_by c.before) d.op c.does))
+    | inr p ↦ subst IsEarly (sym p.is) tt
+  ]
+
+  module _ (start mid end : ℕ)
+      (few : length old ≡ length stages)
+      (come : (m : Names) → map ≡ Some m → CanBegin m stages)
+      (tells : (m : Names) → map ≡ Some m → AreTold s old (opened_in m stages))
+      (fit : (i : ℕ) (w : StageWork S K) → slice_get old i ≡ Some w → op_of w ≡ op_for (role_at stages i))
+      (low : start ≤ mid) (back : (i : ℕ) (w : StageWork S K) → slice_get new i ≡ Some w → saturating mid (faults_of s.faults k.faults w) ≤ end) where
+    device-cause : (i : ℕ) (o : Op) → fault_at found i ≡ Some (stage.Device o) → IsCause (Rose start end) map stages (of.Device (at.Stage i) o)
+    device-cause i o has =
+        let c = ended.caused i o has in
+        let faults = faults_of s.faults k.faults in
+        inr (
+          (let a = rose-given (faults c.before) (faults c.after) mid end c.rose (back i c.after c.is) in omega (arith, a, low)),
+          λ m e. (let inside : i < length stages = (let a = slice_get_within old i c.before c.was in omega (arith, a, few)) in record {
+            inside = inside;
+            come = at-turns (AreRead m stages i) (CanBegin m stages) (IsOk (run_of m stages)) (role_at stages i) o
+                (λ j lt. (come m e).0 j (omega (arith, lt, inside))) (come m e) (sym (fit i c.before c.was) ∙ c.does);
+            patched = λ p. absurd (never-patched (role_at stages i) (sym (fit i c.before c.was) ∙ c.does ∙ ap (λ x. Some x) p));
+          }),
+        )
+
+    pub fault-cause : (r : Refusal) → refusal_for found ≡ Some r → IsCause (Rose start end) map stages r
+    fault-cause r e = elim (why-refused found r e) [
+      | inl d ↦ subst (IsCause (Rose start end) map stages) (sym d.is) (device-cause d.stage d.op d.has)
+      | inr p ↦ subst (IsCause (Rose start end) map stages) (sym p.is) (λ m e. run-fault m stages p.stage p.fault (come m e) (least-is r p (opened_in m stages) (tells m e)))
+    ]
 
 -- a writer whose file couldn't be finished is the cause, where the stages came to their end
 module _ {S K : Type 0} (k : sink.Ghosts K) (faults : StageWork S K → ℕ) (map : Option Names) (stages : List StageSpec) (old new : List (StageWork S K)) (start mid end : ℕ)
-    (few : length old ≡ length stages) (fit : AreFor stages old)
+    (few : length old ≡ length stages) (fit : HaveDevices stages old)
     (come : (m : Names) → map ≡ Some m → CanBegin m stages)
     (counts : List StageCount) (came : (m : Names) → map ≡ Some m → CameToEnd k.bytes stages (opened_in m stages) old counts)
     (low : start ≤ mid) (back : (i : ℕ) (w : StageWork S K) → slice_get new i ≡ Some w → saturating mid (faults w) ≤ end) where
@@ -204,27 +223,6 @@ module _ {S K : Type 0} (k : sink.Ghosts K) (faults : StageWork S K → ℕ) (ma
   unfinished-to-cause of.Memory c = absurd c
   unfinished-to-cause (of.Pipeline f) c = absurd c
   unfinished-to-cause (of.Usage k) c = absurd c
-
--- no device fails in a keeping while stages take turns
-op-early : {S K : Type 0} (i : ℕ) (h : Held S K) (o : Op) → op_on h ≡ Some o → IsEarly (of.Device (at.Stage i) o)
-op-early i Nothing o e = cc
-op-early i (Source s) op.Keep e = cc
-op-early i (Sink k) op.Keep e = cc
-op-early i h op.Open e = tt
-op-early i h op.Read e = tt
-op-early i h op.Create e = tt
-op-early i h op.Write e = tt
-op-early i h op.Patch e = tt
-
-pub turns-early : {S K : Type 0} (s : source.Ghosts S) (faults : StageWork S K → ℕ) (stages : List StageSpec) (old new : List (StageWork S K)) (r : Refusal) → IsUnevaluated s faults stages old new r → IsEarly r
-turns-early s faults stages old new of.Memory c = tt
-turns-early s faults stages old new (of.Data i f) c = tt
-turns-early s faults stages old new (of.Device (at.Stage i) o) c = op-early i (held_by c.before) o c.does
-turns-early s faults stages old new (of.Device at.PipelineFile o) c = tt
-turns-early s faults stages old new (of.Device at.Generated o) c = tt
-turns-early s faults stages old new (of.Device at.Out o) c = absurd c
-turns-early s faults stages old new (of.Pipeline f) c = tt
-turns-early s faults stages old new (of.Usage k) c = tt
 
 named-early : (i : ℕ) (o : Op) → (o ≡ op.Write) ⊎ (o ≡ op.Patch) → IsEarly (of.Device (at.Stage i) o)
 named-early i o named = elim named [
@@ -271,10 +269,6 @@ module _ {S K : Type 0} (bytes : K → Option (List ℕ)) (stages : List StageSp
         | inr l ↦ inr (put (broke.stage + 1) (let a = broke.inside in omega (arith, a)) l)
       ]
 
--- the file that a reader's source tells is the one at its stage
-pub tells-there : {S : Type 0} (s : source.Ghosts S) (m : Names) (stages : List StageSpec) (i : ℕ) (r : LasReader S) → Tells s (λ j. holds m j (role_at stages i)) i r → Tells s (opened_in m stages) i r
-tells-there s m stages i r t = record { file = t.file; told = t.told; holds = t.holds }
-
 -- later works hold as many devices
 held-same : {S K : Type 0} (xs ys : List (StageWork S K)) → length ys ≡ length xs → ((i : ℕ) (v w : StageWork S K) → slice_get xs i ≡ Some v → slice_get ys i ≡ Some w → there (op_of w) ≡ there (op_of v)) → all_held ys ≡ all_held xs
 held-same [] [] l h = refl
@@ -291,9 +285,9 @@ pub same-held : {S K : Type 0} (faults : StageWork S K → ℕ) (old new : List 
 same-held faults old new later = held-same old new later.count (λ i v w e f. ap there (later.op i v w e f))
 
 -- a run whose stages came to their end
-module _ {S K : Type 0} (s : source.Ghosts S) (k : sink.Ghosts K) (map : Option Names) (stages : List StageSpec) (works done : List (StageWork S K)) (ready : AreReady s k map stages works)
+module _ {S K : Type 0} (s : source.Ghosts S) (k : sink.Ghosts K) (first : Option Names) (stages : List StageSpec) (works done : List (StageWork S K)) (ready : AreReady s k first stages works)
     (faults : StageWork S K → ℕ) (later : AreLater faults works done) where
-  pub fit : AreFor stages done
+  pub fit : HaveDevices stages done
   fit i w e =
       let v = some_at works i (let a = slice_get_within done i w e in let b = later.count in omega (arith, a, b)) in
       later.op i v.0 w v.1 e ∙ ready.devices i v.0 v.1
@@ -302,24 +296,24 @@ module _ {S K : Type 0} (s : source.Ghosts S) (k : sink.Ghosts K) (map : Option 
   size = later.count ∙ ready.count
 
   module _ (counts : List StageCount) (came : (opened : Opened) → AreTold s works opened → AreDone k.bytes stages opened done counts) where
-    at-end : (m : Names) → map ≡ Some m → AreDone k.bytes stages (opened_in m stages) done counts
+    at-end : (m : Names) → first ≡ Some m → AreDone k.bytes stages (opened_in m stages) done counts
     at-end m e = came (opened_in m stages) (ready.tell m e)
 
-    right : (m : Names) → map ≡ Some m → run_of m stages ≡ Ok (right_run stages (opened_in m stages))
+    right : (m : Names) → first ≡ Some m → run_of m stages ≡ Ok (right_run stages (opened_in m stages))
     right m e = run-right m stages (ready.come m e) (at-end m e).sound
 
-    first-kept : (m : Names) → map ≡ Some m → (n : ℕ) → n ≤ length done → (new : Option Names) → new ≡ kept_first k.bytes n map stages done → WerePut map (outputs_below stages (opened_in m stages) n) new
-    first-kept m e n le new is = were-put stages (opened_in m stages) k.bytes done (at-end m e).told n map new le is
+    first-kept : (m : Names) → first ≡ Some m → (n : ℕ) → n ≤ length done → (now new : Option Names) → new ≡ kept_first k.bytes n now stages done → WerePut now (outputs_below stages (opened_in m stages) n) new
+    first-kept m e n le now new is = were-put stages (opened_in m stages) k.bytes done (at-end m e).told n now new le is
 
-    pub is-run : (m : Names) → map ≡ Some m → (new : Option Names) → new ≡ kept_first k.bytes (length done) map stages done → IsOkAnd (run_of m stages) (IsRun map new counts)
-    is-run m e new is = subst (λ o. IsOkAnd o (IsRun map new counts)) (sym (right m e)) (record {
-      put = subst (λ n. WerePut map (outputs_below stages (opened_in m stages) n) new) size (first-kept m e (length done) (omega arith) new is);
+    pub is-run : (m : Names) → first ≡ Some m → (now new : Option Names) → new ≡ kept_first k.bytes (length done) now stages done → IsOkAnd (run_of m stages) (IsRun now new counts)
+    is-run m e now new is = subst (λ o. IsOkAnd o (IsRun now new counts)) (sym (right m e)) (record {
+      put = subst (λ n. WerePut now (outputs_below stages (opened_in m stages) n) new) size (first-kept m e (length done) (omega arith) now new is);
       report = ap report_of (sym (at-end m e).counted);
     })
 
-    pub unkept-cause : (rose : Type 0) (new : Option Names) (r : Refusal) → BrokeOff k.bytes rose map new stages done r → IsCause rose map stages r
-    unkept-cause rose new r broke = broke-cause k.bytes stages done size rose map map new r (λ m e. subst IsOk (sym (right m e)) refl) broke
+    pub unkept-cause : (rose : Type 0) (now new : Option Names) (r : Refusal) → BrokeOff k.bytes rose now new stages done r → IsCause rose first stages r
+    unkept-cause rose now new r broke = broke-cause k.bytes stages done size rose first now new r (λ m e. subst IsOk (sym (right m e)) refl) broke
 
-    pub unkept-left : (rose : Type 0) (new : Option Names) (r : Refusal) → BrokeOff k.bytes rose map new stages done r → (m : Names) → map ≡ Some m → IsLeft r map new (run_of m stages)
-    unkept-left rose new r broke m e = subst (IsLeft r map new) (sym (right m e)) (broke-left k.bytes stages done size rose map new r (right_run stages (opened_in m stages)) broke
-        (λ n le is. subst (λ os. WerePut map os new) (sym (before-below stages (opened_in m stages) n (length stages) (let a = size in omega (arith, le, a)))) (first-kept m e n le new is)))
+    pub unkept-left : (rose : Type 0) (now new : Option Names) (r : Refusal) → BrokeOff k.bytes rose now new stages done r → (m : Names) → first ≡ Some m → IsLeft r now new (run_of m stages)
+    unkept-left rose now new r broke m e = subst (IsLeft r now new) (sym (right m e)) (broke-left k.bytes stages done size rose now new r (right_run stages (opened_in m stages)) broke
+        (λ n le is. subst (λ os. WerePut now os new) (sym (before-below stages (opened_in m stages) n (length stages) (let a = size in omega (arith, le, a)))) (first-kept m e n le now new is)))

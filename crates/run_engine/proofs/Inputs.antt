@@ -16,9 +16,9 @@ use Rattle.stage_options.specs.declared.stage.StageSpec.{StageSpec}
 use Rattle.file_devices.specs.declared.devices.Source as source
 use Rattle.network_core.proofs.Opened.{some_at}
 use Rattle.answer_model.specs.Values.{stage_at, options_at}
-use Rattle.stage_runs.specs.Works.{IsAtStart}
-use Rattle.stage_runs.proofs.Works.{start-reads}
-use Rattle.run_engine.proofs.Opening.{stage-is}
+use Rattle.stage_forms.specs.Starts.{IsAtStart}
+use Rattle.stage_forms.proofs.Works.{start-reads}
+use Rattle.run_outcome.proofs.Stages.{stage-is}
 
 -- how often the numbers below one stand in a list
 abbrev tally : ℕ → List ℕ → ℕ

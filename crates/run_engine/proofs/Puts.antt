@@ -15,8 +15,8 @@ use Rattle.stage_options.specs.Roles.{Role, Reads, Filters, Gathers, Writes, is_
 use Rattle.stage_options.specs.declared.stage.StageSpec.{StageSpec}
 use Rattle.answer_model.specs.Values.{Opened, Output, role_at, row_at, written, written_at, output_at}
 use Rattle.answer_model.specs.Runs.{put_all}
-use Rattle.run_engine.specs.Cause.{WerePut, outputs_before}
-use Rattle.run_engine.specs.Keeping.{kept_one, kept_if, kept_first}
+use Rattle.run_outcome.specs.Cause.{WerePut, outputs_before}
+use Rattle.run_ending.specs.Keeping.{kept_one, kept_if, kept_first}
 
 kept_told : (m : Names) (name text : List ℕ) (old : Option Names) (sink : Option (List ℕ)) → IsAsTold old (Some m) → IsAsTold sink (Some text) → IsAsTold (kept old name sink) (Some (put m name text))
 kept_told m name text None sink first told = λ x e. cc

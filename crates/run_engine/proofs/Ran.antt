@@ -1,5 +1,5 @@
 -- What the nodes of a tree's stages came to, as what its stages come to.
-use Rattle.std.proofs.Common.{◌≡◌, ℕ, ◌+◌, ◌<◌, false, List, length, map, slice_get, Option, Some, None, refl, ap, sym, subst, ◌∙◌, arith}
+use Rattle.std.proofs.Common.{◌≡◌, ℕ, zero, suc, ◌+◌, ◌<◌, false, List, [], ◌∷◌, length, map, slice_get, Option, Some, None, refl, ap, sym, subst, ◌∙◌, arith}
 use Rattle.std.specs.Prelude.{option_map}
 use Rattle.std.proofs.lemmas.Option.{slice_get_within}
 use Rattle.std.proofs.lemmas.List.FromFn.{length-map-range_with_len}
@@ -20,56 +20,40 @@ use Rattle.stage_kinds.specs.Held.{op_of, faults_of, told_by}
 use Rattle.file_devices.specs.Told.{IsAsTold}
 use Rattle.stage_options.specs.declared.stage.StageSpec.{StageSpec}
 use Rattle.run_report.specs.declared.report.StageCount.{StageCount}
-use Rattle.run_report.specs.declared.refusal.Refusal.{Refusal}
-use Rattle.run_report.specs.declared.refusal.Refusal.TheVariants as of
-use Rattle.run_report.specs.declared.refusal.Place.TheVariants as at
-use Rattle.run_report.specs.declared.refusal.Fault.TheVariants as fault
-use Rattle.answer_model.specs.Values.{Opened, stage_at, options_at, row_at, setting_at, stage_input, stage_fault, count_at, counts_of, least_fault}
-use Rattle.answer_model.proofs.Least.{least-at, least-nowhere}
+use Rattle.answer_model.specs.Values.{Opened, stage_at, options_at, row_at, setting_at, stage_input, stage_fault, count_at, counts_of}
+use Rattle.answer_model.proofs.Least.{least-nowhere}
 use Rattle.stage_runs.specs.Works.{AreNewStages, ReadersTell}
 use Rattle.stage_runs.specs.Parts.{AreLater as AreLaterNodes}
 use Rattle.stage_runs.proofs.Places.{mapped-at, map-at}
 use Rattle.stage_kinds.specs.Files.{chosen}
-use Rattle.stage_runs.proofs.Works.{writes-form, writer-row, wrote-is}
+use Rattle.stage_forms.proofs.Works.{writes-form, writer-row, wrote-is}
 use Rattle.stage_kinds.specs.Stages.{HoldsAll}
 use Rattle.stage_runs.specs.Ran.{EndsAsStage, AreRanStages}
-use Rattle.run_engine.specs.Outcomes.{device_op, point_fault, HasFirst, NoFault, node_count, AreCounted, IsOutcome}
-use Rattle.set_engine.specs.Evaluated.{AreTold, FailedAt, IsUnevaluated}
-use Rattle.run_engine.specs.Turns.{AreLater, AreFinished, CameToEnd, AreDone}
-use Rattle.run_engine.proofs.Lists.{length-mapped}
+use Rattle.run_outcome.specs.Faults.{fault_at, NoneFailed, AreSound}
+use Rattle.run_engine.specs.Counted.{node_count, AreCounted, AreFaultsOf}
+use Rattle.stage_forms.specs.Starts.{AreTold}
+use Rattle.set_engine.specs.Evaluated.{FailedAt, HaveEnded}
+use Rattle.stage_forms.specs.Later.{AreLater, CameToEnd}
+use Rattle.run_ending.specs.Finished.{AreFinished}
+use Rattle.run_engine.specs.Done.{AreDone}
+use Rattle.held_devices.proofs.Lists.{length-mapped}
 use Rattle.set_engine.proofs.Lists.{same-lists, range-at}
-use Rattle.run_engine.proofs.Opening.{stage-is}
+use Rattle.run_outcome.proofs.Stages.{stage-is}
 
 no-point : (o : Option PointFault) → None ≡ option_map stage.Point o → o ≡ None
 no-point None e = refl
 no-point (Some f) e = cc
 
-the-point : (f : PointFault) (o : Option PointFault) → Some (stage.Point f) ≡ option_map stage.Point o → o ≡ Some f
-the-point f None e = cc
-the-point f (Some g) e = cc
+-- the faults of nodes
+fault-of : {W : Type 0} (nodes : List (Node W)) (i : ℕ) (m : Node W) → slice_get nodes i ≡ Some m → fault_at (map (λ (n : Node W). n.fault) nodes) i ≡ m.fault
+fault-of [] i m e = absurd cc
+fault-of (n ∷ nodes) zero m e = let same : n ≡ m = cc in ap (λ (x : Node _). x.fault) same
+fault-of (n ∷ nodes) (suc i) m e = fault-of nodes i m e
 
-no-device : (f : Option StageFault) → device_op f ≡ None → is_device f ≡ false
-no-device None e = refl
-no-device (Some (stage.Point f)) e = refl
-no-device (Some (stage.Device o)) e = cc
-
-a-device : (f : Option StageFault) (o : Op) → device_op f ≡ Some o → f ≡ Some (stage.Device o)
-a-device None o e = cc
-a-device (Some (stage.Point f)) o e = cc
-a-device (Some (stage.Device p)) o e = let same : p ≡ o = cc in ap (λ x. Some (stage.Device x)) same
-
-a-point : (f : Option StageFault) (p : PointFault) → point_fault f ≡ Some p → f ≡ Some (stage.Point p)
-a-point None p e = cc
-a-point (Some (stage.Point f)) p e = let same : f ≡ p = cc in ap (λ x. Some (stage.Point x)) same
-a-point (Some (stage.Device o)) p e = cc
-
-neither : (f : Option StageFault) → device_op f ≡ None → point_fault f ≡ None → f ≡ None
-neither None d p = refl
-neither (Some (stage.Device o)) d p = cc
-neither (Some (stage.Point f)) d p = cc
-
-pub no-fault-device : (f : Option StageFault) → f ≡ None → is_device f ≡ false
-no-fault-device f e = ap is_device e
+node-of : {W : Type 0} (nodes : List (Node W)) (i : ℕ) (f : StageFault) → fault_at (map (λ (n : Node W). n.fault) nodes) i ≡ Some f → (m : Node W) × (slice_get nodes i ≡ Some m) × (m.fault ≡ Some f)
+node-of [] i f e = absurd cc
+node-of (n ∷ nodes) zero f e = (n, refl, e)
+node-of (n ∷ nodes) (suc i) f e = node-of nodes i f e
 
 same-count : (i : ℕ) (k l : _) (v v' p p' : ℕ) (w w' : Option ℕ) → k ≡ l → v ≡ v' → p ≡ p' → w ≡ w' → ◌≡◌ {A = StageCount} (record { stage = i; kind = k; views = v; points = p; wrote = w }) (record { stage = i; kind = l; views = v'; points = p'; wrote = w' })
 same-count i k l v v' p p' w w' a b c d = cc
@@ -117,7 +101,7 @@ module _ {S K : Type 0} (s : source.Ghosts S) (k : sink.Ghosts K) (stages : List
       sound-at : (i : ℕ) (m : Node (StageWork S K)) → slice_get new i ≡ Some m → m.fault ≡ None → stage_fault stages opened i ≡ None
       sound-at i m e f = no-point (stage_fault stages opened i) (sym f ∙ (ends i m e).fault)
 
-      pub came : NoFault new → (counts : List StageCount) → length counts ≡ length stages → AreCounted stages new counts → CameToEnd k.bytes stages opened (map work_of new) counts
+      pub came : ((i : ℕ) (m : Node (StageWork S K)) → slice_get new i ≡ Some m → m.fault ≡ None) → (counts : List StageCount) → length counts ≡ length stages → AreCounted stages new counts → CameToEnd k.bytes stages opened (map work_of new) counts
       came sound counts size counted = record {
         sound = least-nowhere (stage_fault stages opened) (length stages) (λ j lt. let m = after j lt in sound-at j m.0 m.1 (sound j m.0 m.1));
         counted = same-lists counts (counts_of stages opened) (size ∙ sym (length-map-range_with_len (count_at stages opened) 0 (length stages))) count-is;
@@ -144,42 +128,40 @@ module _ {S K : Type 0} (s : source.Ghosts S) (k : sink.Ghosts K) (stages : List
               zero-first : (n : ℕ) → n ≡ 0 + n
               zero-first n = omega arith
 
-      pub first-fault : (i : ℕ) (f : PointFault) → HasFirst point_fault new i f → ((j : ℕ) (m : Node (StageWork S K)) → slice_get new j ≡ Some m → device_op m.fault ≡ None) → least_fault stages opened ≡ Some (i, f)
-      first-fault i f has no-devices =
-          let m = has.here.node in
-          let here = the-point f (stage_fault stages opened i) (sym (a-point m.fault f has.here.is) ∙ (ends i m has.here.at).fault) in
-          let inside : i < length stages = (let a = slice_get_within new i m has.here.at in let b = lasted.count in let c = fresh.count in omega (arith, a, b, c)) in
-          least-at (stage_fault stages opened) (length stages) i f inside here
-          (λ j lt. let x = after j (omega (arith, lt, inside)) in sound-at j x.0 x.1 (neither x.0.fault (no-devices j x.0 x.1) (has.least j x.0 lt x.1)))
-
-  failed-at : (i : ℕ) (o : Op) → HasFirst device_op new i o → FailedAt (faults_of s.faults k.faults) works (map work_of new) i o
-  failed-at i o has =
-      let m = has.here.node in
-      let n = before i m has.here.at in
-      let later = lasted.each i n.0 m n.1 has.here.at in
-      let is = a-device m.fault o has.here.is in
+  -- the device of a node with such a fault failed
+  failed-at : (i : ℕ) (o : Op) (m : Node (StageWork S K)) → slice_get new i ≡ Some m → m.fault ≡ Some (stage.Device o) → FailedAt (faults_of s.faults k.faults) works (map work_of new) i o
+  failed-at i o m at is =
+      let n = before i m at in
+      let later = lasted.each i n.0 m n.1 at in
       record {
         before = work_of n.0;
         after = work_of m;
         was = ap (λ xs. slice_get xs i) (sym is_works) ∙ map-at work_of old i n.0 n.1;
-        is = map-at work_of new i m has.here.at;
+        is = map-at work_of new i m at;
         does = subst (λ f. IsOf (op_of (work_of n.0)) f) is later.named;
         rose = later.cause (ap is_device is);
       }
 
-  pub turns-cause : AreRanStages s k stages old new → (r : Refusal) → IsOutcome new r → IsUnevaluated s (faults_of s.faults k.faults) stages works (map work_of new) r
-  turns-cause ran (of.Device (at.Stage i) o) out = failed-at i o out
-  turns-cause ran (of.Data i (fault.Point f)) out = λ opened tell.
-      let none : (j : ℕ) (m : Node (StageWork S K)) → slice_get new j ≡ Some m → device_op m.fault ≡ None = λ j m e. out.0 j m (slice_get_within new j m e) e in
-      first-fault ran opened tell (λ j m e. no-device m.fault (none j m e)) i f out.1 none
-  turns-cause ran of.Memory out = absurd out
-  turns-cause ran (of.Device at.PipelineFile o) out = absurd out
-  turns-cause ran (of.Device at.Generated o) out = absurd out
-  turns-cause ran (of.Device at.Out o) out = absurd out
-  turns-cause ran (of.Data i (fault.Header f)) out = absurd out
-  turns-cause ran (of.Data i (fault.Vlr f)) out = absurd out
-  turns-cause ran (of.Pipeline f) out = absurd out
-  turns-cause ran (of.Usage n) out = absurd out
+  -- so the stages of the nodes have ended
+  pub have-ended : AreRanStages s k stages old new → (found : List (Option StageFault)) (counts : List StageCount) → AreFaultsOf new found → length counts ≡ length stages → AreCounted stages new counts
+      → HaveEnded s k stages works (map work_of new) found counts
+  have-ended ran found counts are size counted = record {
+    count = ap (λ fs. length fs) are ∙ length-mapped (λ (n : Node (StageWork S K)). n.fault) new ∙ lasted.count ∙ fresh.count;
+    caused = λ i o e. let m = node-of new i (stage.Device o) (ap (λ fs. fault_at fs i) (sym are) ∙ e) in failed-at i o m.0 m.1 m.2;
+    faulty = λ none opened tell i lt.
+        let m = after i lt in
+        told i m.0 m.1 ∙ (ends ran opened tell (calm none) i m.0 m.1).fault;
+    sound = λ sound opened tell. came ran opened tell (λ i m e. ap is_device (quiet sound i m e)) (quiet sound) counts size counted;
+  }
+    where
+      told : (i : ℕ) (m : Node (StageWork S K)) → slice_get new i ≡ Some m → fault_at found i ≡ m.fault
+      told i m e = ap (λ fs. fault_at fs i) are ∙ fault-of new i m e
+
+      calm : NoneFailed found → (i : ℕ) (m : Node (StageWork S K)) → slice_get new i ≡ Some m → is_device m.fault ≡ false
+      calm none i m e = ap is_device (sym (told i m e)) ∙ none i
+
+      quiet : AreSound found → (i : ℕ) (m : Node (StageWork S K)) → slice_get new i ≡ Some m → m.fault ≡ None
+      quiet sound i m e = sym (told i m e) ∙ sound i
 
 -- works that stay
 pub same-later : {S K : Type 0} (faults : StageWork S K → ℕ) (old new : List (StageWork S K)) → new ≡ old → AreLater faults old new

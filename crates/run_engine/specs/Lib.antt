@@ -1,7 +1,3 @@
-pub mod Cause
-pub mod Binding
-pub mod Begun
-pub mod Turns
-pub mod Outcomes
-pub mod Keeping
+pub mod Counted
+pub mod Done
 pub mod Jobs

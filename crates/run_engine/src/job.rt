@@ -8,22 +8,23 @@ ghost use Rattle.run_report.specs.declared.refusal.Refusal.{Refusal as Refused};
 ghost use Rattle.stage_options.specs.Kinds.{HaveOwnOptions};
 ghost use Rattle.stage_options.specs.Shapes.{shapes};
 ghost use Rattle.stage_kinds.specs.Held.{faults_of};
-ghost use Rattle.answer_model.specs.Values.{Opened};
 ghost use Rattle.answer_model.specs.Runs.{run_of};
-ghost use Rattle.stage_runs.specs.Works.{AreAtStart};
-ghost use Rattle.set_engine.specs.Evaluated.{AreTold, IsUnevaluated};
-ghost use Rattle.run_engine.specs.Begun.{all_held};
-ghost use Rattle.run_engine.specs.Cause.{IsCause, IsRun, IsLeft};
-ghost use Rattle.run_engine.specs.Jobs.{IsReady, IsWaiting, IsShort, WantsMemory, CameTo, HasRun};
-ghost use Rattle.run_engine.specs.Turns.{AreLater, CameToEnd};
+ghost use Rattle.stage_forms.specs.Starts.{AreAtStart};
+ghost use Rattle.stage_runs.specs.Short.{SomeGathers};
+ghost use Rattle.held_devices.specs.Holding.{all_held};
+ghost use Rattle.run_outcome.specs.Cause.{IsCause, IsRun, IsLeft};
+ghost use Rattle.run_engine.specs.declared.engine.Engine.{Engine as Chosen};
+ghost use Rattle.run_engine.specs.Jobs.{TakesTurns, IsReady, IsWaiting, IsShort, CameTo, HasRun};
+ghost use Rattle.stage_forms.specs.Later.{AreLater};
+ghost use Rattle.set_engine.specs.Evaluated.{HaveEnded};
 
-use crate::finish::{Ran, finish};
-use crate::keep::keep_works;
-use crate::release::release_works;
 use crate::room::TurnRoom;
 use crate::turns::turn_works;
 use crate::whole::whole_works;
 use file_devices::{FileSink, Files, Source};
+use held_devices::release_works;
+use run_ending::{Ran, finish, keep_works};
+use run_outcome::{Ended, outcome};
 use run_report::{Refusal, Report};
 use stage_kinds::StageWork;
 use stage_options::StageSpec;
@@ -44,90 +45,85 @@ pub(crate) enum Step<S, K: FileSink> {
     /// They wait to be evaluated, each on all points that it takes.
     Whole,
 
-    /// They came to this.
-    Ran(Result<Report, Refusal>),
+    /// They came to their end: what each gave on, and its fault.
+    Done(Ended),
+
+    /// Memory was wanting before they came to it.
+    Short,
 }
 
-/// Evaluates stages that wait for it, as they wait. It answers what each stage gave on, or a stage whose device failed, or else the
-/// fault of the first stage that has one.
+/// Evaluates stages that wait for it, as they wait. It answers what each stage gave on and its fault. Refuses where memory is wanting.
 fn evaluate<S: Source, K: FileSink>(
     alloc: Global,
     works: Vec<StageWork<S, K>>,
     stages: &[StageSpec],
     step: Step<S, K>,
-) -> Ran<S, K, Report>
+) -> Ran<S, K, Result<Ended, AllocError>>
     requires tree { IsTree (shapes stages.now) }
     requires own { HaveOwnOptions stages.now }
     requires few { length stages.now ≤ 64 }
     requires starts { AreAtStart K.bytes stages.now works.items }
     requires count { length works.items ≡ length stages.now }
-    requires waits { IsWaiting S.Source K.Sink stages.now step }
+    requires waits { (engine : Chosen) × IsWaiting S.Source K.Sink engine stages.now step }
     ensures later { AreLater (faults_of S.faults K.faults) works.items result.works.items }
-    ensures ok { IfOk result.outcome (λ report. (opened : Opened) → AreTold S.Source works.items opened
-        → CameToEnd K.bytes stages.now opened result.works.items report.items) }
-    ensures err { IfErr result.outcome (IsUnevaluated S.Source (faults_of S.faults K.faults) stages.now works.items result.works.items) }
+    ensures ended { IfOk result.outcome (λ ended. HaveEnded S.Source K.Sink stages.now works.items result.works.items
+        ended.faults.items ended.report.items) }
+    ensures gathers { OnErr result.outcome (TakesTurns step → SomeGathers stages.now) }
 {
     match step {
         Step::Turns(room) => turn_works(alloc, works, stages, room),
         Step::Whole => whole_works(alloc, works, stages),
-        Step::Ran(_) => unreachable!(),
-    }
-}
-
-/// Whether there was memory enough.
-fn enough(outcome: &Result<Report, Refusal>) -> Result<(), AllocError>
-    ensures ok { OnOk result (WantsMemory outcome.now → ⊥) }
-    ensures err { OnErr result (WantsMemory outcome.now) }
-{
-    match outcome {
-        Err(Refusal::Memory) => Err(AllocError),
-        _ => Ok(()),
+        Step::Done(_) => unreachable!(),
+        Step::Short => unreachable!(),
     }
 }
 
 impl<S: Source, K: FileSink> Job<S, K> {
     /// Lets the points go through the stages, on the thread of the caller. Each stage comes to its end, and what that is `close` tells.
-    /// Refuses where memory is wanting.
+    /// Refuses only where memory is wanting; where the stages take turns, and none needs whole views, all memory is there already.
     pub fn run_solo(&mut self, alloc: Global, stages: &[StageSpec]) -> Result<(), AllocError>
         requires tree { IsTree (shapes stages.now) }
         requires own { HaveOwnOptions stages.now }
-        requires ready { (map : Option Names) × IsReady S.Source K.Sink map stages.now self.old }
-        ensures ran { (map : Option Names) → IsReady S.Source K.Sink map stages.now self.old → HasRun S.Source K.Sink map stages.now self.new }
+        requires ready { (engine : Chosen) × (map : Option Names) × IsReady S.Source K.Sink engine map stages.now self.old }
+        ensures ran { (engine : Chosen) (map : Option Names) → IsReady S.Source K.Sink engine map stages.now self.old
+            → HasRun S.Source K.Sink map stages.now self.new }
         ensures held { all_held self.new.works.items ≡ all_held self.old.works.items }
         ensures enough { OnOk result (IsShort self.new.step → ⊥) }
         ensures short { OnErr result (IsShort self.new.step) }
+        ensures gathers { OnErr result (TakesTurns self.old.step → SomeGathers stages.now) }
     {
         let works = replace(&mut self.works, Vec::new(alloc));
-        let step = replace(&mut self.step, Step::Whole);
+        let step = replace(&mut self.step, Step::Short);
         let Ran { works, outcome } = evaluate(alloc, works, stages, step);
-        let answer = enough(&outcome);
         let blank = replace(&mut self.works, works);
         blank.destroy_empty();
-        match replace(&mut self.step, Step::Ran(outcome)) {
-            Step::Whole => {}
+        let ended = outcome?;
+        match replace(&mut self.step, Step::Done(ended)) {
+            Step::Short => Ok(()),
             _waiting => unreachable!(),
         }
-        answer
     }
 
     /// Ends the run: where the stages came to their end all writers finish their files, which are then kept under their names, in the
     /// order of the stages. Answers what each stage gave on. Every object that was handed out is given back.
     ///
-    /// Where the stages came to a refusal it answers just that, and keeps nothing. Else `Data` comes only where the files have that
-    /// fault, `Device` only where the device failed, `Memory` where there was none. After a refusal the files are as before; only where
-    /// the keeping of a file failed or found no memory are those of the writers before it kept, and that one may be. Files that don't
-    /// tell what they have don't tell it after the run.
+    /// Where stages have faults it answers the one that goes first, and where memory was wanting `Memory`, and keeps nothing. Else `Data`
+    /// comes only where the files had that fault as the run was prepared, `Device` only where the device failed, `Memory` where there was
+    /// none. After a refusal the files are as before; only where the keeping of a file failed or found no memory are those of the writers
+    /// before it kept, and that one may be. Files that don't tell what they have don't tell it after the run.
     pub fn close<F: Files<In = S, Out = K>>(
         self,
         files: &mut F,
         stages: &[StageSpec],
     ) -> Result<Report, Refusal>
         requires tree { IsTree (shapes stages.now) }
-        requires ran { HasRun S.Source K.Sink (F.map files.old) stages.now self }
-        ensures ok { IfOk result (λ report. (m : Names) → F.map files.old ≡ Some m
+        requires ran { (first : Option Names) × HasRun S.Source K.Sink first stages.now self }
+        ensures ok { IfOk result (λ report. (m : Names) → HasRun S.Source K.Sink (Some m) stages.now self
             → IsOkAnd (run_of m stages.now) (IsRun (F.map files.old) (F.map files.new) report.items)) }
-        ensures err { IfErr result (IsCause (Rose (F.faults files.old) (F.faults files.new)) (F.map files.old) stages.now) }
-        ensures left { IfErr result (λ refusal. (m : Names) → F.map files.old ≡ Some m → IsLeft refusal (F.map files.old) (F.map files.new) (run_of m stages.now)) }
+        ensures err { IfErr result (λ refusal. (first : Option Names) → HasRun S.Source K.Sink first stages.now self
+            → IsCause (Rose (F.faults files.old) (F.faults files.new)) first stages.now refusal) }
+        ensures left { IfErr result (λ refusal. (m : Names) → HasRun S.Source K.Sink (Some m) stages.now self
+            → IsLeft refusal (F.map files.old) (F.map files.new) (run_of m stages.now)) }
         ensures refused { (refusal : Refused) → CameTo refusal self.step
             → (result ≡ Err refusal) × (F.map files.new ≡ F.map files.old) }
         ensures untold { F.map files.old ≡ None → F.map files.new ≡ None }
@@ -135,22 +131,26 @@ impl<S: Source, K: FileSink> Job<S, K> {
         ensures later { F.faults files.old ≤ F.faults files.new }
     {
         let Job { works, step } = self;
-        let report = match step {
-            Step::Ran(Ok(report)) => report,
-            Step::Ran(Err(refusal)) => {
+        let ended = match step {
+            Step::Done(ended) => ended,
+            Step::Short => {
                 release_works(files, works);
-                return Err(refusal);
+                return Err(Refusal::Memory);
             }
             Step::Turns(_room) => unreachable!(),
             Step::Whole => unreachable!(),
         };
+        if let Err(refusal) = outcome(ended.faults.as_slice()) {
+            release_works(files, works);
+            return Err(refusal);
+        }
         let Ran { works, outcome } = finish(works);
         if let Err(refusal) = outcome {
             release_works(files, works);
             return Err(refusal);
         }
         match keep_works(files, works, stages) {
-            Ok(()) => Ok(report),
+            Ok(()) => Ok(ended.report),
             Err(refusal) => Err(refusal),
         }
     }

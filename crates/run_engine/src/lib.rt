@@ -1,17 +1,11 @@
 //! Runs pipelines: opens their files, lets their stages take turns, and keeps their outputs.
 #![tactic(auto)]
 
-mod begin;
-mod bind;
+mod counting;
 mod engine;
-mod finish;
 mod job;
-mod keep;
 mod nodes;
-mod open;
-mod outcome;
 mod preparing;
-mod release;
 mod room;
 mod run;
 mod shape;

@@ -8,7 +8,8 @@ ghost use Rattle.stage_options.specs.Kinds.{HaveOwnOptions};
 ghost use Rattle.stage_options.specs.Shapes.{shapes};
 ghost use Rattle.stage_kinds.specs.declared.stage_work.StageWork as work_type;
 ghost use Rattle.answer_model.specs.Values.{stage_at};
-ghost use Rattle.stage_runs.specs.Works.{as_works, AreAtStart, AreNewStages};
+ghost use Rattle.stage_runs.specs.Works.{as_works, AreNewStages};
+ghost use Rattle.stage_forms.specs.Starts.{AreAtStart};
 
 use cloud_points::Work;
 use file_devices::{FileSink, Source};

@@ -1,52 +1,22 @@
 //! A run is prepared.
 
-ghost use Rattle.std.specs.Prelude.{◌≡◌, ◌≤◌, ◌+◌, length, IfOk, IfErr, OnErr};
+ghost use Rattle.std.specs.Prelude.{◌≡◌, ◌≤◌, ◌+◌, IfOk, IfErr, OnErr};
 ghost use Rattle.file_devices.specs.Counts.{Rose};
 ghost use Rattle.pipeline_json.specs.Trees.{IsTree};
-ghost use Rattle.stage_options.specs.Kinds.{HaveOwnOptions};
 ghost use Rattle.stage_options.specs.Shapes.{shapes};
-ghost use Rattle.run_engine.specs.Begun.{all_held};
-ghost use Rattle.run_engine.specs.Cause.{IsCause, IsEarly};
-ghost use Rattle.run_engine.specs.Jobs.{AreReady, IsReady, IsWaiting};
+ghost use Rattle.held_devices.specs.Holding.{all_held};
+ghost use Rattle.run_outcome.specs.Cause.{IsCause, IsEarly};
+ghost use Rattle.run_engine.specs.Jobs.{IsReady, IsWaiting};
 
-use crate::begin::begin_works;
-use crate::bind::bind_stages;
 use crate::engine::Engine;
 use crate::job::{Job, Step};
-use crate::open::open_readers;
-use crate::release::{give_back, release_works};
 use crate::room::TurnRoom;
 use file_devices::{FileSink, Files, Source};
+use held_devices::release_works;
+use run_opening::ready_works;
 use run_report::Refusal;
-use stage_kinds::StageWork;
 use stage_options::StageSpec;
 use std::alloc::{AllocError, Global};
-
-/// The works of a tree's stages, each at its start: their files are opened and created.
-fn ready_works<F: Files>(
-    alloc: Global,
-    files: &mut F,
-    stages: &[StageSpec],
-) -> Result<Vec<StageWork<F::In, F::Out>>, Refusal>
-    requires tree { IsTree (shapes stages.now) }
-    ensures ready { IfOk result (λ works. AreReady F.In.Source F.Out.Sink (F.map files.old) stages.now works.items) }
-    ensures err { IfErr result (IsCause (Rose (F.faults files.old) (F.faults files.new)) (F.map files.old) stages.now) }
-    ensures early { IfErr result IsEarly }
-    ensures map { F.map files.new ≡ F.map files.old }
-    ensures lent_ok { IfOk result (λ works. F.lent files.new ≡ F.lent files.old + all_held works.items) }
-    ensures lent_err { OnErr result (F.lent files.new ≡ F.lent files.old) }
-    ensures later { F.faults files.old ≤ F.faults files.new }
-{
-    let readers = open_readers(alloc, files, stages)?;
-    let forms = match bind_stages(alloc, stages, readers.as_slice()) {
-        Ok(forms) => forms,
-        Err(refusal) => {
-            give_back(files, readers);
-            return Err(refusal);
-        }
-    };
-    begin_works(alloc, files, readers, forms, stages)
-}
 
 /// How stages wait for an engine. Refuses where memory is wanting.
 fn waiting<S: Source, K: FileSink>(
@@ -55,7 +25,7 @@ fn waiting<S: Source, K: FileSink>(
     engine: Engine,
 ) -> Result<Step<S, K>, AllocError>
     requires tree { IsTree (shapes stages.now) }
-    ensures { IfOk result (IsWaiting S.Source K.Sink stages.now) }
+    ensures { IfOk result (IsWaiting S.Source K.Sink engine stages.now) }
 {
     match engine {
         Engine::Queues(shape) => Ok(Step::Turns(TurnRoom::new(alloc, stages, shape)?)),
@@ -77,7 +47,7 @@ pub fn prepare<F: Files>(
     engine: Engine,
 ) -> Result<Job<F::In, F::Out>, Refusal>
     requires tree { IsTree (shapes stages.now) }
-    ensures ready { IfOk result (IsReady F.In.Source F.Out.Sink (F.map files.old) stages.now) }
+    ensures ready { IfOk result (IsReady F.In.Source F.Out.Sink engine (F.map files.old) stages.now) }
     ensures err { IfErr result (IsCause (Rose (F.faults files.old) (F.faults files.new)) (F.map files.old) stages.now) }
     ensures early { IfErr result IsEarly }
     ensures map { F.map files.new ≡ F.map files.old }

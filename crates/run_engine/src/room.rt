@@ -1,6 +1,6 @@
 //! The memory in which the stages of a run take turns.
 
-ghost use Rattle.std.specs.Prelude.{◌≤◌, length, IfOk};
+ghost use Rattle.std.specs.Prelude.{IfOk};
 ghost use Rattle.pipeline_json.specs.Trees.{IsTree};
 ghost use Rattle.stage_options.specs.Shapes.{shapes};
 ghost use Rattle.run_engine.specs.Jobs.{IsTurnRoom};
@@ -33,7 +33,7 @@ impl<S: Source, K: FileSink> TurnRoom<S, K> {
         shape: Shape,
     ) -> Result<TurnRoom<S, K>, AllocError>
         requires tree { IsTree (shapes stages.now) }
-        ensures { IfOk result (IsTurnRoom S.Source K.Sink stages.now) }
+        ensures { IfOk result (IsTurnRoom S.Source K.Sink shape stages.now) }
     {
         let nodes = Vec::with_capacity(alloc, stages.len())?;
         let Ok(works) = Vec::with_capacity(alloc, stages.len()) else {

@@ -7,7 +7,7 @@ ghost use Rattle.pipeline_json.specs.Trees.{IsTree};
 ghost use Rattle.stage_options.specs.Kinds.{HaveOwnOptions};
 ghost use Rattle.stage_options.specs.Shapes.{shapes};
 ghost use Rattle.answer_model.specs.Runs.{run_of};
-ghost use Rattle.run_engine.specs.Cause.{IsCause, IsRun, IsLeft};
+ghost use Rattle.run_outcome.specs.Cause.{IsCause, IsRun, IsLeft};
 
 use crate::engine::Engine;
 use crate::preparing::prepare;
@@ -40,10 +40,7 @@ pub fn run_pipeline<F: Files>(
     ensures lent { F.lent files.new ≡ F.lent files.old }
     ensures later { F.faults files.old ≤ F.faults files.new }
 {
-    let mut job = match prepare(alloc, files, stages, engine) {
-        Ok(job) => job,
-        Err(refusal) => return Err(refusal),
-    };
+    let mut job = prepare(alloc, files, stages, engine)?;
     let _enough = job.run_solo(alloc, stages);
     job.close(files, stages)
 }

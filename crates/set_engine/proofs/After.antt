@@ -1,22 +1,25 @@
--- Works later, and why stages weren't evaluated.
-use Rattle.std.proofs.Common.{◌≡◌, ℕ, zero, suc, ◌<◌, List, [], ◌∷◌, ◌++◌, length, take, Option, Some, None, refl, ap, sym, subst, ◌∙◌, arith, inl, inr, ◌⊎◌, length-set}
+-- Works later, and the faults of stages.
+use Rattle.std.proofs.Common.{◌≡◌, ℕ, zero, suc, ◌<◌, ◌≤◌, false, List, [], ◌∷◌, ◌++◌, length, take, Option, Some, None, refl, ap, sym, subst, ◌∙◌, arith, inl, inr, length-set, length-append}
 use Rattle.std.specs.Prelude.{slice_get}
 use Rattle.std.proofs.Math.ListN.{set}
+use Rattle.std.proofs.lemmas.Bool.{cases_lt}
 use Rattle.std.proofs.lemmas.Bool.Decides.{eqb_tells}
 use Rattle.std.proofs.lemmas.Option.{slice_get_within}
 use Rattle.answer_model.specs.Values.{LasFile, Opened}
-use Rattle.cloud_points.specs.declared.faults.PointFault.{PointFault}
+use Rattle.cloud_points.specs.Events.{is_device}
+use Rattle.cloud_points.specs.declared.faults.StageFault.{StageFault}
+use Rattle.cloud_points.specs.declared.faults.StageFault.TheVariants.{Device}
 use Rattle.file_devices.specs.Counts.{Rose}
 use Rattle.file_devices.specs.declared.devices.Source as source
 use Rattle.stage_kinds.specs.Held.{op_of}
 use Rattle.stage_kinds.specs.declared.stage_work.StageWork.{StageWork}
-use Rattle.stage_options.specs.declared.stage.StageSpec.{StageSpec}
-use Rattle.set_engine.specs.Evaluated.{AreAfter, AreTold, IsUnevaluated}
+use Rattle.run_outcome.specs.Faults.{NoneFailed, fault_at}
+use Rattle.set_engine.proofs.Values.{AreAfter}
+use Rattle.set_engine.specs.Evaluated.{AreCaused, FailedAt}
+use Rattle.stage_forms.specs.Starts.{AreTold}
 use Rattle.set_engine.specs.Fits.{HasFile}
-use Rattle.set_engine.specs.Given.{IsAfter, first_at}
-use Rattle.set_engine.specs.Stops.{HasFailed, refusal_at}
-use Rattle.set_engine.specs.declared.stop.Stop.{Stop}
-use Rattle.set_engine.specs.declared.stop.Stop.TheVariants.{Failed, Memory}
+use Rattle.set_engine.specs.Given.{IsAfter}
+use Rattle.set_engine.specs.Stops.{IsCaused}
 use Rattle.set_engine.proofs.Joined.{stays-elsewhere}
 
 pub put-there : {A : Type 0} (xs : List A) (i : ℕ) (x : A) → i < length xs → slice_get (set xs i x) i ≡ Some x
@@ -60,28 +63,55 @@ module _ {S K : Type 0} (faults : StageWork S K → ℕ) where
 pub las-told : {S K : Type 0} (s : source.Ghosts S) (works : List (StageWork S K)) (opened : Opened) (i : ℕ) (v : StageWork S K) → AreTold s works opened → slice_get works i ≡ Some v → HasFile s.bytes (opened i).las v
 las-told s works opened i v told at = λ r is. (let t = told i v r at is in record { file = t.file; told = t.told; holds = ap (λ (x : LasFile). x.las) t.holds })
 
--- a stage that stopped
-pub stopped-at : {S K : Type 0} (s : source.Ghosts S) (faults : StageWork S K → ℕ) (stages : List StageSpec) (old now : List (StageWork S K)) (i : ℕ) (v w : StageWork S K) → slice_get old i ≡ Some v → slice_get now i ≡ Some v
-    → (stop : Stop) → HasFailed (op_of v) (Rose (faults v) (faults w)) stop → IsUnevaluated s faults stages old (set now i w) (refusal_at i stop)
-stopped-at s faults stages old now i v w was at (Failed o) failed = record {
-  before = v;
-  after = w;
-  was = was;
-  is = put-there now i w (slice_get_within now i v at);
-  does = failed.0;
-  rose = failed.1;
-}
-stopped-at s faults stages old now i v w was at Memory failed = tt
+-- ---- faults
 
--- ---- the first fault
+pub fault-front : (found : List (Option StageFault)) (f : Option StageFault) (j : ℕ) → j < length found → fault_at (found ++ f ∷ []) j ≡ fault_at found j
+fault-front [] f j lt = absurd (omega (arith, lt))
+fault-front (g ∷ found) f zero lt = refl
+fault-front (g ∷ found) f (suc j) lt = fault-front found f j (omega (arith, lt))
 
-pub none-yet-found : (o : Option (ℕ × PointFault)) (i : ℕ) (f : Option PointFault) → first_at o i f ≡ None → (o ≡ None) × (f ≡ None)
-none-yet-found (Some x) i f e = absurd cc
-none-yet-found None i None e = (refl, refl)
-none-yet-found None i (Some f) e = absurd cc
+pub fault-last : (found : List (Option StageFault)) (f : Option StageFault) → fault_at (found ++ f ∷ []) (length found) ≡ f
+fault-last [] f = refl
+fault-last (g ∷ found) f = fault-last found f
 
--- it was found before, or is that of this stage
-pub found-by : (o : Option (ℕ × PointFault)) (i : ℕ) (f : Option PointFault) (x : ℕ × PointFault) → first_at o i f ≡ Some x → (o ≡ Some x) ⊎ ((o ≡ None) × (f ≡ Some (x.1)) × (x.0 ≡ i))
-found-by (Some y) i f x e = inl e
-found-by None i None x e = absurd cc
-found-by None i (Some f) x e = let same : (i, f) ≡ x = cc in inr (refl, ap (λ (y : ℕ × PointFault). Some (y.1)) same, ap (λ (y : ℕ × PointFault). y.0) (sym same))
+fault-beyond : (found : List (Option StageFault)) (j : ℕ) → length found ≤ j → fault_at found j ≡ None
+fault-beyond [] j le = refl
+fault-beyond (g ∷ found) zero le = absurd (omega (arith, le))
+fault-beyond (g ∷ found) (suc j) le = fault-beyond found j (omega (arith, le))
+
+-- where there was none with one stage more, there was none before, nor at that one
+pub none-with : (found : List (Option StageFault)) (f : Option StageFault) → NoneFailed (found ++ f ∷ []) → NoneFailed found × (is_device f ≡ false)
+none-with found f none = (
+  λ j. elim (cases_lt j (length found)) [
+    | inl lt ↦ ap is_device (sym (fault-front found f j lt)) ∙ none j
+    | inr le ↦ ap is_device (fault-beyond found j le)
+  ],
+  ap is_device (sym (fault-last found f)) ∙ none (length found),
+)
+
+-- one more stage, whose fault has its cause
+pub caused-more : {S K : Type 0} (faults : StageWork S K → ℕ) (old now : List (StageWork S K)) (found : List (Option StageFault)) (i : ℕ) (v w : StageWork S K) (f : Option StageFault)
+    → length found ≡ i → slice_get old i ≡ Some v → slice_get now i ≡ Some v → IsCaused (op_of v) (Rose (faults v) (faults w)) f → AreCaused faults old now found
+    → AreCaused faults old (set now i w) (found ++ f ∷ [])
+caused-more faults old now found i v w f size was at caused before j o e = elim (eqb_tells j i) as (λ _. FailedAt faults old (set now i w) j o) [
+  | inl p ↦ (
+      let is : f ≡ Some (Device o) = sym (fault-last found f) ∙ ap (fault_at (found ++ f ∷ [])) (size ∙ sym p.1) ∙ e in
+      let why = subst (IsCaused (op_of v) (Rose (faults v) (faults w))) is caused in
+      subst (λ k. FailedAt faults old (set now i w) k o) (sym p.1) (record {
+        before = v;
+        after = w;
+        was = was;
+        is = put-there now i w (slice_get_within now i v at);
+        does = why.0;
+        rose = why.1;
+      }))
+  | inr p ↦ elim (cases_lt j (length found)) as (λ _. FailedAt faults old (set now i w) j o) [
+    | inl lt ↦ (let b = before j o (sym (fault-front found f j lt) ∙ e) in
+        record { before = b.before; after = b.after; was = b.was; is = stays-elsewhere now i j w p.1 ∙ b.is; does = b.does; rose = b.rose })
+    | inr le ↦ (
+        let ne = p.1 in
+        let past : fault_at (found ++ f ∷ []) j ≡ None = fault-beyond (found ++ f ∷ []) j (let n = length-append found (f ∷ []) in omega (arith, n, le, ne, size)) in
+        let no : None ≡ Some (Device o) = sym past ∙ e in
+        absurd cc)
+  ]
+]

@@ -10,15 +10,15 @@ use Rattle.cloud_points.specs.Queue.{up_to_limit}
 use Rattle.cloud_points.specs.declared.point.Point.{Point}
 use Rattle.set_filters.proofs.Firsts.{points_at}
 use Rattle.stage_kinds.specs.Files.{chosen, unwritten}
-use Rattle.stage_kinds.specs.Stages.{first_stop, why_not, writing_filter}
+use Rattle.stage_kinds.specs.Stages.{why_not, writing_filter}
 use Rattle.stage_kinds.specs.declared.file_form.Writing.{Writing}
 use Rattle.stage_kinds.specs.declared.writer_stage.TakeErr.{TakeErr}
 use Rattle.stage_kinds.specs.declared.writer_stage.TakeErr.TheVariants.{Refused}
 use Rattle.stage_kinds.specs.Takes.{IsUntaken}
 use Rattle.stage_meanings.proofs.Admits.{refused_append}
 use Rattle.stage_meanings.specs.Conditions.{passes}
-use Rattle.stage_meanings.specs.Filtering.{filtered_stop}
-use Rattle.stage_meanings.specs.Filters.{is_true, positions, first_from, found, refused_by, first_refused, point_fault}
+use Rattle.stage_meanings.specs.Filtering.{stop_in}
+use Rattle.stage_meanings.specs.Filters.{is_true, positions, first_from, found, refused_by, first_refused}
 use Rattle.stage_meanings.specs.declared.reason.Reason.{Reason}
 use Rattle.whole_filters.specs.Held.{view_at}
 use Rattle.set_engine.specs.Stops.{IsStopAt, IsStopBehind}
@@ -94,39 +94,37 @@ module _ (x : Writing) where
       ∙ first_is (0 + length (take i ps)) (k + written (take i ps)) (get_or ps i d) (drop (suc i) ps) r (ap (λ c. why_not x c (get_or ps i d)) (sym counted) ∙ is) ∙ ap (λ j. Some (j, r)) place
 
   -- a writer that doesn't take a point of a view stops there
-  pub refused_here : (y : Writing) (k count : ℕ) (ps : List Point) (i before number : ℕ) (d : Point) (e : TakeErr) (r : Reason) → i < length ps → number ≡ up_to_limit (before + i) → y ≡ x
-      → first 0 k (take i ps) ≡ None → count ≡ up_to_limit (k + written (take i ps)) → IsUntaken (why_not y count (get_or ps i d)) e → e ≡ Refused r → IsStopBehind before (first 0 k ps) (write.Refused number r)
-  refused_here y k count ps i before number d e r lt at same none counted why is =
+  pub refused_here : (y : Writing) (k count : ℕ) (ps : List Point) (i place before number : ℕ) (d : Point) (e : TakeErr) (r : Reason) → i < length ps → place ≡ i → number ≡ up_to_limit (before + i) → y ≡ x
+      → first 0 k (take i ps) ≡ None → count ≡ up_to_limit (k + written (take i ps)) → IsUntaken (why_not y count (get_or ps i d)) e → e ≡ Refused r → IsStopBehind before (first 0 k ps) (write.Refused place number r)
+  refused_here y k count ps i place before number d e r lt here at same none counted why is =
       let there : why_not x count (get_or ps i d) ≡ Some r = subst (λ z. why_not z count (get_or ps i d) ≡ Some r) same (subst (IsUntaken (why_not y count (get_or ps i d))) is why) in
-      (i, refused_there k count ps i d r lt none counted there, at)
+      (refused_there k count ps i d r lt none counted there ∙ ap (λ j. Some (j, r)) (sym here), at ∙ ap (λ j. up_to_limit (before + j)) (sym here))
 
   -- a writer that stops in a view stops there on all of them
-  pub stop_in : (flow : Flow Point) (v number : ℕ) (view : List Point) (e : WriteErr) → v ≤ length flow.views → view ≡ view_at flow v
+  pub stops_at : (flow : Flow Point) (v number : ℕ) (view : List Point) (e : WriteErr) → v ≤ length flow.views → view ≡ view_at flow v
       → number ≡ up_to_limit (length (all_of (take v flow.views))) → first 0 0 (all_of (take v flow.views)) ≡ None
-      → IsStopBehind number (first 0 (written (all_of (take v flow.views))) view) e → IsStopAt (filtered_stop (writing_filter x) flow) e
-  stop_in flow v number view (write.Refused m r) le is count none behind =
+      → IsStopBehind number (first 0 (written (all_of (take v flow.views))) view) e → IsStopAt flow v (stop_in (writing_filter x) flow) e
+  stops_at flow v number view (write.Refused place m r) le is count none behind =
       let before = all_of (take v flow.views) in
-      let j = behind.0 in
       let rest = points_at flow.views flow.open_view v le in
       let n = length before in
       let split : points flow ≡ before ++ (view ++ rest.0) = rest.1 ∙ ap (λ w. before ++ (w ++ rest.0)) (sym is) in
-      let there : first 0 0 (points flow) ≡ Some (0 + n + j, r) =
+      let there : first 0 0 (points flow) ≡ Some (0 + n + place, r) =
       ap (first 0 0) split ∙ behind_none 0 0 before (view ++ rest.0) none
-      ∙ before_some (0 + n) (0 + written before) view rest.0 (0 + n + j, r) (from_some (0 + n) (0 + written before) view j r (ap (λ k. first 0 k view) (let z : 0 + written before ≡ written before = omega arith in z) ∙ behind.1)) in
-      let same : m ≡ up_to_limit (0 + n + j) = (let a = behind.2 in omega (arith, a, count)) in
-      ap (option_map (λ s. point_fault (up_to_limit s.0) s.1)) there ∙ ap (λ m. Some (point_fault m r)) (sym same)
-  stop_in flow v number view write.Failed le is count none behind = tt
+      ∙ before_some (0 + n) (0 + written before) view rest.0 (0 + n + place, r) (from_some (0 + n) (0 + written before) view place r (ap (λ k. first 0 k view) (let z : 0 + written before ≡ written before = omega arith in z) ∙ behind.0)) in
+      let same : 0 + n + place ≡ n + place = omega arith in
+      (there ∙ ap (λ m. Some (m, r)) same, (let a = behind.1 in omega (arith, a, count)))
+  stops_at flow v number view write.Failed le is count none behind = tt
 
   -- one that stops in none has no fault
   pub sound_all : (flow : Flow Point) (v : ℕ) (view : List Point) → length flow.views ≤ v → view ≡ view_at flow v
-      → first 0 0 (all_of (take v flow.views)) ≡ None → first 0 (written (all_of (take v flow.views))) view ≡ None → filtered_stop (writing_filter x) flow ≡ None
+      → first 0 0 (all_of (take v flow.views)) ≡ None → first 0 (written (all_of (take v flow.views))) view ≡ None → stop_in (writing_filter x) flow ≡ None
   sound_all flow v view past is before none =
       let a = all_of (take v flow.views) in
       let all : a ≡ all_of flow.views = ap all_of (take_all v flow.views past) in
       let last : view ≡ flow.open_view = is ∙ get_or_past flow.views v flow.open_view past in
       let whole : points flow ≡ a ++ view = λ i. sym all i ++ sym last i in
-      ap (option_map (λ s. point_fault (up_to_limit s.0) s.1))
-      (ap (first 0 0) whole ∙ behind_none 0 0 a view before ∙ from_any (0 + length a) (0 + written a) view (ap (λ k. first 0 k view) (let z : 0 + written a ≡ written a = omega arith in z) ∙ none))
+      ap (first 0 0) whole ∙ behind_none 0 0 a view before ∙ from_any (0 + length a) (0 + written a) view (ap (λ k. first 0 k view) (let z : 0 + written a ≡ written a = omega arith in z) ∙ none)
 
   -- with one more view
   pub none_more : (before view : List Point) → first 0 0 before ≡ None → first 0 (written before) view ≡ None → first 0 0 (before ++ view) ≡ None

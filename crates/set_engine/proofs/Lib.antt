@@ -1,8 +1,9 @@
 pub mod Lists
+pub mod Values
 pub mod Joined
 pub mod Firsts
-pub mod Before
 pub mod Giving
 pub mod StageGiving
 pub mod UpTo
 pub mod After
+pub mod Starting

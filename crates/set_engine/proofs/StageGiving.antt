@@ -1,12 +1,12 @@
 -- What a stage gives on.
-use Rattle.std.proofs.Common.{◌≡◌, ℕ, ◌+◌, Bool, true, false, List, [], ◌∷◌, ◌++◌, map, length, filter, Option, Some, None, Result, Ok, Err, refl, ap, sym, subst, ◌∙◌, true≢false, append_assoc}
-use Rattle.std.specs.Prelude.{option_map, IfOk, if◌then◌else◌}
-use Rattle.answer_model.specs.Rows.{Row, Judging, made, stop}
+use Rattle.std.proofs.Common.{◌≡◌, ℕ, true, false, List, [], length, filter, Option, Some, None, Result, Ok, Err, refl, ap, sym, subst, ◌∙◌, true≢false}
+use Rattle.std.specs.Prelude.{option_map, IfOk}
+use Rattle.answer_model.specs.Rows.{Row, made, stop}
 use Rattle.answer_model.specs.Values.{value_of}
-use Rattle.cloud_points.specs.Flows.{Flow, all_of, points}
+use Rattle.cloud_points.specs.Events.{is_device}
+use Rattle.cloud_points.specs.Flows.{Flow, points}
 use Rattle.cloud_points.specs.Marks.{flow_of, flow_marks}
 use Rattle.cloud_points.specs.Queue.{up_to_limit}
-use Rattle.cloud_points.specs.declared.faults.PointFault.{PointFault}
 use Rattle.cloud_points.specs.declared.faults.StageFault.TheVariants as stage
 use Rattle.cloud_points.specs.declared.point.Point.{Point}
 use Rattle.cloud_points.proofs.FlowLaws.{flow_of-flow_marks}
@@ -21,13 +21,11 @@ use Rattle.stage_kinds.specs.declared.stage_work.StageWork.TheVariants.{Reader, 
 use Rattle.stage_kinds.specs.declared.writer_stage.WriterStage.{WriterStage}
 use Rattle.stage_kinds.proofs.Streams.{sound_nowhere, written-count}
 use Rattle.stage_kinds.proofs.Telling.{reader_starts}
-use Rattle.stage_meanings.specs.Filtering.{filtered, filtered_stop, stop_in}
-use Rattle.stage_meanings.specs.Filters.{before_stop}
+use Rattle.stage_meanings.specs.Filtering.{filtered, filtered_stop}
 use Rattle.stage_options.specs.Roles.{Role, target_of}
 use Rattle.set_engine.specs.Fits.{IsFor, IsWriting, HasFile}
-use Rattle.set_engine.specs.Given.{IsGiven, IsGivenBy, fault_of}
+use Rattle.set_engine.specs.Given.{HoldsTaken, IsGivenBy, fault_of}
 use Rattle.set_engine.specs.declared.output.StageOutput.{StageOutput}
-use Rattle.set_engine.specs.declared.stop.Stop.{Stop}
 
 -- ---- writers
 
@@ -35,24 +33,18 @@ no_stop : {A B : Type 0} (f : A → B) (o : Option A) → option_map f o ≡ Non
 no_stop f None e = refl
 no_stop f (Some s) e = absurd cc
 
--- a writer that stops nowhere gives on what it takes
-flow-goes-on : (x : Writing) (flow : Flow Point) → filtered_stop (writing_filter x) flow ≡ None → filtered (writing_filter x) flow ≡ flow
-flow-goes-on x flow e = ap (λ o. before_stop o flow) (no_stop _ (stop_in (writing_filter x) flow) e)
-
 -- before its first point it wrote none
 begun-with : {K : Type 0} (bytes : K → Option (List ℕ)) (w : WriterStage K) → holds_chosen bytes w [] ≡ true → count_of w.file ≡ 0
 begun-with bytes w holds = written-count w bytes [] holds refl
 
-pub writer-given : {S K : Type 0} (bytes : K → Option (List ℕ)) (role : Role) (row : Row) (las : Las) (taken : Flow Point) (v w : WriterStage K) → IsWriting bytes role row v → writes_of w ≡ writes_of v
-    → filtered_stop (writing_filter (writes_of v)) taken ≡ None → (holds_chosen bytes v [] ≡ true → holds_chosen bytes w (points taken) ≡ true) → IsGiven {S = S} bytes role row las taken (Writer w) taken
-writer-given bytes role row las taken v w start same sound holds =
+pub writer-given : {S K : Type 0} (bytes : K → Option (List ℕ)) (role : Role) (row : Row) (taken : Flow Point) (v w : WriterStage K) → IsWriting bytes role row v → writes_of w ≡ writes_of v
+    → filtered_stop (writing_filter (writes_of v)) taken ≡ None → (holds_chosen bytes v [] ≡ true → holds_chosen bytes w (points taken) ≡ true) → HoldsTaken {S = S} bytes role row taken (Writer w)
+writer-given bytes role row taken v w start same sound holds =
     let x = writes_of v in
-    let judged : (m : _) → m ≡ row.making → m ≡ Judging (writing_filter x) = λ m e. e ∙ start.judges in
     let held = holds start.holds in
     let nowhere : stops_nowhere x (points taken) ≡ true = sound_nowhere x taken sound in
     let only : only_of w ≡ only_of v = ap (λ (y : Writing). y.only) same in
     record {
-      value = sym (ap (λ r. value_of r row las taken) start.does ∙ ap (λ m. made m taken) start.judges ∙ flow-goes-on x taken sound);
       wrote = ap Some (written-count w bytes (points taken) held (ap (λ y. stops_nowhere y (points taken)) same ∙ nowhere)
           ∙ ap (λ o. up_to_limit (length (chosen o (points taken)))) only ∙ ap (λ ps. up_to_limit (length ps)) (start.chooses (points taken)))
           ∙ ap (λ r. option_map (λ (name : List ℕ). up_to_limit (length (filter (row.writes) (points taken)))) (target_of r)) (sym start.does);
@@ -60,27 +52,25 @@ writer-given bytes role row las taken v w start same sound holds =
     }
 
 -- so it is with what it gave, and where it stopped
-pub writer-gave : {S K : Type 0} (sources : S → Option (List ℕ)) (sinks : K → Option (List ℕ)) (taken : Flow Point) (work : StageWork S K) (v w : WriterStage K) (r : Result StageOutput Stop) → work ≡ Writer v → writes_of w ≡ writes_of v
-    → IfOk r (λ given. count_of v.file ≡ 0 → given.fault ≡ filtered_stop (writing_filter (writes_of v)) taken) → IfOk r (λ given. given.fault ≡ None → given.views ≡ taken)
+pub writer-gave : {S K E : Type 0} (sources : S → Option (List ℕ)) (sinks : K → Option (List ℕ)) (taken : Flow Point) (work : StageWork S K) (v w : WriterStage K) (r : Result StageOutput E) → work ≡ Writer v → writes_of w ≡ writes_of v
+    → IfOk r (λ given. is_device given.fault ≡ false → count_of v.file ≡ 0 → given.fault ≡ option_map stage.Point (filtered_stop (writing_filter (writes_of v)) taken))
+    → IfOk r (λ given. is_device given.fault ≡ false → count_of v.file ≡ 0 → given.views ≡ filtered (writing_filter (writes_of v)) taken)
     → IfOk r (λ given. given.fault ≡ None → holds_chosen sinks v [] ≡ true → holds_chosen sinks w (points taken) ≡ true)
-    → IfOk r (λ given. (role : Role) (row : Row) (las : Las) → IsFor sinks role row work → HasFile sources las work → IsGivenBy {S = S} sinks role row las taken (Writer w) given)
-writer-gave sources sinks taken work v w (Ok given) is same fault all holds = λ role row las start file. (
+    → IfOk r (λ given. is_device given.fault ≡ false → (role : Role) (row : Row) (las : Las) → IsFor sinks role row work → HasFile sources las work → IsGivenBy {S = S} sinks role row las taken (Writer w) given)
+writer-gave sources sinks taken work v w (Ok given) is same fault value holds = λ calm role row las start file. (
     let start : IsWriting sinks role row v = subst (IsFor sinks role row) is start in
-    let faults : fault_of role row las taken ≡ filtered_stop (writing_filter (writes_of v)) taken = ap (λ r. fault_of r row las taken) start.does ∙ ap (λ m. stop m taken) start.judges in
-    let own = fault (begun-with sinks v start.holds) in
+    let x = writes_of v in
+    let faults : fault_of role row las taken ≡ filtered_stop (writing_filter x) taken = ap (λ r. fault_of r row las taken) start.does ∙ ap (λ m. stop m taken) start.judges in
+    let values : value_of role row las taken ≡ filtered (writing_filter x) taken = ap (λ r. value_of r row las taken) start.does ∙ ap (λ m. made m taken) start.judges in
+    let begun = begun-with sinks v start.holds in
     record {
-      fault = own ∙ sym faults;
-      sound = λ none. subst (IsGiven sinks role row las taken (Writer w)) (sym (all none)) (writer-given sinks role row las taken v w start same (sym own ∙ none) (holds none));
+      fault = fault calm begun ∙ ap (option_map stage.Point) (sym faults);
+      value = value calm begun ∙ sym values;
+      sound = λ none. writer-given sinks role row taken v w start same (no_stop stage.Point (filtered_stop (writing_filter x) taken) (sym (fault calm begun) ∙ none)) (holds none);
     })
-writer-gave sources sinks taken work v w (Err s) is same fault all holds = tt
+writer-gave sources sinks taken work v w (Err s) is same fault value holds = tt
 
 -- ---- readers
-
-same-point : (o p : Option PointFault) → option_map stage.Point o ≡ option_map stage.Point p → o ≡ p
-same-point None None e = refl
-same-point None (Some g) e = absurd cc
-same-point (Some f) None e = absurd cc
-same-point (Some f) (Some g) e = let same : f ≡ g = cc in ap Some same
 
 -- a leaf writes nothing
 leaf-writes : {S K : Type 0} (w : StageWork S K) → is_leaf w ≡ true → (writing_of w ≡ None) × (written_by w ≡ None)
@@ -95,17 +85,17 @@ leaf-writing v w a b = (leaf-writes w b).0 ∙ sym ((leaf-writes v a).0)
 
 module _ {S K : Type 0} (sources : S → Option (List ℕ)) (sinks : K → Option (List ℕ)) (role : Role) (row : Row) (las : Las) (taken : Flow Point) where
   leaf-given : (v w : StageWork S K) (given : StageOutput) → IsFor sinks role row v → HasFile sources las v → is_leaf v ≡ true → is_leaf w ≡ true
-      → (tells_of sources v ≡ true → told_of sources v ≡ flow_marks given.views) → (tells_of sources v ≡ true → told_fault_of sources v ≡ option_map stage.Point given.fault) → IsGivenBy sinks role row las taken w given
+      → (tells_of sources v ≡ true → told_of sources v ≡ flow_marks given.views) → (tells_of sources v ≡ true → told_fault_of sources v ≡ given.fault) → IsGivenBy sinks role row las taken w given
   leaf-given (Reader r) w given start file a b gives says =
       let t = file r refl in
       let f = reader_starts {K = K} sources r t.file start.start t.told in
       let writes = leaf-writes w b in
       let faults : fault_of role row las taken ≡ las_fault (las_with r.header t.file) = ap (λ r. fault_of r row las taken) start.does ∙ ap las_fault t.holds in
       record {
-        fault = same-point given.fault (las_fault (las_with r.header t.file)) (sym (says f.tells) ∙ f.fault) ∙ sym faults;
+        fault = sym (says f.tells) ∙ f.fault ∙ ap (option_map stage.Point) (sym faults);
+        value = sym (flow_of-flow_marks given.views) ∙ ap flow_of (sym (gives f.tells) ∙ f.told) ∙ flow_of-flow_marks (las_flow (las_with r.header t.file)) ∙ ap las_flow (sym t.holds)
+            ∙ ap (λ r. value_of r row las taken) (sym start.does);
         sound = λ none. record {
-          value = sym (flow_of-flow_marks given.views) ∙ ap flow_of (sym (gives f.tells) ∙ f.told) ∙ flow_of-flow_marks (las_flow (las_with r.header t.file)) ∙ ap las_flow (sym t.holds)
-              ∙ ap (λ r. value_of r row las taken) (sym start.does);
           wrote = writes.1 ∙ ap (λ r. option_map (λ (name : List ℕ). up_to_limit (length (filter (row.writes) (points taken)))) (target_of r)) (sym start.does);
           held = λ x is. absurd (let none = sym (writes.0) ∙ is in cc);
         };
@@ -116,9 +106,9 @@ module _ {S K : Type 0} (sources : S → Option (List ℕ)) (sinks : K → Optio
   leaf-given (Writer x) w given start file a b gives says = absurd (true≢false (sym a))
 
 -- so it is with what it gave
-pub leaf-gave : {S K : Type 0} (sources : S → Option (List ℕ)) (sinks : K → Option (List ℕ)) (taken : Flow Point) (v w : StageWork S K) (r : Result StageOutput Stop) → is_leaf v ≡ true → is_leaf w ≡ true
-    → IfOk r (λ given. tells_of sources v ≡ true → told_of sources v ≡ flow_marks given.views)
-    → IfOk r (λ given. tells_of sources v ≡ true → told_fault_of sources v ≡ option_map stage.Point given.fault)
-    → IfOk r (λ given. (role : Role) (row : Row) (las : Las) → IsFor sinks role row v → HasFile sources las v → IsGivenBy sinks role row las taken w given)
-leaf-gave sources sinks taken v w (Ok given) a b gives says = λ role row las start file. leaf-given sources sinks role row las taken v w given start file a b gives says
+pub leaf-gave : {S K E : Type 0} (sources : S → Option (List ℕ)) (sinks : K → Option (List ℕ)) (taken : Flow Point) (v w : StageWork S K) (r : Result StageOutput E) → is_leaf v ≡ true → is_leaf w ≡ true
+    → IfOk r (λ given. is_device given.fault ≡ false → tells_of sources v ≡ true → told_of sources v ≡ flow_marks given.views)
+    → IfOk r (λ given. is_device given.fault ≡ false → tells_of sources v ≡ true → told_fault_of sources v ≡ given.fault)
+    → IfOk r (λ given. is_device given.fault ≡ false → (role : Role) (row : Row) (las : Las) → IsFor sinks role row v → HasFile sources las v → IsGivenBy sinks role row las taken w given)
+leaf-gave sources sinks taken v w (Ok given) a b gives says = λ calm role row las start file. leaf-given sources sinks role row las taken v w given start file a b (gives calm) (says calm)
 leaf-gave sources sinks taken v w (Err s) a b gives says = tt

@@ -4,12 +4,14 @@ use Rattle.std.specs.Prelude.{◌==◌, option_map, slice_get, slice_index_or}
 use Rattle.std.proofs.lemmas.Bool.Decides.{eqb_tells}
 use Rattle.std.proofs.lemmas.List.FromFn.{length-map-range_with_len}
 use Rattle.std.proofs.lemmas.Option.{get_or_from_slice_get, slice_get_within}
-use Rattle.answer_model.specs.Values.{Opened, IsDown, stage_at, role_at, row_at, stage_value, stage_input, stage_fault, count_at, counts_of, least_fault, value_of}
-use Rattle.answer_model.proofs.Least.{least-at, least-nowhere}
+use Rattle.answer_model.specs.Values.{Opened, IsDown, stage_at, role_at, row_at, stage_value, stage_input, stage_fault, count_at, counts_of, value_of}
+use Rattle.answer_model.proofs.Least.{least-nowhere}
 use Rattle.answer_model.proofs.Values.{has-own, has-later, map-same, tree-down, value-input}
 use Rattle.cloud_points.specs.Flows.{Flow, empty_flow, join_all, points}
 use Rattle.cloud_points.specs.Queue.{up_to_limit}
 use Rattle.cloud_points.specs.declared.faults.PointFault.{PointFault}
+use Rattle.cloud_points.specs.declared.faults.StageFault.{StageFault}
+use Rattle.cloud_points.specs.declared.faults.StageFault.TheVariants as stage
 use Rattle.cloud_points.specs.declared.point.Point.{Point}
 use Rattle.pipeline_json.specs.Lists.{has, times}
 use Rattle.pipeline_json.specs.Stages.{taken}
@@ -22,9 +24,12 @@ use Rattle.stage_kinds.specs.declared.stage_work.StageWork.{StageWork}
 use Rattle.stage_options.specs.Roles.{target_of}
 use Rattle.stage_options.specs.Shapes.{shapes}
 use Rattle.stage_options.specs.declared.stage.StageSpec.{StageSpec}
-use Rattle.set_engine.specs.Evaluated.{AreEvaluated}
-use Rattle.set_engine.specs.Given.{IsGiven, count_for, fault_of}
+use Rattle.run_outcome.specs.Faults.{AreSound, fault_at}
+use Rattle.set_engine.proofs.Values.{AreEvaluated}
+use Rattle.set_engine.specs.Given.{HoldsTaken, IsGivenBy, count_for, fault_of}
+use Rattle.set_engine.specs.declared.output.StageOutput.{StageOutput}
 use Rattle.set_engine.specs.Taking.{value_in}
+use Rattle.set_engine.proofs.After.{fault-front, fault-last}
 use Rattle.set_engine.proofs.Joined.{none-has}
 use Rattle.set_engine.proofs.Lists.{some-at, in-front, at-last, same-lists, range-at}
 
@@ -110,102 +115,104 @@ module _ (stages : List StageSpec) (tree : IsTree (shapes stages)) where
 
 -- ---- what was evaluated
 
+no-point : (o : Option PointFault) → option_map stage.Point o ≡ None → o ≡ None
+no-point None e = refl
+no-point (Some f) e = absurd cc
+
 module _ {S K : Type 0} (bytes : K → Option (List ℕ)) (stages : List StageSpec) where
-  -- none of the first so many stages has a fault, they gave on so much, their values stand at their places where no stage took them,
-  -- and the writers among them hold what they take
-  pub record AreUpTo (opened : Opened) (count : ℕ) (values : List (Flow Point)) (counts : List StageCount) (works : List (StageWork S K)) : Type 0 where
-    pub sound : (j : ℕ) → j < count → stage_fault stages opened j ≡ None
-    pub counted : (j : ℕ) → j < count → slice_get counts j ≡ Some (count_at stages opened j)
+  -- the first so many stages have their faults, their values stand at their places where no stage took them, and those without a fault
+  -- gave on so much, and the writers among them hold what they take
+  pub record AreUpTo (opened : Opened) (count : ℕ) (values : List (Flow Point)) (counts : List StageCount) (found : List (Option StageFault)) (works : List (StageWork S K)) : Type 0 where
+    pub faults : (j : ℕ) → j < count → fault_at found j ≡ option_map stage.Point (stage_fault stages opened j)
     pub values_are : (j : ℕ) (v : Flow Point) → slice_get values j ≡ Some v → times j (taken_by stages count) ≡ 0 → v ≡ stage_value stages opened j
-    pub held : (j : ℕ) → j < count → (w : StageWork S K) → slice_get works j ≡ Some w → (x : Writing) → writing_of w ≡ Some x → HoldsAll bytes x (points (stage_input stages opened j)) w
+    pub counted : (j : ℕ) → j < count → stage_fault stages opened j ≡ None → slice_get counts j ≡ Some (count_at stages opened j)
+    pub held : (j : ℕ) → j < count → stage_fault stages opened j ≡ None → (w : StageWork S K) → slice_get works j ≡ Some w → (x : Writing) → writing_of w ≡ Some x → HoldsAll bytes x (points (stage_input stages opened j)) w
 
   module _ (tree : IsTree (shapes stages)) where
-    module _ (opened : Opened) (i : ℕ) (lt : i < length stages) (values : List (Flow Point)) (counts : List StageCount) (works : List (StageWork S K)) (so_far : AreUpTo opened i values counts works)
-        (size : length values ≡ i) where
+    module _ (opened : Opened) (i : ℕ) (lt : i < length stages) (values : List (Flow Point)) (counts : List StageCount) (found : List (Option StageFault)) (works : List (StageWork S K))
+        (so_far : AreUpTo opened i values counts found works) (size : length values ≡ i) where
       -- what the stage takes
-      pub input-is : join_all (map (value_in values) ((stage_at stages i).ins)) ≡ stage_input stages opened i
+      input-is : join_all (map (value_in values) ((stage_at stages i).ins)) ≡ stage_input stages opened i
       input-is = ap join_all (map-same (value_in values) (stage_value stages opened) ((stage_at stages i).ins) (λ j h.
           let at = some-at values j (let l = down stages tree i j h in omega (arith, l, size)) in
           get_or_from_slice_get values j at.0 empty_flow at.1 ∙ so_far.values_are j at.0 at.1 (untaken stages tree i j lt h)))
 
       module _ (s : StageSpec) (is : slice_get stages i ≡ Some s) (taken_now : Flow Point) (input : taken_now ≡ join_all (map (value_in values) ((stage_at stages i).ins)))
-          (v w : StageWork S K) (given : Flow Point) (gave : IsGiven bytes (role_at stages i) (row_at stages opened i) (opened i).las taken_now w given)
-          (none : fault_of (role_at stages i) (row_at stages opened i) (opened i).las taken_now ≡ None) where
+          (w : StageWork S K) (given : StageOutput) (gave : IsGivenBy bytes (role_at stages i) (row_at stages opened i) (opened i).las taken_now w given) where
         taken-is : taken_now ≡ stage_input stages opened i
         taken-is = input ∙ input-is
 
-        value-is : given ≡ stage_value stages opened i
+        value-is : given.views ≡ stage_value stages opened i
         value-is = gave.value ∙ ap (λ f. value_of (role_at stages i) (row_at stages opened i) (opened i).las f) taken-is ∙ sym (value-input stages opened (down stages tree) i)
 
-        sound-is : stage_fault stages opened i ≡ None
-        sound-is = ap (λ f. fault_of (role_at stages i) (row_at stages opened i) (opened i).las f) (sym taken-is) ∙ none
+        fault-is : given.fault ≡ option_map stage.Point (stage_fault stages opened i)
+        fault-is = gave.fault ∙ ap (λ f. option_map stage.Point (fault_of (role_at stages i) (row_at stages opened i) (opened i).las f)) taken-is
 
         stage-is : stage_at stages i ≡ s
         stage-is = get_or_from_slice_get stages i s _ is
 
-        count-is : count_for i s given (written_by w) ≡ count_at stages opened i
-        count-is =
-            ap (λ (t : StageSpec). count_for i t given (written_by w)) (sym stage-is) ∙ ap (λ f. count_for i (stage_at stages i) f (written_by w)) value-is
-            ∙ ap (λ o. count_for i (stage_at stages i) (stage_value stages opened i) o) gave.wrote
+        holds : stage_fault stages opened i ≡ None → HoldsTaken bytes (role_at stages i) (row_at stages opened i) taken_now w
+        holds none = gave.sound (fault-is ∙ ap (option_map stage.Point) none)
+
+        count-is : stage_fault stages opened i ≡ None → count_for i s given.views (written_by w) ≡ count_at stages opened i
+        count-is none =
+            ap (λ (t : StageSpec). count_for i t given.views (written_by w)) (sym stage-is) ∙ ap (λ f. count_for i (stage_at stages i) f (written_by w)) value-is
+            ∙ ap (λ o. count_for i (stage_at stages i) (stage_value stages opened i) o) (holds none).wrote
             ∙ ap (λ f. count_for i (stage_at stages i) (stage_value stages opened i) (option_map (λ (name : List ℕ). up_to_limit (length (filter ((row_at stages opened i).writes) (points f)))) (target_of (role_at stages i)))) taken-is
 
         -- with one more, where the values that the stage took are gone
-        pub one-more : (rest values_then : List (Flow Point)) (counts_then : List StageCount) (works_then : List (StageWork S K)) → length rest ≡ i
-            → ((j : ℕ) → has ((stage_at stages i).ins) j ≡ false → slice_get rest j ≡ slice_get values j) → values_then ≡ rest ++ given ∷ []
-            → length counts ≡ i → counts_then ≡ counts ++ count_for i s given (written_by w) ∷ []
-            → slice_get works_then i ≡ Some w → ((j : ℕ) → j < i → slice_get works_then j ≡ slice_get works j) → AreUpTo opened (i + 1) values_then counts_then works_then
-        one-more rest values_then counts_then works_then left others more few counted here same = record {
-          sound = λ j l. elim (eqb_tells j i) [
-            | inl p ↦ ap (stage_fault stages opened) p.1 ∙ sound-is
-            | inr p ↦ (let ne = p.1 in so_far.sound j (omega (arith, l, ne)))
+        pub one-more : (rest values_then : List (Flow Point)) (counts_then : List StageCount) (found_then : List (Option StageFault)) (works_then : List (StageWork S K)) → length rest ≡ i
+            → ((j : ℕ) → has ((stage_at stages i).ins) j ≡ false → slice_get rest j ≡ slice_get values j) → values_then ≡ rest ++ given.views ∷ []
+            → length counts ≡ i → counts_then ≡ counts ++ count_for i s given.views (written_by w) ∷ [] → length found ≡ i → found_then ≡ found ++ given.fault ∷ []
+            → slice_get works_then i ≡ Some w → ((j : ℕ) → j < i → slice_get works_then j ≡ slice_get works j) → AreUpTo opened (i + 1) values_then counts_then found_then works_then
+        one-more rest values_then counts_then found_then works_then left others more few counted few-found pushed here same = record {
+          faults = λ j l. ap (λ fs. fault_at fs j) pushed ∙ elim (eqb_tells j i) as (λ _. fault_at (found ++ given.fault ∷ []) j ≡ option_map stage.Point (stage_fault stages opened j)) [
+            | inl p ↦ ap (fault_at (found ++ given.fault ∷ [])) (p.1 ∙ sym few-found) ∙ fault-last found given.fault ∙ fault-is ∙ ap (λ k. option_map stage.Point (stage_fault stages opened k)) (sym p.1)
+            | inr p ↦ (let ne = p.1 in fault-front found given.fault j (omega (arith, l, ne, few-found)) ∙ so_far.faults j (omega (arith, l, ne)))
           ];
-          counted = λ j l. ap (λ cs. slice_get cs j) counted ∙ elim (eqb_tells j i) as (λ _. slice_get (counts ++ count_for i s given (written_by w) ∷ []) j ≡ Some (count_at stages opened j)) [
-            | inl p ↦ at-last counts (count_for i s given (written_by w)) j (few ∙ sym p.1) ∙ ap Some count-is ∙ ap (λ k. Some (count_at stages opened k)) (sym p.1)
-            | inr p ↦ (let ne = p.1 in in-front counts (count_for i s given (written_by w) ∷ []) j (omega (arith, l, ne, few)) ∙ so_far.counted j (omega (arith, l, ne)))
+          counted = λ j l none. ap (λ cs. slice_get cs j) counted ∙ elim (eqb_tells j i) as (λ _. slice_get (counts ++ count_for i s given.views (written_by w) ∷ []) j ≡ Some (count_at stages opened j)) [
+            | inl p ↦ at-last counts (count_for i s given.views (written_by w)) j (few ∙ sym p.1) ∙ ap Some (count-is (ap (stage_fault stages opened) (sym p.1) ∙ none)) ∙ ap (λ k. Some (count_at stages opened k)) (sym p.1)
+            | inr p ↦ (let ne = p.1 in in-front counts (count_for i s given.views (written_by w) ∷ []) j (omega (arith, l, ne, few)) ∙ so_far.counted j (omega (arith, l, ne)) none)
           ];
           values_are = λ j x e untook.
-              let there : slice_get (rest ++ given ∷ []) j ≡ Some x = ap (λ vs. slice_get vs j) (sym more) ∙ e in
+              let there : slice_get (rest ++ given.views ∷ []) j ≡ Some x = ap (λ vs. slice_get vs j) (sym more) ∙ e in
               let split = taken-more stages i j lt in
               elim (eqb_tells j i) as (λ _. x ≡ stage_value stages opened j) [
-                | inl p ↦ (let q : Some given ≡ Some x = sym (at-last rest given j (left ∙ sym p.1)) ∙ there in let r : given ≡ x = cc in sym r ∙ value-is ∙ ap (stage_value stages opened) (sym p.1))
-                | inr p ↦ (let ne = p.1 in let l : j < i = omega (arith, ne, slice_get_within (rest ++ given ∷ []) j x there, length-more rest given, left) in
+                | inl p ↦ (let q : Some given.views ≡ Some x = sym (at-last rest given.views j (left ∙ sym p.1)) ∙ there in let r : given.views ≡ x = cc in sym r ∙ value-is ∙ ap (stage_value stages opened) (sym p.1))
+                | inr p ↦ (let ne = p.1 in let l : j < i = omega (arith, ne, slice_get_within (rest ++ given.views ∷ []) j x there, length-more rest given.views, left) in
                     let away = none-has j ((stage_at stages i).ins) (omega (arith, split, untook)) in
-                    so_far.values_are j x (sym (others j away) ∙ sym (in-front rest (given ∷ []) j (omega (arith, l, left))) ∙ there) (omega (arith, split, untook)))
+                    so_far.values_are j x (sym (others j away) ∙ sym (in-front rest (given.views ∷ []) j (omega (arith, l, left))) ∙ there) (omega (arith, split, untook)))
               ];
-          held = λ j l z e x is. elim (eqb_tells j i) as (λ _. HoldsAll bytes x (points (stage_input stages opened j)) z) [
+          held = λ j l none z e x is. elim (eqb_tells j i) as (λ _. HoldsAll bytes x (points (stage_input stages opened j)) z) [
             | inl p ↦ (let q : Some w ≡ Some z = sym here ∙ ap (λ k. slice_get works_then k) (sym p.1) ∙ e in let r : w ≡ z = cc in
+                let own = holds (ap (stage_fault stages opened) (sym p.1) ∙ none) in
                 subst (λ k. HoldsAll bytes x (points (stage_input stages opened k)) z) (sym p.1) (subst (λ f. HoldsAll bytes x (points f) z) taken-is
-                (subst (HoldsAll bytes x (points taken_now)) r (gave.held x (ap writing_of r ∙ is)))))
-            | inr p ↦ (let ne = p.1 in let l : j < i = omega (arith, l, ne) in so_far.held j l z (sym (same j l) ∙ e) x is)
+                (subst (HoldsAll bytes x (points taken_now)) r (own.held x (ap writing_of r ∙ is)))))
+            | inr p ↦ (let ne = p.1 in let l : j < i = omega (arith, l, ne) in so_far.held j l none z (sym (same j l) ∙ e) x is)
           ];
         }
 
     -- nothing was evaluated yet
-    pub none-yet : (opened : Opened) (works : List (StageWork S K)) → AreUpTo opened 0 [] [] works
+    pub none-yet : (opened : Opened) (works : List (StageWork S K)) → AreUpTo opened 0 [] [] [] works
     none-yet opened works = record {
-      sound = λ j l. absurd (omega (arith, l));
+      faults = λ j l. absurd (omega (arith, l));
       counted = λ j l. absurd (omega (arith, l));
       values_are = λ j v e none. absurd cc;
-      held = λ j l w e x is. absurd (omega (arith, l));
+      held = λ j l. absurd (omega (arith, l));
     }
 
-    -- all were
-    pub all-done : (opened : Opened) (n : ℕ) (values : List (Flow Point)) (counts : List StageCount) (works : List (StageWork S K)) → n ≡ length stages → length counts ≡ n → length works ≡ length stages
-        → AreUpTo opened n values counts works → AreEvaluated bytes stages opened works counts
-    all-done opened n values counts works all few size up = record {
-      sound = least-nowhere (stage_fault stages opened) (length stages) (λ j l. up.sound j (omega (arith, l, all)));
+    -- all were, and no stage has a fault
+    pub all-done : (opened : Opened) (n : ℕ) (values : List (Flow Point)) (counts : List StageCount) (found : List (Option StageFault)) (works : List (StageWork S K)) → n ≡ length stages → length counts ≡ n
+        → length works ≡ length stages → AreUpTo opened n values counts found works → AreSound found → AreEvaluated bytes stages opened works counts
+    all-done opened n values counts found works all few size up sound = record {
+      sound = least-nowhere (stage_fault stages opened) (length stages) (λ j l. none j (omega (arith, l, all)));
       counted = same-lists counts (counts_of stages opened) (few ∙ all ∙ sym (length-map-range_with_len (count_at stages opened) 0 (length stages))) (λ j l.
-          up.counted j (omega (arith, l, few)) ∙ ap (λ k. Some (count_at stages opened k)) (zero-first j) ∙ sym (range-at (count_at stages opened) 0 (length stages) j (omega (arith, l, few, all))));
-      held = λ j w e x is. up.held j (let a = slice_get_within works j w e in omega (arith, a, size, all)) w e x is;
+          up.counted j (omega (arith, l, few)) (none j (omega (arith, l, few))) ∙ ap (λ k. Some (count_at stages opened k)) (zero-first j) ∙ sym (range-at (count_at stages opened) 0 (length stages) j (omega (arith, l, few, all))));
+      held = λ j w e x is. (let lt = (let a = slice_get_within works j w e in let l : j < n = omega (arith, a, size, all) in l) in up.held j lt (none j lt) w e x is);
     }
       where
+        none : (j : ℕ) → j < n → stage_fault stages opened j ≡ None
+        none j l = no-point (stage_fault stages opened j) (sym (up.faults j l) ∙ sound j)
+
         zero-first : (n : ℕ) → n ≡ 0 + n
         zero-first n = omega arith
-
-    -- the first that has a fault is the least one
-    pub first-fault : (opened : Opened) (i : ℕ) (values : List (Flow Point)) (counts : List StageCount) (works : List (StageWork S K)) (taken_now : Flow Point) (f : PointFault) → i < length stages → length values ≡ i
-        → AreUpTo opened i values counts works → taken_now ≡ join_all (map (value_in values) ((stage_at stages i).ins))
-        → fault_of (role_at stages i) (row_at stages opened i) (opened i).las taken_now ≡ Some f → least_fault stages opened ≡ Some (i, f)
-    first-fault opened i values counts works taken_now f lt size up input found =
-        least-at (stage_fault stages opened) (length stages) i f lt
-        (ap (λ t. fault_of (role_at stages i) (row_at stages opened i) (opened i).las t) (sym (input ∙ input-is opened i lt values counts works up size)) ∙ found) up.sound

@@ -6,6 +6,7 @@ use Rattle.cloud_points.specs.Flows.{Flow, points}
 use Rattle.cloud_points.specs.Queue.{up_to_limit}
 use Rattle.cloud_points.specs.declared.point.Point.{Point}
 use Rattle.cloud_points.specs.declared.faults.PointFault.{PointFault}
+use Rattle.cloud_points.specs.declared.faults.StageFault.TheVariants as stage
 use Rattle.las_reader.specs.Files.{Las}
 use Rattle.las_reader.specs.Flows.{las_fault}
 use Rattle.run_report.specs.declared.report.StageCount.{StageCount}
@@ -21,16 +22,16 @@ use Rattle.set_engine.specs.declared.output.StageOutput.{StageOutput}
 abbrev pub fault_of : Role → Row → Las → Flow Point → Option PointFault
 fault_of role row las flow = cond (is_reading role) (las_fault las) (fault_on row flow)
 
--- it gave its value, and holds what it writes of the points that it took
-pub record IsGiven {S K : Type 0} (bytes : K → Option (List ℕ)) (role : Role) (row : Row) (las : Las) (taken : Flow Point) (w : StageWork S K) (given : Flow Point) : Type 0 where
-  pub value : given ≡ value_of role row las taken
+-- it holds what it writes of the points that it took
+pub record HoldsTaken {S K : Type 0} (bytes : K → Option (List ℕ)) (role : Role) (row : Row) (taken : Flow Point) (w : StageWork S K) : Type 0 where
   pub wrote : written_by w ≡ option_map (λ (name : List ℕ). up_to_limit (length (filter (row.writes) (points taken)))) (target_of role)
   pub held : (x : Writing) → writing_of w ≡ Some x → HoldsAll bytes x (points taken) w
 
--- it says its fault, and without one it gave its value
+-- it says its fault and gave its value, and holds what it writes where it has no fault
 pub record IsGivenBy {S K : Type 0} (bytes : K → Option (List ℕ)) (role : Role) (row : Row) (las : Las) (taken : Flow Point) (w : StageWork S K) (given : StageOutput) : Type 0 where
-  pub fault : given.fault ≡ fault_of role row las taken
-  pub sound : given.fault ≡ None → IsGiven bytes role row las taken w given.views
+  pub fault : given.fault ≡ option_map stage.Point (fault_of role row las taken)
+  pub value : given.views ≡ value_of role row las taken
+  pub sound : given.fault ≡ None → HoldsTaken bytes role row taken w
 
 -- the same work later: over its device, whose count of faults didn't fall, and with the same to write
 pub record IsAfter {S K : Type 0} (faults : StageWork S K → ℕ) (old new : StageWork S K) : Type 0 where
@@ -47,9 +48,3 @@ count_for i s given wrote = record {
   points = up_to_limit (length (points given));
   wrote = wrote;
 }
-
--- the first fault of a stage, where none was found before
-abbrev pub first_at : Option (ℕ × PointFault) → ℕ → Option PointFault → Option (ℕ × PointFault)
-first_at (Some found) i fault = Some found
-first_at None i (Some fault) = Some (i, fault)
-first_at None i None = None

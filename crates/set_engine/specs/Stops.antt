@@ -1,41 +1,35 @@
--- Why a stage isn't evaluated to its end.
-use Rattle.std.specs.Prelude.{◌≡◌, ℕ, ◌+◌, Option, Some, ⊤}
+-- Why stages stop.
+use Rattle.std.specs.Prelude.{◌≡◌, ℕ, ◌+◌, ◌<◌, length, take, Option, Some, ⊤}
+use Rattle.cloud_points.specs.Flows.{Flow, all_of}
 use Rattle.cloud_points.specs.Queue.{up_to_limit}
-use Rattle.cloud_points.specs.declared.faults.PointFault.{PointFault}
 use Rattle.cloud_points.specs.declared.faults.StageFault.{StageFault}
 use Rattle.cloud_points.specs.declared.faults.StageFault.TheVariants as stage
+use Rattle.cloud_points.specs.declared.point.Point.{Point}
 use Rattle.file_devices.specs.declared.devices.Op.{Op}
-use Rattle.run_report.specs.declared.refusal.Place.TheVariants as at
-use Rattle.run_report.specs.declared.refusal.Refusal.{Refusal}
-use Rattle.run_report.specs.declared.refusal.Refusal.TheVariants as of
-use Rattle.stage_meanings.specs.Filters.{point_fault}
 use Rattle.stage_meanings.specs.declared.reason.Reason.{Reason}
-use Rattle.set_engine.specs.declared.stop.Stop.{Stop}
-use Rattle.set_engine.specs.declared.stop.Stop.TheVariants.{Failed, Memory}
 use Rattle.set_engine.specs.declared.writers.WriteErr.{WriteErr}
 use Rattle.set_engine.specs.declared.writers.WriteErr.TheVariants as write
 
--- the refusal of a run whose stage with this number stopped so
-abbrev pub refusal_at : ℕ → Stop → Refusal
-refusal_at i (Failed o) = of.Device (at.Stage i) o
-refusal_at i Memory = of.Memory
+-- the fault of a device names what that does, and it failed
+abbrev pub IsCaused : Option Op → Type 0 → Option StageFault → Type 0
+IsCaused op rose (Some (stage.Device o)) = (op ≡ Some o) × rose
+IsCaused op rose fault = ⊤
 
--- it stops for this fault of a device
-abbrev pub IsStopFor : Option StageFault → Stop → Type 0
-IsStopFor (Some (stage.Device o)) stop = stop ≡ Failed o
-IsStopFor fault stop = ⊥
+-- the point that a writer doesn't take stands in a view of so many
+abbrev pub IsInside : ℕ → WriteErr → Type 0
+IsInside count (write.Refused place n r) = place < count
+IsInside count write.Failed = ⊤
 
--- it names a device's operation only where that is the one of its device, which failed
-abbrev pub HasFailed : Option Op → Type 0 → Stop → Type 0
-HasFailed op rose (Failed o) = (op ≡ Some o) × rose
-HasFailed op rose Memory = ⊤
-
--- a writer refuses a point exactly for this fault
-abbrev pub IsStopAt : Option PointFault → WriteErr → Type 0
-IsStopAt found (write.Refused n r) = found ≡ Some (point_fault n r)
-IsStopAt found write.Failed = ⊤
-
--- the same of a point's number and the reason there, behind so many other points
+-- a writer stops in a view behind so many other points, at the place and for the reason that are found
 abbrev pub IsStopBehind : ℕ → Option (ℕ × Reason) → WriteErr → Type 0
-IsStopBehind before found (write.Refused n r) = (k : ℕ) × (found ≡ Some (k, r)) × (n ≡ up_to_limit (before + k))
+IsStopBehind before found (write.Refused place n r) = (found ≡ Some (place, r)) × (n ≡ up_to_limit (before + place))
 IsStopBehind before found write.Failed = ⊤
+
+-- the number of the point at this place of a view, of all points of the flow
+abbrev pub number_in : Flow Point → ℕ → ℕ → ℕ
+number_in flow v place = length (all_of (take v flow.views)) + place
+
+-- a writer stops on a flow in this view, at the point and for the reason that are found
+abbrev pub IsStopAt : Flow Point → ℕ → Option (ℕ × Reason) → WriteErr → Type 0
+IsStopAt flow v found (write.Refused place n r) = (found ≡ Some (number_in flow v place, r)) × (n ≡ up_to_limit (number_in flow v place))
+IsStopAt flow v found write.Failed = ⊤

@@ -1,11 +1,13 @@
 //! Filters on whole views.
 
-ghost use Rattle.std.specs.Prelude.{◌≡◌, IfOk};
+ghost use Rattle.std.specs.Prelude.{◌≡◌, option_map, IfOk};
+ghost use Rattle.cloud_points.specs.declared.faults.StageFault.TheVariants as stage;
 ghost use Rattle.set_filters.specs.Kinds as plain_kinds;
 ghost use Rattle.stage_meanings.specs.Filtering.{filtered, filtered_stop};
 ghost use Rattle.stream_filters.specs.Kinds.{filtering_of};
 
 use crate::output::StageOutput;
+use cloud_points::{PointFault, StageFault};
 use expr_eval::Bound;
 use name_binding::BoundFilter;
 use set_filters::{Filtered, filter_views};
@@ -51,6 +53,16 @@ fn parts_of(filter: Filter) -> (BoundFilter, Option<Bound>)
     }
 }
 
+/// The fault of a point, as that of a stage.
+pub(crate) fn of_point(fault: Option<PointFault>) -> Option<StageFault>
+    ensures { result ≡ option_map stage.Point fault }
+{
+    match fault {
+        Some(fault) => Some(StageFault::Point(fault)),
+        None => None,
+    }
+}
+
 /// What a filter makes of whole views, up to the first point that can't be judged.
 pub(crate) fn filter_all(
     alloc: Global,
@@ -58,9 +70,12 @@ pub(crate) fn filter_all(
     views: Views,
 ) -> Result<StageOutput, AllocError>
     ensures value { IfOk result (λ given. given.views ≡ filtered (filtering_of filter) views) }
-    ensures fault { IfOk result (λ given. given.fault ≡ filtered_stop (filtering_of filter) views) }
+    ensures fault { IfOk result (λ given. given.fault ≡ option_map stage.Point (filtered_stop (filtering_of filter) views)) }
 {
     let (filter, only) = parts_of(filter);
     let Filtered { views, fault } = filter_views(alloc, &filter, &only, views)?;
-    Ok(StageOutput { views, fault })
+    Ok(StageOutput {
+        views,
+        fault: of_point(fault),
+    })
 }

@@ -7,7 +7,6 @@ mod inputs;
 mod leaves;
 mod output;
 mod stages;
-mod stop;
 mod writers;
 
 pub use evaluating::evaluate_stages;

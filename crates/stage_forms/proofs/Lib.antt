@@ -1,3 +1,5 @@
 pub mod Files
 pub mod Joined
 pub mod Texts
+pub mod AtStart
+pub mod Works

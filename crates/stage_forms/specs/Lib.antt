@@ -1,2 +1,4 @@
 pub mod Below
 pub mod Joined
+pub mod Starts
+pub mod Later

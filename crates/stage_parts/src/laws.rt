@@ -25,16 +25,17 @@ pub fn parts_are_trees()
         ≡ part_children gathers ins homes home root k }
     ensures beyond { (gathers : List Bool) (ins : List (List ℕ)) (homes : List ℕ) (home root k : ℕ)
         → root < k → children (part_ins gathers ins homes home root) k ≡ [] }
+{}
 
-    // What a node of a part takes has the home of the part.
+/// A home lies above its node, and what a node of a part takes has the home of the part.
+pub fn homes_lie_above()
     ensures near { (gathers : List Bool) (ins : List (List ℕ)) (homes : List ℕ) (home k j : ℕ)
         → AreHomes gathers ins homes → gathers_at gathers k ≡ false → home_at homes k ≡ home
         → In j (children ins k) → home_at homes j ≡ home }
     ensures near_root { (gathers : List Bool) (ins : List (List ℕ)) (homes : List ℕ) (k j : ℕ)
         → AreHomes gathers ins homes → gathers_at gathers k ≡ true
         → In j (children ins k) → home_at homes j ≡ k }
-
-    // A home lies above its node, and it gathers or is the number of nodes.
+    // A home gathers, or is the number of nodes.
     ensures above { (gathers : List Bool) (ins : List (List ℕ)) (homes : List ℕ) (j : ℕ)
         → IsForest ins (length ins - 1) → AreHomes gathers ins homes
         → j < length ins → j < home_at homes j }
@@ -45,11 +46,13 @@ pub fn parts_are_trees()
         → IsForest ins (length ins - 1) → AreHomes gathers ins homes
         → j < length ins → home_at homes j < length ins
         → gathers_at gathers (home_at homes j) ≡ true }
+{}
 
-    // Strangers stand before the root and have another home, and where they give nothing the root's flow is that of its own.
+/// Strangers stand before the root and have another home, and where they give nothing the root's flow is that of its own.
+pub fn strangers_give_nothing()
     ensures strange { (homes : List ℕ) (home root j : ℕ) → In j (strangers homes home root)
         → (j < root) × (home_at homes j ≢ home) }
-    ensures strangers_give_nothing { (value : ℕ → Flow Point) (own others : List ℕ)
+    ensures nothing { (value : ℕ → Flow Point) (own others : List ℕ)
         → Each (λ j. value j ≡ empty_flow) others
         → join_all (map value (own ++ others)) ≡ join_all (map value own) }
 {}

@@ -7,4 +7,4 @@ mod laws;
 
 pub use children::part_ins;
 pub use homes::homes_of;
-pub use laws::parts_are_trees;
+pub use laws::{homes_lie_above, parts_are_trees, strangers_give_nothing};

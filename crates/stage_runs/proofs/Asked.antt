@@ -23,13 +23,14 @@ use Rattle.stage_parts.specs.Parts.{AreHomes, home_at, is_of, strangers, part_in
 use Rattle.stage_parts.proofs.Trees.{at_root, at_inner, at_gathering}
 use Rattle.answer_model.specs.Values.{IsDown, role_at, stage_at}
 use Rattle.stage_runs.specs.Works.{as_works, ins_of, AreNewStages}
-use Rattle.stage_runs.specs.Parts.{gathers_of, IsCollecting, IsNewLeaf, IsPartRun, AreRunBefore}
-use Rattle.stage_runs.proofs.AtStart.{somehow}
+use Rattle.stage_runs.specs.Parts.{gathers_of, IsNewLeaf, IsPartRun, AreRunBefore}
+use Rattle.stage_forms.specs.Starts.{IsCollecting}
+use Rattle.stage_forms.proofs.AtStart.{somehow}
 use Rattle.stage_runs.proofs.Forests.{children-are}
 use Rattle.stage_runs.proofs.Part.{IsRoot, gathers-are}
 use Rattle.stage_runs.proofs.Places.{map-at}
 use Rattle.stage_runs.proofs.Steps.{lt-false, waits, held-here, root-waits, at-root}
-use Rattle.stage_runs.proofs.Works.{collects-at-start}
+use Rattle.stage_forms.proofs.Works.{collects-at-start}
 
 -- ---- lists
 

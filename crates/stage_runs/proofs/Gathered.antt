@@ -17,7 +17,8 @@ use Rattle.stage_kinds.specs.declared.stage_work.StageWork.TheVariants.{Collecto
 use Rattle.stage_kinds.specs.Gathers.{IsGathered}
 use Rattle.stage_kinds.specs.Held.{op_of, op_on, held_by}
 use Rattle.stage_kinds.specs.Stages.{is_leaf, is_short}
-use Rattle.stage_runs.specs.Parts.{IsCollecting, IsNewLeaf, IsLater, IsLeafRun, IsGatheredAt, AreSameOrLater}
+use Rattle.stage_forms.specs.Starts.{IsCollecting}
+use Rattle.stage_runs.specs.Parts.{IsNewLeaf, IsLater, IsLeafRun, IsGatheredAt, AreSameOrLater}
 use Rattle.stage_runs.proofs.Later.{leaf-later, set-later, steps-later}
 
 module _ {S K : Type 0} where

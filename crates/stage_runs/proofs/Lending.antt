@@ -1,6 +1,5 @@
 -- The nodes of a part are lent to its net, and come back.
-use Rattle.std.proofs.Common.{◌≡◌, ◌≢◌, ◌⊎◌, ℕ, ◌+◌, ◌-◌, ◌<◌, ◌≤◌, ◌↔◌, ◌==◌, ◌||◌, Bool, true, false, true≢false, List, [], ◌++◌, take, drop, length, slice_get, Some, None, refl, ap, sym, subst, ◌∙◌, inl, inr, arith}
-use Rattle.std.proofs.Common.{zero, suc, ◌∷◌}
+use Rattle.std.proofs.Common.{◌≡◌, ◌≢◌, ◌⊎◌, ℕ, ◌+◌, ◌-◌, ◌<◌, ◌≤◌, ◌↔◌, ◌==◌, ◌||◌, Bool, true, false, true≢false, List, [], ◌++◌, take, drop, length, slice_get, Some, None, refl, ap, sym, subst, ◌∙◌, inl, inr, arith, zero, suc, ◌∷◌}
 use Rattle.std.proofs.lemmas.Bool.Decides.{eqb_tells, leb_tells}
 use Rattle.std.proofs.lemmas.Option.{same_Some, slice_get_within}
 use Rattle.file_devices.specs.declared.devices.Source as source
@@ -23,7 +22,8 @@ use Rattle.stage_parts.proofs.Trees.{at_stranger}
 use Rattle.stage_runs.specs.declared.plan.Plan.{Plan}
 use Rattle.stage_runs.specs.declared.rooms.PartRoom.{PartRoom}
 use Rattle.stage_runs.specs.Works.{as_works}
-use Rattle.stage_runs.specs.Parts.{IsExchanged, IsRenewed, IsCollecting, IsNewLeaf, IsLater, AreLater, AreSameOrLater, is_own, IsNet, IsPartRun}
+use Rattle.stage_forms.specs.Starts.{IsCollecting}
+use Rattle.stage_runs.specs.Parts.{IsExchanged, IsRenewed, IsNewLeaf, IsLater, AreLater, AreSameOrLater, is_own, IsNet, IsPartRun}
 use Rattle.stage_runs.specs.Rooms.{IsRoom}
 use Rattle.stage_runs.specs.Short.{RanShort}
 use Rattle.stage_runs.proofs.Part.{same-number, other-number}

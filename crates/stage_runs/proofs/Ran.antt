@@ -35,11 +35,12 @@ use Rattle.stage_options.specs.declared.stage.StageSpec.{StageSpec}
 use Rattle.answer_model.specs.Values.{LasFile, Opened, IsDown, options_at, role_at, row_at, setting_at, stage_value, stage_input, stage_fault}
 use Rattle.answer_model.specs.Rows as rows
 use Rattle.answer_model.proofs.Values.{value-input}
-use Rattle.stage_runs.specs.Works.{HoldsNone, as_works, form_for, op_for, HaveRead, IsAtStart, AreNewStages, ReadersTell}
-use Rattle.stage_runs.specs.Ran.{wrote_of, EndsAsStage}
+use Rattle.stage_forms.specs.Starts.{HoldsNone, form_for, op_for, HaveRead, IsAtStart, wrote_of}
+use Rattle.stage_runs.specs.Works.{as_works, AreNewStages, ReadersTell}
+use Rattle.stage_runs.specs.Ran.{EndsAsStage}
 use Rattle.stage_runs.proofs.Kept.{writing-kept}
 use Rattle.stage_runs.proofs.Places.{mapped-at, map-at}
-use Rattle.stage_runs.proofs.Works.{IsLeaf, IsInner, leaf-is, inner-is, holds-nothing, IsRow, row-is, op-at-start, writing-at-start, collects-at-start, writer-row, nowhere-is}
+use Rattle.stage_forms.proofs.Works.{IsLeaf, IsInner, leaf-is, inner-is, holds-nothing, IsRow, row-is, op-at-start, writing-at-start, collects-at-start, writer-row, nowhere-is}
 
 -- a work that doesn't write wrote nothing
 wrote-none : {S K : Type 0} (w : StageWork S K) {o : Option Op} → op_of w ≡ o → (o ≡ Some Write → ⊥) → written_by w ≡ None

@@ -17,13 +17,14 @@ use Rattle.stage_options.specs.declared.stage.StageSpec.{StageSpec}
 use Rattle.stage_parts.specs.Parts.{AreHomes, home_at}
 use Rattle.answer_model.specs.Values.{IsDown, role_at}
 use Rattle.stage_runs.specs.Works.{as_works, ins_of, AreNewStages}
-use Rattle.stage_runs.specs.Parts.{gathers_of, IsCollecting, is_past, AreRunBefore}
+use Rattle.stage_runs.specs.Parts.{gathers_of, is_past, AreRunBefore}
+use Rattle.stage_forms.specs.Starts.{IsCollecting}
 use Rattle.stage_runs.specs.Short.{RanShort, SomeGathers}
 use Rattle.stage_runs.proofs.Asked.{keeps-collecting}
-use Rattle.stage_runs.proofs.AtStart.{somehow}
+use Rattle.stage_forms.proofs.AtStart.{somehow}
 use Rattle.stage_runs.proofs.Places.{map-at}
 use Rattle.stage_runs.proofs.Steps.{true-lt, home-gathers}
-use Rattle.stage_runs.proofs.Works.{collects-gathers}
+use Rattle.stage_forms.proofs.Works.{collects-gathers}
 
 pub is-short : (b : Bool) → not b ≡ false → b ≡ true
 is-short true e = refl

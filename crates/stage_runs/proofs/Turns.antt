@@ -19,7 +19,8 @@ use Rattle.answer_model.specs.Values.{IsDown, role_at}
 use Rattle.answer_model.proofs.Values.{tree-down}
 use Rattle.stage_runs.specs.Works.{as_works, ins_of, AreNewStages}
 use Rattle.stage_runs.specs.declared.plan.Plan.{Plan}
-use Rattle.stage_runs.specs.Parts.{gathers_of, AreLater, IsCollecting, IsPartRun, IsGatheredAt, AreRunBefore, AreTurned}
+use Rattle.stage_runs.specs.Parts.{gathers_of, AreLater, IsPartRun, IsGatheredAt, AreRunBefore, AreTurned}
+use Rattle.stage_forms.specs.Starts.{IsCollecting}
 use Rattle.stage_runs.specs.Short.{SomeGathers}
 use Rattle.stage_runs.proofs.Asked.{fresh-before, root-inputs, root-collects}
 use Rattle.stage_runs.proofs.Forests.{mapped, stages-forest}

@@ -1,5 +1,5 @@
 -- The nodes of a tree's stages while its parts are run, one after the other.
-use Rattle.std.specs.Prelude.{◌≡◌, ◌≢◌, ◌⊎◌, ℕ, zero, suc, ⊤, ◌+◌, ◌-◌, ◌<◌, ◌≤◌, ◌==◌, ◌||◌, nat_lt, Bool, true, false, List, [], ◌∷◌, length, map, slice_get, Some, None}
+use Rattle.std.specs.Prelude.{◌≡◌, ◌≢◌, ◌⊎◌, ℕ, zero, suc, ◌+◌, ◌-◌, ◌<◌, ◌≤◌, ◌==◌, ◌||◌, nat_lt, Bool, true, false, List, [], ◌∷◌, length, map, slice_get, Some, None}
 use Rattle.file_devices.specs.Counts.{Rose}
 use Rattle.file_devices.specs.declared.devices.Source as source
 use Rattle.file_devices.specs.declared.devices.Sink as sink
@@ -15,7 +15,6 @@ use Rattle.network_core.specs.Shown.{shown}
 use Rattle.network_solo.specs.Runs.{IsRanOver}
 use Rattle.network_solo.specs.Trees.{IsRanTree}
 use Rattle.stage_kinds.specs.declared.stage_work.StageWork.{StageWork}
-use Rattle.stage_kinds.specs.declared.stage_work.StageWork.TheVariants.{Collector}
 use Rattle.stage_kinds.specs.Gathers.{IsGathered}
 use Rattle.stage_kinds.specs.Held.{op_of, faults_of}
 use Rattle.stage_kinds.specs.Reads.{tells_of, told_of, told_fault_of}
@@ -50,11 +49,6 @@ abbrev pub is_own : List ℕ → ℕ → ℕ → ℕ → Bool
 is_own homes home root i = (i == root) || is_of homes home i
 
 -- ---- nodes
-
--- a work takes whole views
-abbrev pub IsCollecting : {S K : Type 0} → StageWork S K → Type 0
-IsCollecting (Collector c) = ⊤
-IsCollecting w = ⊥
 
 module _ {S K : Type 0} (s : source.Ghosts S) (k : sink.Ghosts K) where
   -- the node of a stage later: it holds the device that it held, whose count of faults didn't fall, and where that failed, it rose

@@ -6,7 +6,7 @@ use Rattle.stage_kinds.specs.Stages.{is_short}
 use Rattle.stage_options.specs.Roles.{is_gathering}
 use Rattle.stage_options.specs.declared.stage.StageSpec.{StageSpec}
 use Rattle.answer_model.specs.Values.{role_at}
-use Rattle.stage_runs.specs.Parts.{IsCollecting}
+use Rattle.stage_forms.specs.Starts.{IsCollecting}
 
 -- memory was wanting at one of these nodes, which takes whole views
 pub record RanShort {S K : Type 0} (old new : List (Node (StageWork S K))) : Type 0 where

@@ -9,7 +9,8 @@ ghost use Rattle.stage_kinds.specs.Stages.{is_leaf};
 ghost use Rattle.stage_kinds.specs.declared.stage_work.StageWork as work_type;
 ghost use Rattle.stage_parts.specs.Parts.{is_of, part_ins};
 ghost use Rattle.stage_runs.specs.Works.{as_works};
-ghost use Rattle.stage_runs.specs.Parts.{IsExchanged, is_own, IsNewLeaf, IsCollecting, IsRenewed, IsPartRun, IsLeafRun, IsGatheredAt, AreSameOrLater};
+ghost use Rattle.stage_runs.specs.Parts.{IsExchanged, is_own, IsNewLeaf, IsRenewed, IsPartRun, IsLeafRun, IsGatheredAt, AreSameOrLater};
+ghost use Rattle.stage_forms.specs.Starts.{IsCollecting};
 ghost use Rattle.stage_runs.specs.Rooms.{IsRoom};
 ghost use Rattle.stage_runs.specs.Short.{RanShort};
 

@@ -110,6 +110,7 @@ impl<S: Source, K: FileSink> StageRoom<S, K> {
         requires room { 0 < queue }
         requires small { queue ≤ 64 }
         ensures room { IfOk result (IsStageRoom S.Source K.Sink stages.now) }
+        ensures chunk { IfOk result (λ room. room.sizes.chunk ≡ chunk) }
         ensures queue { IfOk result (λ room. room.sizes.queue ≡ queue) }
     {
         let plan = Plan::new(alloc, stages)?;

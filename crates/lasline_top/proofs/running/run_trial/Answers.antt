@@ -1,5 +1,5 @@
 use Rattle.std.proofs.Common.{rules, arith, refl, ◌≡◌, Err, subst, ◌∙◌}
-use Rattle.run_engine.proofs.Causes.{rose-within}
+use Rattle.run_outcome.proofs.Causes.{rose-within}
 use Rattle.file_devices.specs.Content.{Appends, AppendsPart}
 use Rattle.cloud_gen.specs.GeneratedFile.{generated_file, IsPut}
 use Rattle.run_report.proofs.Lines.{OnOk-more}

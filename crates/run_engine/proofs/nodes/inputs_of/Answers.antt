@@ -2,7 +2,7 @@ use Rattle.std.proofs.Common.{ℕ, List, length, refl, ap, sym, ◌∙◌, arith
 use Rattle.std.proofs.lemmas.Option.{slice_get_read}
 use Rattle.stage_options.specs.declared.stage.StageSpec.{StageSpec}
 use Rattle.run_engine.proofs.Inputs.{input-count}
-use Rattle.run_engine.proofs.Opening.{stage-is}
+use Rattle.run_outcome.proofs.Stages.{stage-is}
 use Rattle.run_engine.proofs.nodes.inputs_of.Goals as goal
 
 pub overflow_cast-result : goal.overflow_cast-result

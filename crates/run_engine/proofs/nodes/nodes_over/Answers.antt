@@ -4,9 +4,9 @@ use Rattle.std.proofs.lemmas.List.{map-append, reverse-reverse}
 use Rattle.std.specs.Prelude.{slice_get}
 use Rattle.network_core.specs.Shown.{work_of}
 use Rattle.answer_model.specs.Values.{stage_at}
-use Rattle.stage_runs.specs.Works.{AreAtStart}
-use Rattle.stage_runs.proofs.AtStart.{somehow}
-use Rattle.run_engine.proofs.Lists.{each-push, popped, one_less, none_left, take-more}
+use Rattle.stage_forms.specs.Starts.{AreAtStart}
+use Rattle.stage_forms.proofs.AtStart.{somehow}
+use Rattle.held_devices.proofs.Lists.{each-push, popped, one_less, none_left, take-more}
 use Rattle.run_engine.proofs.Inputs.{leaf-at}
 use Rattle.run_engine.proofs.NewNodes.{IsNew}
 use Rattle.run_engine.proofs.nodes.nodes_over.Goals as goal

@@ -11,4 +11,4 @@ returns-in-Reader-clause-ok g c =
 pub returns-in-Writer-clause-ok : goal.returns-in-Writer-clause-ok
 returns-in-Writer-clause-ok g c =
     let ensures = c.written_views.ensures in
-    writer-gave g.S.Source.bytes g.K.Sink.bytes c.args.taken c.args.work.now c.in-Writer.writer c.written_views.new.writer c.written_views.result c.in-Writer.is ensures.form ensures.fault ensures.all ensures.holds
+    writer-gave g.S.Source.bytes g.K.Sink.bytes c.args.taken c.args.work.now c.in-Writer.writer c.written_views.new.writer c.written_views.result c.in-Writer.is ensures.form ensures.fault ensures.value ensures.holds

@@ -1,4 +1,4 @@
-use Rattle.std.proofs.Common.{◌≡◌, ◌≤◌, ◌+◌, [], take, length, true, None}
+use Rattle.std.proofs.Common.{◌≡◌, ◌≤◌, [], take, length, true, None}
 use Rattle.cloud_points.specs.Flows.{all_of}
 use Rattle.cloud_points.specs.Queue.{up_to_limit}
 use Rattle.stage_kinds.specs.Files.{chosen, count_of, sink_of}

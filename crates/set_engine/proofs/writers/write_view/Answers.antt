@@ -1,9 +1,6 @@
-use Rattle.std.proofs.Common.{◌≡◌, ◌<◌, ◌+◌, ◌++◌, ℕ, [], ◌∷◌, length, take, true, ap, sym, subst, ◌∙◌, arith, append_assoc}
+use Rattle.std.proofs.Common.{◌≡◌, ◌<◌, ◌+◌, ◌++◌, length, take, true, ap, sym, subst, ◌∙◌, arith, append_assoc}
 use Rattle.std.proofs.lemmas.List.{take_more}
-use Rattle.cloud_points.specs.Queue.{up_to_limit}
-use Rattle.stage_kinds.specs.Files.{chosen}
-use Rattle.stage_kinds.specs.Stages.{holds_chosen, only_of, writes_of}
-use Rattle.stage_kinds.specs.declared.file_form.Writing.{Writing}
+use Rattle.stage_kinds.specs.Stages.{holds_chosen, writes_of}
 use Rattle.set_engine.proofs.Firsts.{refused_here, taken_more, written_more}
 use Rattle.set_engine.proofs.writers.write_view.Goals as goal
 
@@ -12,8 +9,8 @@ returns-in-Err-Refused-clause-err g c =
     let i = c.loop-p.p-index in
     let now = c.loop-p.invariant in
     let lt : i < length c.args.view.now = omega arith in
-    rw c.in-Err-Refused.field-0-is (λ k begun. refused_here (writes_of c.args.writer.now) (writes_of c.loop-p.writer) k _ c.args.view.now i c.args.before c.loop-p.number _ c.in-Err-Refused.field-0 c.in-Err-Refused.reason
-    lt now.number now.form (now.none k begun) (now.count k begun) c.in-Err-Refused.ensures.err c.in-Err-Refused.field-0-is)
+    rw c.in-Err-Refused.field-0-is (λ k begun. refused_here (writes_of c.args.writer.now) (writes_of c.loop-p.writer) k _ c.args.view.now i c.loop-p.place c.args.before c.loop-p.number _ c.in-Err-Refused.field-0 c.in-Err-Refused.reason
+    lt now.place now.number now.form (now.none k begun) (now.count k begun) c.in-Err-Refused.ensures.err c.in-Err-Refused.field-0-is)
 
 pub loop-p-preserved : goal.loop-p-preserved
 loop-p-preserved g c =
@@ -23,6 +20,7 @@ loop-p-preserved g c =
     let x = writes_of c.args.writer.now in
     let lt : i < length view = omega arith in
     record {
+      place = (let a = now.place in omega (arith, a));
       number = (let a = c.saturating_add-number.ensures in let b = now.number in omega (arith, a, b));
       form = c.take.ensures.form ∙ now.form;
       none = λ k begun. taken_more x (writes_of c.loop-p.writer) k _ view i _ lt now.form (now.none k begun) (now.count k begun) c.in-Ok.ensures.ok;

@@ -11,6 +11,7 @@ invariant-loop-p g l =
     let sink = g.K.Sink in
     let before = take l.p-index l.view in
     record {
+      place : l.place ≡ l.p-index;
       number : l.number ≡ up_to_limit (l.before + l.p-index);
       form : writes_of l.writer ≡ writes_of l.fn.writer;
       none : (k : ℕ) → count_of l.fn.writer.file ≡ up_to_limit k → first_stop (writes_of l.fn.writer) (up_to_limit k) before ≡ None;

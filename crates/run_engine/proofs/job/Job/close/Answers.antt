@@ -1,208 +1,219 @@
-use Rattle.std.proofs.Common.{◌+◌, length, refl, ap, sym, subst, ◌∙◌, arith}
-use Rattle.std.specs.Prelude.{Err}
+use Rattle.std.proofs.Common.{◌≡◌, ◌+◌, length, Err, refl, ap, sym, subst, ◌∙◌, arith}
+use Rattle.std.specs.Prelude.{None, Some}
 use Rattle.file_devices.specs.Counts.{Rose}
 use Rattle.stage_kinds.specs.Held.{faults_of}
 use Rattle.answer_model.specs.Values.{Opened}
 use Rattle.answer_model.specs.Runs.{run_of, opened_in}
-use Rattle.set_engine.specs.Evaluated.{AreTold}
-use Rattle.run_engine.specs.declared.job.Step.TheVariants.{Ran}
+use Rattle.stage_forms.specs.Starts.{AreTold}
+use Rattle.run_outcome.specs.Outcomes.{refusal_for}
+use Rattle.run_outcome.proofs.Outcomes.{not-refused}
+use Rattle.run_outcome.proofs.Results.{on-ok, err-of}
+use Rattle.run_ending.specs.Finished.{IsUnfinished}
+use Rattle.run_ending.proofs.Keeping.{untold-kept, untold-broke}
+use Rattle.run_engine.specs.Done.{AreDone}
 use Rattle.run_engine.specs.Jobs.{HaveCome, CameTo}
-use Rattle.run_engine.specs.Turns.{AreDone, IsUnfinished}
-use Rattle.run_engine.proofs.Keeping.{untold-kept, untold-broke}
-use Rattle.run_engine.proofs.Results.{on-ok, err-of}
 use Rattle.run_engine.proofs.Ran.{later-on, done-on}
-use Rattle.run_engine.proofs.Answers.{early-left, turns-to-cause, turns-early, unfinished-to-cause, unfinished-early, same-held, fit, is-run, unkept-cause, unkept-left}
+use Rattle.run_engine.proofs.Answers.{early-left, fault-cause, fault-early, unfinished-to-cause, unfinished-early, same-held, fit, is-run, unkept-cause, unkept-left}
 use Rattle.run_engine.proofs.job.Job.close.Goals as goal
 
-pub returns-in-Ran-Err-clause-err : goal.returns-in-Ran-Err-clause-err
-returns-in-Ran-Err-clause-err g c =
-    let s = g.S.Source in
-    let k = g.K.Sink in
-    let files = g.F.Files in
-    let map = files.map c.args.files.now in
-    let stages = c.args.stages.now in
-    let faults = faults_of s.faults k.faults in
-    let ran = c.requires.ran in
-    let works = c.args.self.works.items in
-    let failed = subst (λ r. HaveCome s k stages ran.before works (Ran r)) c.in-Ran-Err.field-0-is (subst (HaveCome s k stages ran.before works) c.in-Ran-Err.is ran.came) in
-    turns-to-cause s faults map stages ran.before works (files.faults c.args.files.now) (files.faults c.args.files.now) (files.faults c.release_works.new.files)
-    ran.ready.count ran.ready.come ran.ready.tell ran.ready.devices (omega arith) c.release_works.ensures.counted c.in-Ran-Err.refusal failed
-
-pub returns-in-Ran-Err-clause-left : goal.returns-in-Ran-Err-clause-left
-returns-in-Ran-Err-clause-left g c =
-    let s = g.S.Source in
-    let k = g.K.Sink in
-    let files = g.F.Files in
-    let map = files.map c.args.files.now in
-    let stages = c.args.stages.now in
-    let faults = faults_of s.faults k.faults in
-    let ran = c.requires.ran in
-    let works = c.args.self.works.items in
-    let failed = subst (λ r. HaveCome s k stages ran.before works (Ran r)) c.in-Ran-Err.field-0-is (subst (HaveCome s k stages ran.before works) c.in-Ran-Err.is ran.came) in
-    λ m e. early-left c.in-Ran-Err.refusal map (files.map c.release_works.new.files) (run_of m stages) (turns-early s faults stages ran.before works c.in-Ran-Err.refusal failed) c.release_works.ensures.map
-
 pub returns-in-Err-clause-err : goal.returns-in-Err-clause-err
-returns-in-Err-clause-err g c =
+returns-in-Err-clause-err g c = λ first ran.
     let s = g.S.Source in
     let k = g.K.Sink in
     let files = g.F.Files in
-    let map = files.map c.args.files.now in
     let stages = c.args.stages.now in
     let faults = faults_of s.faults k.faults in
-    let ran = c.requires.ran in
     let works = c.args.self.works.items in
-    let came = subst (λ r. HaveCome s k stages ran.before works (Ran r)) c.in-Ran-Ok.field-0-is (subst (HaveCome s k stages ran.before works) c.in-Ran-Ok.is ran.came) in
-    let done = c.finish-works.result.works.items in
-    let unfinished = err-of (IsUnfinished faults works done) c.finish-works.result.outcome c.in-Err.refusal c.in-Err.is c.finish-works.ensures.err in
-    unfinished-to-cause k faults map stages works done (files.faults c.args.files.now) (files.faults c.args.files.now) (files.faults c.release_works-in-Err.new.files)
-    (ran.later.count ∙ ran.ready.count) (fit s k map stages ran.before works ran.ready faults ran.later) ran.ready.come
-    c.in-Ran-Ok.report.items (λ m e. came (opened_in m stages) (ran.ready.tell m e)) (omega arith) c.release_works-in-Err.ensures.counted c.in-Err.refusal unfinished
+    let came = subst (HaveCome s k stages ran.before works) c.in-Done.is ran.came in
+    let found : refusal_for c.in-Done.ended.faults.items ≡ Some c.in-Err.refusal = subst (λ fs. refusal_for fs ≡ Some c.in-Err.refusal) c.as_slice.ensures.value c.in-Err.ensures.err in
+    fault-cause s k first stages ran.before works c.in-Done.ended.faults.items c.in-Done.ended.report.items came (files.faults c.args.files.now) (files.faults c.args.files.now) (files.faults c.release_works-in-Err.new.files)
+    ran.ready.count ran.ready.come ran.ready.tell ran.ready.devices (omega arith) c.release_works-in-Err.ensures.counted c.in-Err.refusal found
 
 pub returns-in-Err-clause-left : goal.returns-in-Err-clause-left
-returns-in-Err-clause-left g c =
+returns-in-Err-clause-left g c = λ m ran.
     let s = g.S.Source in
     let k = g.K.Sink in
     let files = g.F.Files in
-    let map = files.map c.args.files.now in
+    let stages = c.args.stages.now in
+    let faults = faults_of s.faults k.faults in
+    let works = c.args.self.works.items in
+    let came = subst (HaveCome s k stages ran.before works) c.in-Done.is ran.came in
+    let found : refusal_for c.in-Done.ended.faults.items ≡ Some c.in-Err.refusal = subst (λ fs. refusal_for fs ≡ Some c.in-Err.refusal) c.as_slice.ensures.value c.in-Err.ensures.err in
+    early-left c.in-Err.refusal (files.map c.args.files.now) (files.map c.release_works-in-Err.new.files) (run_of m stages)
+    (fault-early s k (Some m) stages ran.before works c.in-Done.ended.faults.items c.in-Done.ended.report.items came c.in-Err.refusal found) c.release_works-in-Err.ensures.map
+
+pub returns-in-Err-clause-refused : goal.returns-in-Err-clause-refused
+returns-in-Err-clause-refused g c = λ refusal came.
+    let met : refusal_for c.in-Done.ended.faults.items ≡ Some refusal = subst (CameTo {S = g.row.S.Denot} {K = g.row.K.Denot} refusal) c.in-Done.is came in
+    let found : refusal_for c.in-Done.ended.faults.items ≡ Some c.in-Err.refusal = subst (λ fs. refusal_for fs ≡ Some c.in-Err.refusal) c.as_slice.ensures.value c.in-Err.ensures.err in
+    let both : Some c.in-Err.refusal ≡ Some refusal = sym found ∙ met in
+    let same : c.in-Err.refusal ≡ refusal = cc in
+    (ap Err same, c.release_works-in-Err.ensures.map)
+
+pub returns-in-Err-outcome-clause-err : goal.returns-in-Err-outcome-clause-err
+returns-in-Err-outcome-clause-err g c = λ first ran.
+    let s = g.S.Source in
+    let k = g.K.Sink in
+    let files = g.F.Files in
     let stages = c.args.stages.now in
     let faults = faults_of s.faults k.faults in
     let works = c.args.self.works.items in
     let done = c.finish-works.result.works.items in
-    let unfinished = err-of (IsUnfinished faults works done) c.finish-works.result.outcome c.in-Err.refusal c.in-Err.is c.finish-works.ensures.err in
-    λ m e. early-left c.in-Err.refusal map (files.map c.release_works-in-Err.new.files) (run_of m stages) (unfinished-early faults works done c.in-Err.refusal unfinished) c.release_works-in-Err.ensures.map
+    let came = subst (HaveCome s k stages ran.before works) c.in-Done.is ran.came in
+    let none : refusal_for c.in-Done.ended.faults.items ≡ None = subst (λ fs. refusal_for fs ≡ None) c.as_slice.ensures.value c.in_default.ensures.ok in
+    let sound = not-refused c.in-Done.ended.faults.items none in
+    let unfinished = err-of (IsUnfinished faults works done) c.finish-works.result.outcome c.in-Err-outcome.refusal c.in-Err-outcome.is c.finish-works.ensures.err in
+    unfinished-to-cause k faults first stages works done (files.faults c.args.files.now) (files.faults c.args.files.now) (files.faults c.release_works-in-Err-outcome.new.files)
+    (ran.later.count ∙ ran.ready.count) (fit s k first stages ran.before works ran.ready faults ran.later) ran.ready.come
+    c.in-Done.ended.report.items (λ m e. came.sound sound (opened_in m stages) (ran.ready.tell m e)) (omega arith) c.release_works-in-Err-outcome.ensures.counted c.in-Err-outcome.refusal unfinished
 
-pub returns-in-Err-clause-lent : goal.returns-in-Err-clause-lent
-returns-in-Err-clause-lent g c =
+pub returns-in-Err-outcome-clause-left : goal.returns-in-Err-outcome-clause-left
+returns-in-Err-outcome-clause-left g c = λ m ran.
     let s = g.S.Source in
     let k = g.K.Sink in
+    let files = g.F.Files in
+    let stages = c.args.stages.now in
     let faults = faults_of s.faults k.faults in
     let works = c.args.self.works.items in
     let done = c.finish-works.result.works.items in
-    λ others h. c.release_works-in-Err.ensures.lent others (h ∙ ap (λ n. others + n) (sym (same-held faults works done c.finish-works.ensures.later)))
+    let unfinished = err-of (IsUnfinished faults works done) c.finish-works.result.outcome c.in-Err-outcome.refusal c.in-Err-outcome.is c.finish-works.ensures.err in
+    early-left c.in-Err-outcome.refusal (files.map c.args.files.now) (files.map c.release_works-in-Err-outcome.new.files) (run_of m stages)
+    (unfinished-early faults works done c.in-Err-outcome.refusal unfinished) c.release_works-in-Err-outcome.ensures.map
+
+pub returns-in-Err-outcome-clause-lent : goal.returns-in-Err-outcome-clause-lent
+returns-in-Err-outcome-clause-lent g c =
+    let faults = faults_of g.S.Source.faults g.K.Sink.faults in
+    let works = c.args.self.works.items in
+    let done = c.finish-works.result.works.items in
+    λ others h. c.release_works-in-Err-outcome.ensures.lent others (h ∙ ap (λ n. others + n) (sym (same-held faults works done c.finish-works.ensures.later)))
+
+pub returns-in-Err-outcome-clause-refused : goal.returns-in-Err-outcome-clause-refused
+returns-in-Err-outcome-clause-refused g c = λ refusal came.
+    let met : refusal_for c.in-Done.ended.faults.items ≡ Some refusal = subst (CameTo {S = g.row.S.Denot} {K = g.row.K.Denot} refusal) c.in-Done.is came in
+    let none : refusal_for c.in-Done.ended.faults.items ≡ None = subst (λ fs. refusal_for fs ≡ None) c.as_slice.ensures.value c.in_default.ensures.ok in
+    let no : None ≡ Some refusal = sym none ∙ met in
+    absurd cc
 
 pub keep_works-requires-clause-fit : goal.keep_works-requires-clause-fit
 keep_works-requires-clause-fit g c =
     let s = g.S.Source in
     let k = g.K.Sink in
     let files = g.F.Files in
-    let map = files.map c.args.files.now in
     let stages = c.args.stages.now in
-    let faults = faults_of s.faults k.faults in
-    let ran = c.requires.ran in
-    let works = c.args.self.works.items in
-    let done = c.finish-works.result.works.items in
-    let later = later-on faults ran.before works done ran.later c.finish-works.ensures.later in
-    fit s k map stages ran.before done ran.ready faults later
-
-pub returns-in-Ok-clause-ok : goal.returns-in-Ok-clause-ok
-returns-in-Ok-clause-ok g c =
-    let s = g.S.Source in
-    let k = g.K.Sink in
-    let files = g.F.Files in
-    let map = files.map c.args.files.now in
-    let stages = c.args.stages.now in
-    let faults = faults_of s.faults k.faults in
-    let ran = c.requires.ran in
-    let works = c.args.self.works.items in
-    let came = subst (λ r. HaveCome s k stages ran.before works (Ran r)) c.in-Ran-Ok.field-0-is (subst (HaveCome s k stages ran.before works) c.in-Ran-Ok.is ran.came) in
-    let done = c.finish-works.result.works.items in
-    let later = later-on faults ran.before works done ran.later c.finish-works.ensures.later in
-    let counts = c.in-Ran-Ok.report.items in
-    let ended : (opened : Opened) → AreTold s ran.before opened → AreDone k.bytes stages opened done counts = λ opened tell.
-    done-on faults ran.before works done ran.later c.finish-works.ensures.later k.bytes stages opened counts (on-ok c.finish-works.result.outcome c.in_default.field-0 c.in_default.is c.finish-works.ensures.finished) (came opened tell) in
-    λ m e. is-run s k map stages ran.before done ran.ready faults later counts ended m e (files.map c.keep_works.new.files) c.in-Ok.ensures.ok
-
-pub returns-in-Ok-clause-untold : goal.returns-in-Ok-clause-untold
-returns-in-Ok-clause-untold g c =
-    let k = g.K.Sink in
-    let files = g.F.Files in
-    let map = files.map c.args.files.now in
-    let stages = c.args.stages.now in
-    let done = c.finish-works.result.works.items in
-    λ none. untold-kept k.bytes (length done) map map (files.map c.keep_works.new.files) stages done refl c.in-Ok.ensures.ok none
-
-pub returns-in-Ok-clause-lent : goal.returns-in-Ok-clause-lent
-returns-in-Ok-clause-lent g c =
-    let s = g.S.Source in
-    let k = g.K.Sink in
     let faults = faults_of s.faults k.faults in
     let works = c.args.self.works.items in
     let done = c.finish-works.result.works.items in
-    λ others h. c.keep_works.ensures.lent others (h ∙ ap (λ n. others + n) (sym (same-held faults works done c.finish-works.ensures.later)))
+    let first = c.requires.ran.0 in
+    let ran = c.requires.ran.1 in
+    fit s k first stages ran.before done ran.ready faults (later-on faults ran.before works done ran.later c.finish-works.ensures.later)
 
 pub returns-in-Err-keep_works-clause-err : goal.returns-in-Err-keep_works-clause-err
-returns-in-Err-keep_works-clause-err g c =
+returns-in-Err-keep_works-clause-err g c = λ first ran.
     let s = g.S.Source in
     let k = g.K.Sink in
     let files = g.F.Files in
-    let map = files.map c.args.files.now in
     let stages = c.args.stages.now in
     let faults = faults_of s.faults k.faults in
-    let ran = c.requires.ran in
     let works = c.args.self.works.items in
-    let came = subst (λ r. HaveCome s k stages ran.before works (Ran r)) c.in-Ran-Ok.field-0-is (subst (HaveCome s k stages ran.before works) c.in-Ran-Ok.is ran.came) in
     let done = c.finish-works.result.works.items in
+    let why = c.in-Err-keep_works.refusal in
+    let rose = Rose (files.faults c.args.files.now) (files.faults c.keep_works.new.files) in
+    let came = subst (HaveCome s k stages ran.before works) c.in-Done.is ran.came in
+    let none : refusal_for c.in-Done.ended.faults.items ≡ None = subst (λ fs. refusal_for fs ≡ None) c.as_slice.ensures.value c.in_default.ensures.ok in
+    let sound = not-refused c.in-Done.ended.faults.items none in
     let later = later-on faults ran.before works done ran.later c.finish-works.ensures.later in
-    let counts = c.in-Ran-Ok.report.items in
+    let counts = c.in-Done.ended.report.items in
     let ended : (opened : Opened) → AreTold s ran.before opened → AreDone k.bytes stages opened done counts = λ opened tell.
-    done-on faults ran.before works done ran.later c.finish-works.ensures.later k.bytes stages opened counts (on-ok c.finish-works.result.outcome c.in_default.field-0 c.in_default.is c.finish-works.ensures.finished) (came opened tell) in
-    unkept-cause s k map stages ran.before done ran.ready faults later counts ended (Rose (files.faults c.args.files.now) (files.faults c.keep_works.new.files)) (files.map c.keep_works.new.files)
-    c.in-Err-keep_works.refusal c.in-Err-keep_works.ensures.err
+    done-on faults ran.before works done ran.later c.finish-works.ensures.later k.bytes stages opened counts (on-ok c.finish-works.result.outcome c.in_default-outcome.field-0 c.in_default-outcome.is c.finish-works.ensures.finished) (came.sound sound opened tell) in
+    unkept-cause s k first stages ran.before done ran.ready faults later counts ended rose (files.map c.args.files.now) (files.map c.keep_works.new.files) why c.in-Err-keep_works.ensures.err
 
 pub returns-in-Err-keep_works-clause-left : goal.returns-in-Err-keep_works-clause-left
-returns-in-Err-keep_works-clause-left g c =
+returns-in-Err-keep_works-clause-left g c = λ m ran.
     let s = g.S.Source in
     let k = g.K.Sink in
     let files = g.F.Files in
-    let map = files.map c.args.files.now in
     let stages = c.args.stages.now in
     let faults = faults_of s.faults k.faults in
-    let ran = c.requires.ran in
     let works = c.args.self.works.items in
-    let came = subst (λ r. HaveCome s k stages ran.before works (Ran r)) c.in-Ran-Ok.field-0-is (subst (HaveCome s k stages ran.before works) c.in-Ran-Ok.is ran.came) in
     let done = c.finish-works.result.works.items in
+    let why = c.in-Err-keep_works.refusal in
+    let old = files.map c.args.files.now in
+    let new = files.map c.keep_works.new.files in
+    let came = subst (HaveCome s k stages ran.before works) c.in-Done.is ran.came in
+    let none : refusal_for c.in-Done.ended.faults.items ≡ None = subst (λ fs. refusal_for fs ≡ None) c.as_slice.ensures.value c.in_default.ensures.ok in
+    let sound = not-refused c.in-Done.ended.faults.items none in
     let later = later-on faults ran.before works done ran.later c.finish-works.ensures.later in
-    let counts = c.in-Ran-Ok.report.items in
+    let counts = c.in-Done.ended.report.items in
     let ended : (opened : Opened) → AreTold s ran.before opened → AreDone k.bytes stages opened done counts = λ opened tell.
-    done-on faults ran.before works done ran.later c.finish-works.ensures.later k.bytes stages opened counts (on-ok c.finish-works.result.outcome c.in_default.field-0 c.in_default.is c.finish-works.ensures.finished) (came opened tell) in
-    λ m e. unkept-left s k map stages ran.before done ran.ready faults later counts ended (Rose (files.faults c.args.files.now) (files.faults c.keep_works.new.files)) (files.map c.keep_works.new.files)
-    c.in-Err-keep_works.refusal c.in-Err-keep_works.ensures.err m e
+    done-on faults ran.before works done ran.later c.finish-works.ensures.later k.bytes stages opened counts (on-ok c.finish-works.result.outcome c.in_default-outcome.field-0 c.in_default-outcome.is c.finish-works.ensures.finished) (came.sound sound opened tell) in
+    unkept-left s k (Some m) stages ran.before done ran.ready faults later counts ended (Rose (files.faults c.args.files.now) (files.faults c.keep_works.new.files)) old new why c.in-Err-keep_works.ensures.err m refl
+
+pub returns-in-Err-keep_works-clause-refused : goal.returns-in-Err-keep_works-clause-refused
+returns-in-Err-keep_works-clause-refused g c = λ refusal came.
+    let met : refusal_for c.in-Done.ended.faults.items ≡ Some refusal = subst (CameTo {S = g.row.S.Denot} {K = g.row.K.Denot} refusal) c.in-Done.is came in
+    let none : refusal_for c.in-Done.ended.faults.items ≡ None = subst (λ fs. refusal_for fs ≡ None) c.as_slice.ensures.value c.in_default.ensures.ok in
+    let no : None ≡ Some refusal = sym none ∙ met in
+    absurd cc
 
 pub returns-in-Err-keep_works-clause-untold : goal.returns-in-Err-keep_works-clause-untold
 returns-in-Err-keep_works-clause-untold g c =
+    let s = g.S.Source in
     let k = g.K.Sink in
     let files = g.F.Files in
-    let map = files.map c.args.files.now in
     let stages = c.args.stages.now in
+    let faults = faults_of s.faults k.faults in
+    let works = c.args.self.works.items in
     let done = c.finish-works.result.works.items in
+    let map = files.map c.args.files.now in
     λ none. untold-broke k.bytes map map (files.map c.keep_works.new.files) (Rose (files.faults c.args.files.now) (files.faults c.keep_works.new.files)) stages done c.in-Err-keep_works.refusal refl c.in-Err-keep_works.ensures.err none
 
 pub returns-in-Err-keep_works-clause-lent : goal.returns-in-Err-keep_works-clause-lent
 returns-in-Err-keep_works-clause-lent g c =
-    let s = g.S.Source in
-    let k = g.K.Sink in
-    let faults = faults_of s.faults k.faults in
+    let faults = faults_of g.S.Source.faults g.K.Sink.faults in
     let works = c.args.self.works.items in
     let done = c.finish-works.result.works.items in
     λ others h. c.keep_works.ensures.lent others (h ∙ ap (λ n. others + n) (sym (same-held faults works done c.finish-works.ensures.later)))
 
-pub returns-in-Ran-Err-clause-refused : goal.returns-in-Ran-Err-clause-refused
-returns-in-Ran-Err-clause-refused g c = λ refusal came.
-    let met = subst (CameTo {S = g.row.S.Denot} {K = g.row.K.Denot} refusal) c.in-Ran-Err.is came in
-    let same = subst (λ r. CameTo {S = g.row.S.Denot} {K = g.row.K.Denot} refusal (Ran r)) c.in-Ran-Err.field-0-is met in
-    (ap Err same, c.release_works.ensures.map)
-
-pub returns-in-Err-clause-refused : goal.returns-in-Err-clause-refused
-returns-in-Err-clause-refused g c = λ refusal came.
-    let met = subst (CameTo {S = g.row.S.Denot} {K = g.row.K.Denot} refusal) c.in-Ran-Ok.is came in
-    absurd (subst (λ r. CameTo {S = g.row.S.Denot} {K = g.row.K.Denot} refusal (Ran r)) c.in-Ran-Ok.field-0-is met)
+pub returns-in-Ok-clause-ok : goal.returns-in-Ok-clause-ok
+returns-in-Ok-clause-ok g c = λ m ran.
+    let s = g.S.Source in
+    let k = g.K.Sink in
+    let files = g.F.Files in
+    let stages = c.args.stages.now in
+    let faults = faults_of s.faults k.faults in
+    let works = c.args.self.works.items in
+    let done = c.finish-works.result.works.items in
+    let came = subst (HaveCome s k stages ran.before works) c.in-Done.is ran.came in
+    let none : refusal_for c.in-Done.ended.faults.items ≡ None = subst (λ fs. refusal_for fs ≡ None) c.as_slice.ensures.value c.in_default.ensures.ok in
+    let sound = not-refused c.in-Done.ended.faults.items none in
+    let later = later-on faults ran.before works done ran.later c.finish-works.ensures.later in
+    let counts = c.in-Done.ended.report.items in
+    let ended : (opened : Opened) → AreTold s ran.before opened → AreDone k.bytes stages opened done counts = λ opened tell.
+    done-on faults ran.before works done ran.later c.finish-works.ensures.later k.bytes stages opened counts (on-ok c.finish-works.result.outcome c.in_default-outcome.field-0 c.in_default-outcome.is c.finish-works.ensures.finished) (came.sound sound opened tell) in
+    is-run s k (Some m) stages ran.before done ran.ready faults later counts ended m refl (files.map c.args.files.now) (files.map c.keep_works.new.files) c.in-Ok.ensures.ok
 
 pub returns-in-Ok-clause-refused : goal.returns-in-Ok-clause-refused
 returns-in-Ok-clause-refused g c = λ refusal came.
-    let met = subst (CameTo {S = g.row.S.Denot} {K = g.row.K.Denot} refusal) c.in-Ran-Ok.is came in
-    absurd (subst (λ r. CameTo {S = g.row.S.Denot} {K = g.row.K.Denot} refusal (Ran r)) c.in-Ran-Ok.field-0-is met)
+    let met : refusal_for c.in-Done.ended.faults.items ≡ Some refusal = subst (CameTo {S = g.row.S.Denot} {K = g.row.K.Denot} refusal) c.in-Done.is came in
+    let none : refusal_for c.in-Done.ended.faults.items ≡ None = subst (λ fs. refusal_for fs ≡ None) c.as_slice.ensures.value c.in_default.ensures.ok in
+    let no : None ≡ Some refusal = sym none ∙ met in
+    absurd cc
 
-pub returns-in-Err-keep_works-clause-refused : goal.returns-in-Err-keep_works-clause-refused
-returns-in-Err-keep_works-clause-refused g c = λ refusal came.
-    let met = subst (CameTo {S = g.row.S.Denot} {K = g.row.K.Denot} refusal) c.in-Ran-Ok.is came in
-    absurd (subst (λ r. CameTo {S = g.row.S.Denot} {K = g.row.K.Denot} refusal (Ran r)) c.in-Ran-Ok.field-0-is met)
+pub returns-in-Ok-clause-untold : goal.returns-in-Ok-clause-untold
+returns-in-Ok-clause-untold g c =
+    let s = g.S.Source in
+    let k = g.K.Sink in
+    let files = g.F.Files in
+    let stages = c.args.stages.now in
+    let faults = faults_of s.faults k.faults in
+    let works = c.args.self.works.items in
+    let done = c.finish-works.result.works.items in
+    let map = files.map c.args.files.now in
+    λ none. untold-kept k.bytes (length done) map map (files.map c.keep_works.new.files) stages done refl c.in-Ok.ensures.ok none
+
+pub returns-in-Ok-clause-lent : goal.returns-in-Ok-clause-lent
+returns-in-Ok-clause-lent g c =
+    let faults = faults_of g.S.Source.faults g.K.Sink.faults in
+    let works = c.args.self.works.items in
+    let done = c.finish-works.result.works.items in
+    λ others h. c.keep_works.ensures.lent others (h ∙ ap (λ n. others + n) (sym (same-held faults works done c.finish-works.ensures.later)))

@@ -1,14 +1,15 @@
-use Rattle.std.proofs.Common.{length, ap, sym, subst, ◌∙◌, IfOk, IfErr, OnOk, OnErr}
+use Rattle.std.proofs.Common.{rules, ◌≡◌, Err, OnErr, length, ap, sym, subst, ◌∙◌, IfOk}
+use Rattle.stage_forms.specs.Later.{AreLater}
+use Rattle.stage_forms.specs.Starts.{AreAtStart}
 use Rattle.stage_kinds.specs.Held.{faults_of}
-use Rattle.answer_model.specs.Values.{Opened}
-use Rattle.stage_runs.specs.Works.{AreAtStart}
-use Rattle.set_engine.specs.Evaluated.{AreTold, IsUnevaluated}
-use Rattle.run_engine.specs.Begun.{all_held}
-use Rattle.run_engine.specs.Jobs.{HaveCome, IsShort, IsWaiting}
-use Rattle.run_engine.specs.Turns.{AreLater, CameToEnd}
+use Rattle.stage_runs.specs.Short.{SomeGathers}
+use Rattle.held_devices.specs.Holding.{all_held}
+use Rattle.run_outcome.proofs.Results.{ok-of}
+use Rattle.set_engine.specs.Evaluated.{HaveEnded}
+use Rattle.run_engine.specs.Jobs.{HaveCome, IsShort, IsWaiting, TakesTurns}
 use Rattle.run_engine.proofs.Answers.{same-held}
 use Rattle.run_engine.proofs.Inputs.{few-stages}
-use Rattle.run_engine.proofs.Jobs.{have-come}
+use Rattle.run_engine.proofs.Waiting.{on-err}
 use Rattle.run_engine.proofs.job.Job.run_solo.Goals as goal
 
 pub evaluate-works-requires-clause-few : goal.evaluate-works-requires-clause-few
@@ -16,31 +17,70 @@ evaluate-works-requires-clause-few g c = few-stages c.args.stages.now c.requires
 
 pub evaluate-works-requires-clause-starts : goal.evaluate-works-requires-clause-starts
 evaluate-works-requires-clause-starts g c =
-    subst (λ works. AreAtStart g.K.Sink.bytes c.args.stages.now works.items) (sym c.replace-works.ensures.value) c.requires.ready.1.works.starts
+    subst (λ works. AreAtStart g.K.Sink.bytes c.args.stages.now works.items) (sym c.replace-works.ensures.value) c.requires.ready.2.works.starts
 
 pub evaluate-works-requires-clause-count : goal.evaluate-works-requires-clause-count
-evaluate-works-requires-clause-count g c = ap (λ works. length works.items) c.replace-works.ensures.value ∙ c.requires.ready.1.works.count
+evaluate-works-requires-clause-count g c = ap (λ works. length works.items) c.replace-works.ensures.value ∙ c.requires.ready.2.works.count
 
 pub evaluate-works-requires-clause-waits : goal.evaluate-works-requires-clause-waits
-evaluate-works-requires-clause-waits g c = subst (IsWaiting g.S.Source g.K.Sink c.args.stages.now) (sym c.replace-step.ensures.value) c.requires.ready.1.waits
+evaluate-works-requires-clause-waits g c =
+    let engine = c.requires.ready.0 in
+    (engine, subst (IsWaiting g.S.Source g.K.Sink engine c.args.stages.now) (sym c.replace-step.ensures.value) c.requires.ready.2.waits)
 
-pub returns-clause-ran : goal.returns-clause-ran
-returns-clause-ran g c = λ map ready.
+pub returns-in_err-ended-clause-ran : goal.returns-in_err-ended-clause-ran
+returns-in_err-ended-clause-ran g c = λ engine map ready.
     let s = g.S.Source in
     let k = g.K.Sink in
     let stages = c.args.stages.now in
     let faults = faults_of s.faults k.faults in
     let old = c.args.self.now.works.items in
     let later = subst (λ works. AreLater faults works.items c.evaluate-works.result.works.items) c.replace-works.ensures.value c.evaluate-works.ensures.later in
-    let ok = subst (λ works. IfOk c.evaluate-works.result.outcome (λ report. (opened : Opened) → AreTold s works.items opened → CameToEnd k.bytes stages opened c.evaluate-works.result.works.items report.items))
-    c.replace-works.ensures.value c.evaluate-works.ensures.ok in
-    let err = subst (λ works. IfErr c.evaluate-works.result.outcome (IsUnevaluated s faults stages works.items c.evaluate-works.result.works.items)) c.replace-works.ensures.value c.evaluate-works.ensures.err in
+    record {
+      before = old;
+      ready = ready.works;
+      later = subst (λ works. AreLater faults old works.items) (sym c.replace-blank.ensures.after) later;
+      came = subst (HaveCome s k stages old c.replace-blank.new.dest.items) (sym c.replace-step.ensures.after) tt;
+    }
+
+pub returns-in_err-ended-clause-held : goal.returns-in_err-ended-clause-held
+returns-in_err-ended-clause-held g c =
+    let faults = faults_of g.S.Source.faults g.K.Sink.faults in
+    ap (λ works. all_held works.items) c.replace-blank.ensures.after
+    ∙ same-held faults c.replace-works.result.items c.evaluate-works.result.works.items c.evaluate-works.ensures.later
+    ∙ ap (λ works. all_held works.items) c.replace-works.ensures.value
+
+pub returns-in_err-ended-clause-short : goal.returns-in_err-ended-clause-short
+returns-in_err-ended-clause-short g c =
+    let short : IsShort c.replace-step.new.dest = subst (IsShort {S = g.row.S.Denot} {K = g.row.K.Denot}) (sym c.replace-step.ensures.after) tt in
+    let refused : c.from_residual.result ≡ Err c.in_err-ended.field-0.0 = search rules in
+    subst (λ r. OnErr r (IsShort c.replace-step.new.dest)) (sym refused) short
+
+pub returns-in_err-ended-clause-gathers : goal.returns-in_err-ended-clause-gathers
+returns-in_err-ended-clause-gathers g c =
+    let refused : c.from_residual.result ≡ Err c.in_err-ended.field-0.0 = search rules in
+    let came : c.evaluate-works.result.outcome ≡ Err c.in_err-ended.field-0.0 = search rules in
+    let gathers = on-err c.evaluate-works.result.outcome c.in_err-ended.field-0.0 came c.evaluate-works.ensures.gathers in
+    subst (λ r. OnErr r (TakesTurns c.args.self.now.step → SomeGathers c.args.stages.now)) (sym refused)
+    (λ turns. gathers (subst (TakesTurns {S = g.row.S.Denot} {K = g.row.K.Denot}) (sym c.replace-step.ensures.value) turns))
+
+pub returns-clause-ran : goal.returns-clause-ran
+returns-clause-ran g c = λ engine map ready.
+    let s = g.S.Source in
+    let k = g.K.Sink in
+    let stages = c.args.stages.now in
+    let faults = faults_of s.faults k.faults in
+    let old = c.args.self.now.works.items in
+    let done = c.in_ok-ended.ended in
+    let new = c.evaluate-works.result.works.items in
+    let later = subst (λ works. AreLater faults works.items new) c.replace-works.ensures.value c.evaluate-works.ensures.later in
+    let ended = subst (λ works. IfOk c.evaluate-works.result.outcome (λ e. HaveEnded s k stages works.items new e.faults.items e.report.items)) c.replace-works.ensures.value c.evaluate-works.ensures.ended in
+    let came : HaveEnded s k stages old new done.faults.items done.report.items = ok-of (λ e. HaveEnded s k stages old new e.faults.items e.report.items) c.evaluate-works.result.outcome done (search rules) ended in
     record {
       before = old;
       ready = ready.works;
       later = subst (λ works. AreLater faults old works.items) (sym c.replace-blank.ensures.after) later;
       came = subst (λ works. HaveCome s k stages old works.items c.replace.new.dest) (sym c.replace-blank.ensures.after)
-          (subst (HaveCome s k stages old c.evaluate-works.result.works.items) (sym c.replace.ensures.after) (have-come s k stages old c.evaluate-works.result.works.items c.evaluate-works.result.outcome ok err));
+          (subst (HaveCome s k stages old new) (sym c.replace.ensures.after) came);
     }
 
 pub returns-clause-held : goal.returns-clause-held
@@ -49,9 +89,3 @@ returns-clause-held g c =
     ap (λ works. all_held works.items) c.replace-blank.ensures.after
     ∙ same-held faults c.replace-works.result.items c.evaluate-works.result.works.items c.evaluate-works.ensures.later
     ∙ ap (λ works. all_held works.items) c.replace-works.ensures.value
-
-pub returns-clause-enough : goal.returns-clause-enough
-returns-clause-enough g c = subst (λ step. OnOk c.enough-answer.result (IsShort step → ⊥)) (sym c.replace.ensures.after) c.enough-answer.ensures.ok
-
-pub returns-clause-short : goal.returns-clause-short
-returns-clause-short g c = subst (λ step. OnErr c.enough-answer.result (IsShort step)) (sym c.replace.ensures.after) c.enough-answer.ensures.err

@@ -1,0 +1,34 @@
+use Rattle.std.proofs.Common.{◌≡◌, ap, ◌∙◌, arith}
+use Rattle.held_devices.specs.Holding.{there, all_there}
+use Rattle.held_devices.proofs.Sums.{sum-pop, none-there}
+use Rattle.held_devices.proofs.release.give_back.Goals as goal
+
+pub loop-reader-preserved-in-Some-reader : goal.loop-reader-preserved-in-Some-reader
+loop-reader-preserved-in-Some-reader g c =
+    let now = c.loop-reader.invariant in
+    let done = c.done_in.ensures in
+    let sum = sum-pop there c.loop-reader.readers.items c.pop.new.self.items c.in-Some.reader c.in-Some.ensures.items in
+    let one : there c.in-Some.reader ≡ 1 = ap there c.in-Some-reader.is in
+    record {
+      map = done.map ∙ now.map;
+      lent = λ others e. (let a = now.lent others e in let d = done.lent in omega (arith, a, d, sum, one));
+      later = (let a = now.later in let b = done.later in omega (arith, a, b));
+    }
+
+pub loop-reader-preserved : goal.loop-reader-preserved
+loop-reader-preserved g c =
+    let now = c.loop-reader.invariant in
+    let sum = sum-pop there c.loop-reader.readers.items c.pop.new.self.items c.in-Some.reader c.in-Some.ensures.items in
+    let none : there c.in-Some.reader ≡ 0 = ap there c.in-None.is in
+    record {
+      map = now.map;
+      lent = λ others e. (let a = now.lent others e in omega (arith, a, sum, none));
+      later = now.later;
+    }
+
+pub returns-clause-lent : goal.returns-clause-lent
+returns-clause-lent g c = λ others e.
+    let none = none-there c.loop-reader.readers.items (let z = c.in_default.ensures.cases.0 in let k = c.loop-reader.readers.ok in omega (arith, z, k)) in
+    let a = c.loop-reader.invariant.lent others e in
+    let b : all_there c.loop-reader.readers.items ≡ 0 = ap all_there none in
+    omega (arith, a, b)

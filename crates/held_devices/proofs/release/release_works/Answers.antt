@@ -1,0 +1,38 @@
+use Rattle.std.proofs.Common.{◌≡◌, ◌+◌, refl, ap, ◌∙◌, arith}
+use Rattle.stage_kinds.specs.Held.{op_of}
+use Rattle.held_devices.specs.Holding.{there, all_held}
+use Rattle.held_devices.proofs.Sums.{sum-pop, none-there}
+use Rattle.held_devices.proofs.Releasing.{none-released, one-released, all-released}
+use Rattle.held_devices.proofs.release.release_works.Goals as goal
+
+pub loop-work-init : goal.loop-work-init
+loop-work-init g c = record {
+  map = refl;
+  lent = λ others e. e;
+  later = omega arith;
+  released = none-released g.F.In.Source.faults g.F.Out.Sink.faults c.args.works.items (g.F.Files.faults c.args.files.now) (g.F.Files.faults c.args.files.now);
+}
+
+pub loop-work-preserved : goal.loop-work-preserved
+loop-work-preserved g c =
+    let now = c.loop-work.invariant in
+    let done = c.release_work.ensures in
+    let sum = sum-pop (λ w. there (op_of w)) c.loop-work.works.items c.pop.new.self.items c.in-Some.work c.in-Some.ensures.items in
+    record {
+      map = done.map ∙ now.map;
+      lent = λ others e. done.lent (others + all_held c.pop.new.self.items) (let a = now.lent others e in omega (arith, a, sum));
+      later = (let a = now.later in let b = done.later in omega (arith, a, b));
+      released = one-released g.F.In.Source.faults g.F.Out.Sink.faults c.args.works.items (g.F.Files.faults c.args.files.now) c.loop-work.works.items c.pop.new.self.items c.in-Some.work
+          (g.F.Files.faults c.loop-work.files) (g.F.Files.faults c.release_work.new.files) c.in-Some.ensures.items now.later done.later done.counted now.released;
+    }
+
+pub returns-clause-lent : goal.returns-clause-lent
+returns-clause-lent g c = λ others e.
+    let none = none-there c.loop-work.works.items (let z = c.in_default.ensures.cases.0 in let k = c.loop-work.works.ok in omega (arith, z, k)) in
+    let a = c.loop-work.invariant.lent others e in
+    let b : all_held c.loop-work.works.items ≡ 0 = ap all_held none in
+    omega (arith, a, b)
+
+pub returns-clause-counted : goal.returns-clause-counted
+returns-clause-counted g c = all-released g.F.In.Source.faults g.F.Out.Sink.faults c.args.works.items (g.F.Files.faults c.args.files.now) c.loop-work.works.items (g.F.Files.faults c.loop-work.files)
+    (none-there c.loop-work.works.items (let z = c.in_default.ensures.cases.0 in let k = c.loop-work.works.ok in omega (arith, z, k))) c.loop-work.invariant.released

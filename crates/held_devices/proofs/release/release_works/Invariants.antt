@@ -1,0 +1,17 @@
+use Rattle.std.proofs.Common.{◌≡◌, ◌≤◌, ◌+◌, ℕ, vec_len}
+use Rattle.held_devices.specs.Holding.{all_held}
+use Rattle.held_devices.proofs.Releasing.{Released}
+use Rattle.held_devices.proofs.release.release_works.Given as goal
+
+abbrev pub invariant-loop-work : goal.invariant-loop-work
+invariant-loop-work g l =
+    let files = g.F.Files in
+    record {
+      map : files.map l.files ≡ files.map l.fn.files;
+      lent : (others : ℕ) → files.lent l.fn.files ≡ others + all_held l.fn.works.items → files.lent l.files ≡ others + all_held l.works.items;
+      later : files.faults l.fn.files ≤ files.faults l.files;
+      released : Released g.F.In.Source.faults g.F.Out.Sink.faults l.fn.works.items l.works.items (files.faults l.fn.files) (files.faults l.files);
+    }
+
+abbrev pub decreases-loop-work : goal.decreases-loop-work
+decreases-loop-work g l = vec_len l.works

@@ -1,0 +1,79 @@
+use Rattle.std.proofs.Common.{◌≡◌, ◌+◌, length, reverse, vec_len, refl, ap, sym, ◌∙◌, arith}
+use Rattle.std.proofs.lemmas.List.{reverse-reverse}
+use Rattle.std.proofs.lemmas.Option.{slice_get_read}
+use Rattle.stage_kinds.specs.Held.{op_of}
+use Rattle.stage_options.specs.Roles.{role_of}
+use Rattle.stage_forms.specs.Starts.{op_for}
+use Rattle.held_devices.specs.Holding.{there, all_held}
+use Rattle.run_ending.specs.Keeping.{kept_first}
+use Rattle.held_devices.proofs.Lists.{popped, one_less, none_left}
+use Rattle.held_devices.proofs.Sums.{sum-pop, sum-reverse, none-there}
+use Rattle.run_outcome.proofs.Stages.{role-is}
+use Rattle.run_ending.proofs.Keeping.{kept-next, broke-off}
+use Rattle.run_ending.proofs.keep.keep_works.Goals as goal
+
+pub loop-work-init : goal.loop-work-init
+loop-work-init g c = record {
+  left = ap reverse c.reverse.ensures.items ∙ reverse-reverse c.args.works.items;
+  count = (let a = c.reverse.ensures.len in let k = c.args.works.ok in omega (arith, a, k));
+  kept = refl;
+  lent = λ others e. (let a = ap all_held c.reverse.ensures.items ∙ sum-reverse (λ w. there (op_of w)) c.args.works.items in omega (arith, a, e));
+  later = omega arith;
+}
+
+pub keep_work-requires : goal.keep_work-requires
+keep_work-requires g c =
+    let now = c.loop-work.invariant in
+    let p = popped c.args.works.items c.loop-work.works.items c.pop.new.self.items c.loop-work.at c.in-Some.work now.left c.in-Some.ensures.items in
+    let n = one_less c.loop-work.at (vec_len c.loop-work.works) (vec_len c.pop.new.self) (length c.args.works.items) now.count c.in-Some.ensures.cases in
+    let at = slice_get_read c.args.stages.now (length c.args.stages.now) c.loop-work.at c.index-stages-at.result refl (let a = n.0 in let b = c.requires.count in omega (arith, a, b)) c.index-stages-at.is in
+    c.requires.fit c.loop-work.at c.in-Some.work p.0 ∙ ap op_for (sym (role-is c.args.stages.now c.loop-work.at c.index-stages-at.result at))
+
+pub returns-in-Err-clause-err : goal.returns-in-Err-clause-err
+returns-in-Err-clause-err g c =
+    let files = g.F.Files in
+    let now = c.loop-work.invariant in
+    let p = popped c.args.works.items c.loop-work.works.items c.pop.new.self.items c.loop-work.at c.in-Some.work now.left c.in-Some.ensures.items in
+    let n = one_less c.loop-work.at (vec_len c.loop-work.works) (vec_len c.pop.new.self) (length c.args.works.items) now.count c.in-Some.ensures.cases in
+    let at = slice_get_read c.args.stages.now (length c.args.stages.now) c.loop-work.at c.index-stages-at.result refl (let a = n.0 in let b = c.requires.count in omega (arith, a, b)) c.index-stages-at.is in
+    broke-off g.F.Out.Sink.bytes (files.map c.args.files.now) (files.map c.loop-work.files) (files.map c.keep_work.new.files) (files.map c.release_works.new.files)
+    (files.faults c.args.files.now) (files.faults c.loop-work.files) (files.faults c.keep_work.new.files) (files.faults c.release_works.new.files)
+    c.args.stages.now c.args.works.items c.loop-work.at c.in-Some.work (role_of c.index-stages-at.result.options) c.in-Err.refusal
+    (role-is c.args.stages.now c.loop-work.at c.index-stages-at.result at) p.0 n.0 now.kept now.later c.release_works.ensures.later c.release_works.ensures.map c.in-Err.ensures.err
+
+pub returns-in-Err-clause-lent : goal.returns-in-Err-clause-lent
+returns-in-Err-clause-lent g c = λ others e.
+    let sum = sum-pop (λ w. there (op_of w)) c.loop-work.works.items c.pop.new.self.items c.in-Some.work c.in-Some.ensures.items in
+    let a = c.loop-work.invariant.lent others e in
+    let b = c.keep_work.ensures.lent (others + all_held c.pop.new.self.items) (omega (arith, a, sum)) in
+    c.release_works.ensures.lent others b
+
+pub loop-work-preserved : goal.loop-work-preserved
+loop-work-preserved g c =
+    let files = g.F.Files in
+    let now = c.loop-work.invariant in
+    let p = popped c.args.works.items c.loop-work.works.items c.pop.new.self.items c.loop-work.at c.in-Some.work now.left c.in-Some.ensures.items in
+    let n = one_less c.loop-work.at (vec_len c.loop-work.works) (vec_len c.pop.new.self) (length c.args.works.items) now.count c.in-Some.ensures.cases in
+    let at = slice_get_read c.args.stages.now (length c.args.stages.now) c.loop-work.at c.index-stages-at.result refl (let a = n.0 in let b = c.requires.count in omega (arith, a, b)) c.index-stages-at.is in
+    let sum = sum-pop (λ w. there (op_of w)) c.loop-work.works.items c.pop.new.self.items c.in-Some.work c.in-Some.ensures.items in
+    record {
+      left = p.1;
+      count = n.1;
+      kept = kept-next g.F.Out.Sink.bytes (files.map c.args.files.now) (files.map c.loop-work.files) (files.map c.keep_work.new.files) c.args.stages.now c.args.works.items c.loop-work.at c.in-Some.work
+          (role_of c.index-stages-at.result.options) (role-is c.args.stages.now c.loop-work.at c.index-stages-at.result at) p.0 now.kept c.in-Ok.ensures.ok;
+      lent = λ others e. (let a = now.lent others e in c.keep_work.ensures.lent (others + all_held c.pop.new.self.items) (omega (arith, a, sum)));
+      later = (let a = now.later in let b = c.keep_work.ensures.later in omega (arith, a, b));
+    }
+
+pub returns-clause-lent : goal.returns-clause-lent
+returns-clause-lent g c = λ others e.
+    let none = none-there c.loop-work.works.items (let z = c.in_default.ensures.cases.0 in let k = c.loop-work.works.ok in omega (arith, z, k)) in
+    let a = c.loop-work.invariant.lent others e in
+    let b : all_held c.loop-work.works.items ≡ 0 = ap all_held none in
+    omega (arith, a, b)
+
+pub returns-clause-ok : goal.returns-clause-ok
+returns-clause-ok g c =
+    let now = c.loop-work.invariant in
+    let all = none_left (length c.args.works.items) c.loop-work.at (vec_len c.loop-work.works) now.count c.in_default.ensures.cases.0 in
+    now.kept ∙ ap (λ n. kept_first g.F.Out.Sink.bytes n (g.F.Files.map c.args.files.now) c.args.stages.now c.args.works.items) all

@@ -1,0 +1,18 @@
+use Rattle.std.proofs.Common.{◌≡◌, ◌≤◌, ◌+◌, ℕ, length, drop, reverse, vec_len}
+use Rattle.held_devices.specs.Holding.{all_held}
+use Rattle.run_ending.specs.Keeping.{kept_first}
+use Rattle.run_ending.proofs.keep.keep_works.Given as goal
+
+abbrev pub invariant-loop-work : goal.invariant-loop-work
+invariant-loop-work g l =
+    let files = g.F.Files in
+    record {
+      left : reverse l.works.items ≡ drop l.at l.fn.works.items;
+      count : l.at + vec_len l.works ≡ length l.fn.works.items;
+      kept : files.map l.files ≡ kept_first g.F.Out.Sink.bytes l.at (files.map l.fn.files) l.stages l.fn.works.items;
+      lent : (others : ℕ) → files.lent l.fn.files ≡ others + all_held l.fn.works.items → files.lent l.files ≡ others + all_held l.works.items;
+      later : files.faults l.fn.files ≤ files.faults l.files;
+    }
+
+abbrev pub decreases-loop-work : goal.decreases-loop-work
+decreases-loop-work g l = vec_len l.works

@@ -1,0 +1,40 @@
+//! The writers of a run finish before the first file is kept.
+
+ghost use Rattle.std.specs.Prelude.{◌≤◌, length, IfErr, OnOk};
+ghost use Rattle.stage_kinds.specs.Held.{faults_of};
+ghost use Rattle.stage_forms.specs.Later.{AreLater};
+ghost use Rattle.run_ending.specs.Finished.{AreFinished, IsUnfinished};
+
+use file_devices::{FileSink, Source};
+use run_report::{Place, Refusal};
+use stage_kinds::StageWork;
+
+/// The works of a run, and what a step of it came to.
+pub struct Ran<S, K: FileSink, T> {
+    /// The works, in the order of the stages.
+    pub works: Vec<StageWork<S, K>>,
+
+    /// What the step came to.
+    pub outcome: T,
+}
+
+/// Has each writer finish its file, in the order of the stages. The first one whose device fails is told.
+pub fn finish<S: Source, K: FileSink>(works: Vec<StageWork<S, K>>) -> Ran<S, K, Result<(), Refusal>>
+    requires few { length works.items ≤ 64 }
+    ensures later { AreLater (faults_of S.faults K.faults) works.items result.works.items }
+    ensures finished { OnOk result.outcome (AreFinished K.bytes works.items result.works.items) }
+    ensures err { IfErr result.outcome (IsUnfinished (faults_of S.faults K.faults) works.items result.works.items) }
+{
+    let mut works = works;
+    for i in 0..works.len() {
+        match works[i].finish() {
+            Ok(()) => {}
+            Err(op) => {
+                let outcome = Err(Refusal::Device(Place::Stage(i as u32), op));
+                return Ran { works, outcome };
+            }
+        }
+    }
+    let outcome = Ok(());
+    Ran { works, outcome }
+}

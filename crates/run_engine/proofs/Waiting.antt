@@ -1,0 +1,34 @@
+-- Runs that wait for an engine.
+use Rattle.std.proofs.Common.{◌≡◌, List, Result, Ok, Err, OnErr, sym, subst}
+use Rattle.file_devices.specs.declared.devices.Source as source
+use Rattle.file_devices.specs.declared.devices.Sink as sink
+use Rattle.run_outcome.specs.declared.ended.Ended.{Ended}
+use Rattle.stage_options.specs.declared.stage.StageSpec.{StageSpec}
+use Rattle.run_engine.specs.declared.engine.Engine.{Engine}
+use Rattle.run_engine.specs.declared.engine.Engine.TheVariants as engine
+use Rattle.run_engine.specs.declared.job.Step.TheVariants.{Turns, Done, Short}
+use Rattle.run_engine.specs.declared.room.TurnRoom.{TurnRoom}
+use Rattle.run_engine.specs.Jobs.{IsTurnRoom, IsWaiting}
+
+module _ {S K : Type 0} (s : source.Ghosts S) (k : sink.Ghosts K) (stages : List StageSpec) where
+  -- where they wait for turns it is in memory of the shape that this says
+  pub turns-room : (chosen : Engine) (room : TurnRoom S K) → IsWaiting s k chosen stages (Turns room) → IsTurnRoom s k room.shape stages room
+  turns-room (engine.Queues shape) room waits = subst (λ x. IsTurnRoom s k x stages room) (sym waits.cut) waits
+  turns-room engine.Whole room waits = absurd waits
+
+  -- those that came to their end don't wait
+  pub not-done : (chosen : Engine) (ended : Ended) → IsWaiting s k chosen stages (Done ended) → ⊥
+  not-done (engine.Queues shape) ended waits = waits
+  not-done engine.Whole ended waits = waits
+
+  pub not-short : (chosen : Engine) → IsWaiting s k chosen stages Short → ⊥
+  not-short (engine.Queues shape) waits = waits
+  not-short engine.Whole waits = waits
+
+pub on-any-err : {R E : Type 0} (o : Result R E) {P : Type 0} → P → OnErr o P
+on-any-err (Ok r) p = tt
+on-any-err (Err e) p = p
+
+pub on-err : {R E : Type 0} (o : Result R E) (f : E) {P : Type 0} → o ≡ Err f → OnErr o P → P
+on-err (Ok r) f e p = cc
+on-err (Err g) f e p = p

@@ -1,0 +1,4 @@
+pub mod Opening
+pub mod Beginning
+pub mod Binding
+pub mod Bound

@@ -1,0 +1,46 @@
+use Rattle.std.proofs.Common.{◌≡◌, refl, ap, sym, subst, ◌∙◌, arith}
+use Rattle.stage_kinds.specs.declared.stage_work.StageWork.TheVariants.{Reader, Filter, Collector}
+use Rattle.stage_options.specs.Roles.{is_reading, role_of}
+use Rattle.stage_options.specs.Roles as role
+use Rattle.stage_forms.specs.Starts.{IsStarted, op_for}
+use Rattle.run_opening.specs.Begun.{IsForm, IsOpened, IsWork}
+use Rattle.held_devices.specs.Holding.{there}
+use Rattle.run_opening.proofs.Opening.{reader-work, other-work}
+use Rattle.run_opening.proofs.begin.begin_work.Goals as goal
+
+pub returns-clause-ok : goal.returns-clause-ok
+returns-clause-ok g c =
+    subst (λ r. IsWork g.F.In.Source g.F.Out.Sink (g.F.Files.map c.args.files.now) c.args.number c.args.stage.now.options r c.args.form (Reader c.in-Some.reader)) (sym c.in-Some.is)
+    (reader-work g.F.In.Source g.F.Out.Sink (g.F.Files.map c.args.files.now) c.args.number c.args.stage.now.options c.in-Some.reader c.args.form
+    (subst (IsOpened g.F.In.Source (g.F.Files.map c.args.files.now) c.args.number (role_of c.args.stage.now.options)) c.in-Some.is c.requires.opened))
+
+pub returns-in-Filters-clause-ok : goal.returns-in-Filters-clause-ok
+returns-in-Filters-clause-ok g c =
+    let s = g.F.In.Source in
+    let k = g.F.Out.Sink in
+    let map = g.F.Files.map c.args.files.now in
+    let o = c.args.stage.now.options in
+    let f = c.in-Filters.filter in
+    let does : role_of o ≡ role.Filters = subst (IsForm (role_of o)) c.in-Filters.is c.requires.form in
+    subst (λ r. IsWork s k map c.args.number o r c.args.form (Filter f)) (sym c.in_default.is)
+    (other-work s k map c.args.number o c.args.form (Filter f) (ap is_reading does) (sym (ap op_for does))
+    (λ setting e. subst (λ form. IsStarted {S = g.row.F-In.Denot} k.bytes form (Filter f)) (sym c.in-Filters.is ∙ e) refl))
+
+pub returns-in-Filters-clause-lent_ok : goal.returns-in-Filters-clause-lent_ok
+returns-in-Filters-clause-lent_ok g c = let nothing = ap there c.in_default.is in omega (arith, nothing)
+
+pub returns-in-Gathers-clause-ok : goal.returns-in-Gathers-clause-ok
+returns-in-Gathers-clause-ok g c =
+    let s = g.F.In.Source in
+    let k = g.F.Out.Sink in
+    let map = g.F.Files.map c.args.files.now in
+    let o = c.args.stage.now.options in
+    let w = c.new.result in
+    let does : role_of o ≡ role.Gathers = subst (IsForm (role_of o)) c.in-Gathers.is c.requires.form in
+    subst (λ r. IsWork s k map c.args.number o r c.args.form (Collector w)) (sym c.in_default.is)
+    (other-work s k map c.args.number o c.args.form (Collector w) (ap is_reading does) (sym (ap op_for does))
+    (λ setting e. subst (λ form. IsStarted {S = g.row.F-In.Denot} k.bytes form (Collector w)) (sym c.in-Gathers.is ∙ e)
+    (record { gathering = c.new.ensures.gathering; short = c.new.ensures.short; views = c.new.ensures.views })))
+
+pub returns-in-Gathers-clause-lent_ok : goal.returns-in-Gathers-clause-lent_ok
+returns-in-Gathers-clause-lent_ok g c = let nothing = ap there c.in_default.is in omega (arith, nothing)

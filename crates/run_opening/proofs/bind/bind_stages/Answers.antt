@@ -1,0 +1,98 @@
+use Rattle.std.proofs.Common.{◌≡◌, ◌||◌, ◌<◌, All, length, Err, IfErr, refl, ap, sym, subst, ◌∙◌, arith, rules}
+use Rattle.std.specs.Prelude.{slice_get}
+use Rattle.std.proofs.lemmas.Option.{slice_get_read}
+use Rattle.stage_kinds.specs.declared.file_form.StageForm.{StageForm}
+use Rattle.answer_model.proofs.Values.{tree-down}
+use Rattle.answer_model.specs.Values.{options_at, role_at, names_at, setting_at}
+use Rattle.name_binding.specs.Binding.{binding_fault}
+use Rattle.name_binding.specs.Ferries.{names_behind, adds}
+use Rattle.stage_options.specs.declared.stage.StageSpec.{StageSpec}
+use Rattle.stage_forms.specs.Below.{reads_in, AreBelow, AreInside, IsBelow, StandsBelow}
+use Rattle.stage_forms.specs.declared.below.Below.{Below}
+use Rattle.stage_forms.proofs.Joined.{behind-stage}
+use Rattle.cloud_points.specs.Layouts.{holds}
+use Rattle.stage_forms.specs.Starts.{form_for}
+use Rattle.run_opening.specs.Begun.{IsForm, IsUnbound}
+use Rattle.held_devices.proofs.Lists.{each-push}
+use Rattle.run_outcome.proofs.Stages.{stage-is, role-is}
+use Rattle.run_opening.proofs.Binding.{bound-is, names-more, more-bound, unbound-here}
+use Rattle.run_opening.proofs.bind.bind_stages.Goals as goal
+
+pub next_below-requires-clause-next : goal.next_below-requires-clause-next
+next_below-requires-clause-next g c =
+    let a = c.as_slice.ensures.len in
+    let n = c.loop-i.invariant.belows_count in
+    let lt = c.loop-i-test.true in
+    omega (arith, a, n, lt)
+
+pub next_below-requires-clause-behind : goal.next_below-requires-clause-behind
+next_below-requires-clause-behind g c = subst (AreBelow c.args.stages.now c.args.readers.now) (sym c.as_slice.ensures.value) c.loop-i.invariant.below
+
+pub next_below-requires-clause-inside : goal.next_below-requires-clause-inside
+next_below-requires-clause-inside g c = subst (AreInside (length c.args.readers.now)) (sym c.as_slice.ensures.value) c.loop-i.invariant.inside
+
+pub returns-in_err-form-clause-err : goal.returns-in_err-form-clause-err
+returns-in_err-form-clause-err g c =
+    let now = c.loop-i.invariant in
+    let stages = c.args.stages.now in
+    let readers = c.args.readers.now in
+    let i = c.loop-i.i in
+    let lt : i < length stages = c.loop-i-test.true in
+    let stage = c.index-stages-i.result in
+    let at = slice_get_read stages (length stages) i stage refl lt c.index-stages-i.is in
+    let o = ap (λ (s : StageSpec). s.options) (stage-is stages i stage at) in
+    let below = c.in-Ok-next_below.below in
+    let as_many : length c.as_slice.result.now ≡ i = c.as_slice.ensures.len ∙ now.belows_count in
+    let stands = subst (λ k. StandsBelow stages readers k below) as_many c.in-Ok-next_below.ensures.below in
+    let refusal = c.in_err-form.field-0.0 in
+    let refused : c.from_residual.result ≡ Err refusal = search rules in
+    subst (λ r. IfErr r (IsUnbound stages readers)) (sym refused)
+    (unbound-here stages readers i (binding_fault i c.loop-i.names (holds below.layout) stage.options) refusal lt now.bound
+    (λ opened have. ap (binding_fault i c.loop-i.names (holds below.layout)) (sym o)
+    ∙ ap (λ n. binding_fault i n (holds below.layout) (options_at stages i)) now.names ∙ bound-is stages readers opened i below (stands opened have))
+    c.in_err-form.ensures.err)
+
+pub loop-i-preserved : goal.loop-i-preserved
+loop-i-preserved g c =
+    let now = c.loop-i.invariant in
+    let stages = c.args.stages.now in
+    let readers = c.args.readers.now in
+    let i = c.loop-i.i in
+    let lt : i < length stages = c.loop-i-test.true in
+    let stage = c.index-stages-i.result in
+    let at = slice_get_read stages (length stages) i stage refl lt c.index-stages-i.is in
+    let o = ap (λ (s : StageSpec). s.options) (stage-is stages i stage at) in
+    let below = c.in-Ok-next_below.below in
+    let after = c.bind_stage.new.below in
+    let done = c.in_ok-form.ensures in
+    let form = c.in_ok-form.form in
+    let as_many : length c.as_slice.result.now ≡ i = c.as_slice.ensures.len ∙ now.belows_count in
+    let stands = subst (λ k. StandsBelow stages readers k below) as_many c.in-Ok-next_below.ensures.below in
+    let size : i ≡ length c.loop-i.forms.items = (let a = now.count in let k = c.loop-i.forms.ok in omega (arith, a, k)) in
+    let below_size : i ≡ length c.loop-i.belows.items = (let a = now.belows_count in let k = c.loop-i.belows.ok in omega (arith, a, k)) in
+    let forms_are = c.push_reserved.ensures.items in
+    let belows_are = c.push_reserved-in-loop-i.ensures.items in
+    record {
+      forms = λ opened have k x e. each-push (λ j (y : StageForm). y ≡ form_for (options_at stages j) (setting_at stages opened j)) c.loop-i.forms.items form i size (now.forms opened have)
+          (done.form ∙ ap (λ p. form_for p (record { names = c.loop-i.names; reads = reads_in readers below.readers.items })) (sym o)
+          ∙ ap (λ n. form_for (options_at stages i) (record { names = n; reads = reads_in readers below.readers.items })) now.names
+          ∙ ap (λ r. form_for (options_at stages i) (record { names = names_at stages i; reads = r })) ((stands opened have).reads))
+          k x (ap (λ xs. slice_get xs k) (sym forms_are) ∙ e);
+      fits = λ k x e. each-push (λ j y. IsForm (role_at stages j) y) c.loop-i.forms.items form i size now.fits
+          (subst (λ r. IsForm r form) (role-is stages i stage at) done.fits) k x (ap (λ xs. slice_get xs k) (sym forms_are) ∙ e);
+      bound = more-bound stages readers i now.bound (λ opened have.
+          sym (bound-is stages readers opened i below (stands opened have))
+          ∙ ap (λ n. binding_fault i n (holds below.layout) (options_at stages i)) (sym now.names)
+          ∙ ap (binding_fault i c.loop-i.names (holds below.layout)) o ∙ done.bound);
+      names = done.names ∙ ap (λ n. names_behind n stage.options) now.names ∙ sym (names-more stages i stage at);
+      below = λ opened have k x e. each-push (λ j (y : Below). IsBelow stages readers opened j y) c.loop-i.belows.items after i below_size (now.below opened have)
+          (behind-stage stages readers opened (tree-down stages c.requires.tree) c.requires.fit have i below after (stands opened have) (ap (λ v. v.items) done.readers)
+          (λ dim. done.layout dim ∙ ap (λ a. holds below.layout dim || a) (ap (λ n. adds n stage.options dim) now.names ∙ ap (λ p. adds (names_at stages i) p dim) (sym o))))
+          k x (ap (λ xs. slice_get xs k) (sym belows_are) ∙ e);
+      inside = λ k x e. each-push (λ j (y : Below). All (λ m. m < length readers) y.readers.items) c.loop-i.belows.items after i below_size now.inside
+          (subst (λ v. All (λ m. m < length readers) v.items) (sym done.readers) c.in-Ok-next_below.ensures.inside) k x (ap (λ xs. slice_get xs k) (sym belows_are) ∙ e);
+      count = (let a = c.push_reserved.ensures.len in let n = now.count in omega (arith, a, n));
+      belows_count = (let a = c.push_reserved-in-loop-i.ensures.len in let n = now.belows_count in omega (arith, a, n));
+      room = (let a = c.push_reserved.ensures.capacity in let n = now.room in omega (arith, a, n));
+      belows_room = (let a = c.push_reserved-in-loop-i.ensures.capacity in let n = now.belows_room in omega (arith, a, n));
+    }

@@ -1,0 +1,54 @@
+use Rattle.std.proofs.Common.{◌≡◌, ◌<◌, length, refl, ap, sym, subst, ◌∙◌, arith}
+use Rattle.std.proofs.lemmas.Option.{slice_get_read}
+use Rattle.std.specs.Prelude.{slice_get}
+use Rattle.file_devices.specs.Counts.{Rose}
+use Rattle.stage_options.specs.Roles.{role_of}
+use Rattle.answer_model.specs.Values.{role_at}
+use Rattle.run_opening.specs.Begun.{IsOpened}
+use Rattle.held_devices.specs.Holding.{there, all_there}
+use Rattle.run_outcome.specs.Cause.{IsCause}
+use Rattle.run_opening.specs.Opening.{IsUnopened}
+use Rattle.run_outcome.proofs.Causes.{rose-within, cause-weaker}
+use Rattle.held_devices.proofs.Lists.{each-push}
+use Rattle.held_devices.proofs.Sums.{sum-push}
+use Rattle.run_outcome.proofs.Stages.{role-is}
+use Rattle.run_opening.proofs.Opening.{are-read, unopened-cause}
+use Rattle.run_opening.proofs.open.open_readers.Goals as goal
+
+pub returns-in-Err-clause-lent_err : goal.returns-in-Err-clause-lent_err
+returns-in-Err-clause-lent_err g c = c.give_back.ensures.lent (g.F.Files.lent c.args.files.now) (c.in-Err.ensures.lent_err ∙ c.loop-i.invariant.lent)
+
+pub returns-in-Err-clause-err : goal.returns-in-Err-clause-err
+returns-in-Err-clause-err g c =
+    let files = g.F.Files in
+    let now = c.loop-i.invariant in
+    let lt : c.loop-i.i < length c.args.stages.now = (let a = c.loop-i-test.true in omega (arith, a)) in
+    let at = slice_get_read c.args.stages.now (length c.args.stages.now) c.loop-i.i c.index-stages-i.result refl lt c.index-stages-i.is in
+    let size : c.loop-i.i ≡ length c.loop-i.readers.items = (let a = now.count in let k = c.loop-i.readers.ok in omega (arith, a, k)) in
+    let rose = Rose (files.faults c.loop-i.files) (files.faults c.open_stage.new.files) in
+    let why = subst (λ role. IsUnopened rose (files.map c.loop-i.files) c.loop-i.i role c.in-Err.refusal) (role-is c.args.stages.now c.loop-i.i c.index-stages-i.result at) c.in-Err.ensures.err in
+    subst (λ map. IsCause (Rose (files.faults c.args.files.now) (files.faults c.give_back.new.files)) map c.args.stages.now c.in-Err.refusal) now.map
+    (cause-weaker (files.map c.loop-i.files) c.args.stages.now c.in-Err.refusal
+    (rose-within (files.faults c.args.files.now) (files.faults c.loop-i.files) (files.faults c.open_stage.new.files) (files.faults c.give_back.new.files) now.later c.give_back.ensures.later)
+    (unopened-cause rose (files.map c.loop-i.files) c.args.stages.now c.loop-i.i c.in-Err.refusal lt
+    (λ m e. are-read g.F.In.Source (files.map c.args.files.now) c.args.stages.now c.loop-i.readers.items c.loop-i.i size now.opened m (sym now.map ∙ e)) why))
+
+pub loop-i-preserved : goal.loop-i-preserved
+loop-i-preserved g c =
+    let files = g.F.Files in
+    let now = c.loop-i.invariant in
+    let lt : c.loop-i.i < length c.args.stages.now = (let a = c.loop-i-test.true in omega (arith, a)) in
+    let at = slice_get_read c.args.stages.now (length c.args.stages.now) c.loop-i.i c.index-stages-i.result refl lt c.index-stages-i.is in
+    let size : c.loop-i.i ≡ length c.loop-i.readers.items = (let a = now.count in let k = c.loop-i.readers.ok in omega (arith, a, k)) in
+    let pushed = c.push_reserved.ensures.items in
+    let one = subst (λ role. IsOpened g.F.In.Source (files.map c.args.files.now) c.loop-i.i role c.in-Ok-open_stage.reader) (role-is c.args.stages.now c.loop-i.i c.index-stages-i.result at)
+    (subst (λ map. IsOpened g.F.In.Source map c.loop-i.i (role_of c.index-stages-i.result.options) c.in-Ok-open_stage.reader) now.map c.in-Ok-open_stage.ensures.ok) in
+    let sum = ap all_there pushed ∙ sum-push there c.loop-i.readers.items c.in-Ok-open_stage.reader in
+    record {
+      opened = λ i o e. each-push (λ j p. IsOpened g.F.In.Source (files.map c.args.files.now) j (role_at c.args.stages.now j) p) c.loop-i.readers.items c.in-Ok-open_stage.reader c.loop-i.i size now.opened one i o (ap (λ xs. slice_get xs i) (sym pushed) ∙ e);
+      count = (let a = c.push_reserved.ensures.len in let b = now.count in omega (arith, a, b));
+      room = (let a = c.push_reserved.ensures.capacity in let b = now.room in omega (arith, a, b));
+      map = c.open_stage.ensures.map ∙ now.map;
+      lent = (let a = c.in-Ok-open_stage.ensures.lent_ok in let b = now.lent in omega (arith, a, b, sum));
+      later = (let a = c.open_stage.ensures.later in let b = now.later in omega (arith, a, b));
+    }

@@ -1,0 +1,87 @@
+-- The stages of a tree before their first turn.
+use Rattle.std.specs.Prelude.{◌≡◌, ℕ, ◌<◌, List, length, slice_get, slice_index_or, true, Option, Some, None, ⊤}
+use Rattle.file_devices.specs.Named.{Names}
+use Rattle.file_devices.specs.declared.devices.Source as source
+use Rattle.file_devices.specs.declared.devices.Sink as sink
+use Rattle.las_reader.specs.declared.reader.LasReader.{LasReader}
+use Rattle.las_reader.specs.declared.reader.Progress.TheVariants.{Records}
+use Rattle.stage_kinds.specs.declared.stage_work.StageWork.{StageWork}
+use Rattle.stage_kinds.specs.declared.stage_work.StageWork.TheVariants.{Reader}
+use Rattle.stage_kinds.specs.declared.file_form.StageForm.{StageForm}
+use Rattle.stage_kinds.specs.declared.file_form.StageForm.TheVariants as form
+use Rattle.stage_kinds.specs.Files.{IsFileForm}
+use Rattle.stage_kinds.specs.Held.{op_of}
+use Rattle.run_report.specs.declared.refusal.Refusal.{Refusal}
+use Rattle.run_report.specs.declared.refusal.Refusal.TheVariants.{Memory, Pipeline}
+use Rattle.stage_forms.specs.Below.{HaveReaders, Tells}
+use Rattle.stage_options.specs.Roles.{Role, Reads, Filters, Gathers, role_of, is_reading, is_writing}
+use Rattle.stage_options.specs.declared.options.Options.{Options}
+use Rattle.stage_options.specs.declared.stage.StageSpec.{StageSpec}
+use Rattle.answer_model.specs.Rows.{Setting}
+use Rattle.answer_model.specs.Values.{Opened, options_at, role_at, setting_at, unbound_at, least_from}
+use Rattle.answer_model.specs.Runs.{holds, unread}
+use Rattle.stage_forms.specs.Starts.{IsAtStart, form_for, op_for}
+
+-- ---- readers
+
+-- a reader at its start, of stage i, which does this; where the map is told, its file can be read, and its source tells it
+pub record IsReading {S : Type 0} (s : source.Ghosts S) (map : Option Names) (i : ℕ) (role : Role) (r : LasReader S) : Type 0 where
+  pub start : r.progress ≡ Records 0
+  pub read : (m : Names) → map ≡ Some m → unread m i role ≡ None
+  pub tells : (m : Names) → map ≡ Some m → Tells s (λ k. holds m k role) i r
+
+-- a stage has a reader exactly where it reads
+abbrev pub IsOpened : {S : Type 0} → source.Ghosts S → Option Names → ℕ → Role → Option (LasReader S) → Type 0
+IsOpened s map i (Reads name) (Some r) = IsReading s map i (Reads name) r
+IsOpened s map i (Reads name) None = ⊥
+IsOpened s map i role (Some r) = ⊥
+IsOpened s map i role None = ⊤
+
+-- so it is at the first stages, as many as there are
+abbrev pub AreOpened : {S : Type 0} → source.Ghosts S → Option Names → List StageSpec → List (Option (LasReader S)) → Type 0
+AreOpened {S} s map stages readers = (i : ℕ) (o : Option (LasReader S)) → slice_get readers i ≡ Some o → IsOpened s map i (role_at stages i) o
+
+-- ---- forms
+
+-- what the works of the first stages are made of, as many as there are, by their options and where they stand, over the files of these readers
+abbrev pub AreForms : {S : Type 0} → List StageSpec → List (Option (LasReader S)) → List StageForm → Type 0
+AreForms {S} stages readers forms = (opened : Opened) → HaveReaders readers opened → (i : ℕ) (f : StageForm) → slice_get forms i ≡ Some f → f ≡ form_for (options_at stages i) (setting_at stages opened i)
+
+-- a work made of this does what its stage does, and can write its file
+abbrev pub IsForm : Role → StageForm → Type 0
+IsForm role form.Reads = is_reading role ≡ true
+IsForm role (form.Filters f) = role ≡ Filters
+IsForm role (form.Gathers g) = role ≡ Gathers
+IsForm role (form.Writes x) = (is_writing role ≡ true) × IsFileForm x.form
+
+abbrev pub FitRoles : List StageSpec → List StageForm → Type 0
+FitRoles stages forms = (i : ℕ) (f : StageForm) → slice_get forms i ≡ Some f → IsForm (role_at stages i) f
+
+-- the names of dimensions in the options of the first so many stages are bound
+abbrev pub AreNamesBound : {S : Type 0} → List StageSpec → List (Option (LasReader S)) → ℕ → Type 0
+AreNamesBound stages readers count = (opened : Opened) → HaveReaders readers opened → (i : ℕ) → i < count → unbound_at stages opened i ≡ None
+
+-- why they aren't: memory was wanting, or this is the fault of the first stage that has one
+abbrev pub IsUnbound : {S : Type 0} → List StageSpec → List (Option (LasReader S)) → Refusal → Type 0
+IsUnbound stages readers Memory = ⊤
+IsUnbound stages readers (Pipeline f) = (opened : Opened) → HaveReaders readers opened → (i : ℕ) × (least_from (unbound_at stages opened) (length stages) 0 ≡ Some (i, f))
+IsUnbound stages readers refusal = ⊥
+
+-- ---- works
+
+-- the reader of a work
+abbrev pub reader_of : {S K : Type 0} → StageWork S K → Option (LasReader S)
+reader_of (Reader r) = Some r
+reader_of _ = None
+
+-- the work of stage i, which has these options, at its start: over its reader, or made of this; a reader's source tells its file
+pub record IsWork {S K : Type 0} (s : source.Ghosts S) (k : sink.Ghosts K) (map : Option Names) (i : ℕ) (o : Options) (reader : Option (LasReader S)) (form : StageForm) (w : StageWork S K) : Type 0 where
+  pub same : reader_of w ≡ reader
+  pub start : (setting : Setting) → form ≡ form_for o setting → IsAtStart k.bytes o setting w
+  pub device : op_of w ≡ op_for (role_of o)
+  pub tells : (m : Names) → map ≡ Some m → (r : LasReader S) → w ≡ Reader r → Tells s (λ j. holds m j (role_of o)) i r
+
+-- so it is at the first stages, as many as there are
+abbrev pub AreBegun : {S K : Type 0} → source.Ghosts S → sink.Ghosts K → Option Names → List StageSpec → List (Option (LasReader S)) → List StageForm → List (StageWork S K) → Type 0
+AreBegun {S} {K} s k map stages readers forms works = (i : ℕ) (w : StageWork S K) → slice_get works i ≡ Some w
+    → IsWork s k map i (options_at stages i) (slice_index_or readers i None) (slice_index_or forms i form.Reads) w

@@ -1,0 +1,4 @@
+pub mod Begun
+pub mod Binding
+pub mod Opening
+pub mod Ready

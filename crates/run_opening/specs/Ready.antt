@@ -1,0 +1,20 @@
+-- A tree's stages before their first turn.
+use Rattle.std.specs.Prelude.{◌≡◌, List, length, Option, Some}
+use Rattle.file_devices.specs.Named.{Names}
+use Rattle.file_devices.specs.declared.devices.Source as source
+use Rattle.file_devices.specs.declared.devices.Sink as sink
+use Rattle.stage_kinds.specs.declared.stage_work.StageWork.{StageWork}
+use Rattle.stage_options.specs.declared.stage.StageSpec.{StageSpec}
+use Rattle.answer_model.specs.Runs.{opened_in}
+use Rattle.stage_forms.specs.Starts.{AreAtStart, AreTold, HaveDevices}
+use Rattle.run_outcome.specs.Cause.{CanBegin}
+
+module _ {S K : Type 0} (s : source.Ghosts S) (k : sink.Ghosts K) where
+  -- the works of stages before their first turn, over these files: each is at its start and holds its device, the sources of readers tell
+  -- their files, and the run can begin
+  pub record AreReady (map : Option Names) (stages : List StageSpec) (works : List (StageWork S K)) : Type 0 where
+    pub count : length works ≡ length stages
+    pub starts : AreAtStart k.bytes stages works
+    pub devices : HaveDevices stages works
+    pub tell : (m : Names) → map ≡ Some m → AreTold s works (opened_in m stages)
+    pub come : (m : Names) → map ≡ Some m → CanBegin m stages

@@ -1,0 +1,92 @@
+//! The names of dimensions are bound, and what the works of stages are made of is decided.
+
+ghost use Rattle.std.specs.Prelude.{◌≡◌, ◌≤◌, ◌<◌, ◌||◌, length, All, None, IfOk, IfErr, OnOk};
+ghost use Rattle.cloud_points.specs.Layouts.{holds};
+ghost use Rattle.cloud_points.specs.declared.dims.Dim.{Dim};
+ghost use Rattle.pipeline_json.specs.Trees.{IsTree};
+ghost use Rattle.name_binding.specs.Binding.{binding_fault};
+ghost use Rattle.name_binding.specs.Ferries.{names_behind, adds};
+ghost use Rattle.stage_options.specs.Roles.{role_of};
+ghost use Rattle.stage_options.specs.Shapes.{shapes};
+ghost use Rattle.stage_forms.specs.Below.{reads_in, AreReaders};
+ghost use Rattle.stage_forms.specs.Starts.{form_for};
+ghost use Rattle.run_opening.specs.Begun.{AreForms, AreNamesBound, FitRoles, IsForm, IsUnbound};
+ghost use Rattle.run_opening.specs.Binding.{IsUnboundAt};
+
+use cloud_points::ExtraNames;
+use file_devices::Source;
+use las_reader::LasReader;
+use name_binding::bind;
+use run_report::Refusal;
+use stage_forms::{Below, next_below, stage_form};
+use stage_kinds::StageForm;
+use stage_names::PipeErr;
+use stage_options::StageSpec;
+use std::alloc::Global;
+
+/// Binds the names of dimensions in a stage's options, the stage with this number, and answers what its work is made of. What stood
+/// below it stands behind it then, with the dimensions that it adds. Beside a name that isn't bound it is refused only where memory
+/// is wanting.
+fn bind_stage<S: Source>(
+    alloc: Global,
+    stage: &StageSpec,
+    number: u32,
+    below: &mut Below,
+    names: &mut ExtraNames,
+    readers: &[Option<LasReader<S>>],
+) -> Result<StageForm, Refusal>
+    requires inside { All (λ j. j < length readers.now) below.old.readers.items }
+    ensures form { IfOk result (λ o. o ≡ form_for stage.now.options (record { names = names.old; reads = reads_in readers.now below.old.readers.items })) }
+    ensures fits { IfOk result (IsForm (role_of stage.now.options)) }
+    ensures names { OnOk result (names.new ≡ names_behind names.old stage.now.options) }
+    ensures layout { OnOk result ((dim : Dim) → holds below.new.layout dim ≡ (holds below.old.layout dim || adds names.old stage.now.options dim)) }
+    ensures readers { OnOk result (below.new.readers ≡ below.old.readers) }
+    ensures bound { OnOk result (binding_fault number names.old (holds below.old.layout) stage.now.options ≡ None) }
+    ensures err { IfErr result (IsUnboundAt (binding_fault number names.old (holds below.old.layout) stage.now.options)) }
+{
+    let bound = match bind(alloc, &stage.options, number, &mut below.layout, names) {
+        Ok(bound) => bound,
+        Err(PipeErr::Fault(fault)) => return Err(Refusal::Pipeline(fault)),
+        Err(PipeErr::Memory) => return Err(Refusal::Memory),
+    };
+    let readers_below = below.readers.as_slice();
+    match stage_form(alloc, &stage.options, bound, names, readers, readers_below) {
+        Ok(form) => Ok(form),
+        Err(_) => Err(Refusal::Memory),
+    }
+}
+
+/// Binds the names of dimensions in the options of a tree's stages, in their order, over their opened readers, and answers what
+/// each stage's work is made of. It is refused with the fault of the first stage that has one, and else only where memory is wanting.
+pub(crate) fn bind_stages<S: Source>(
+    alloc: Global,
+    stages: &[StageSpec],
+    readers: &[Option<LasReader<S>>],
+) -> Result<Vec<StageForm>, Refusal>
+    requires tree { IsTree (shapes stages.now) }
+    requires few { length stages.now ≤ 64 }
+    requires count { length readers.now ≡ length stages.now }
+    requires fit { AreReaders stages.now readers.now }
+    ensures forms { IfOk result (λ forms. AreForms stages.now readers.now forms.items) }
+    ensures fits { IfOk result (λ forms. FitRoles stages.now forms.items) }
+    ensures count { IfOk result (λ forms. length forms.items ≡ length stages.now) }
+    ensures bound { OnOk result (AreNamesBound stages.now readers.now (length stages.now)) }
+    ensures err { IfErr result (IsUnbound stages.now readers.now) }
+{
+    let Ok(mut belows) = Vec::with_capacity(alloc, stages.len()) else {
+        return Err(Refusal::Memory);
+    };
+    let Ok(mut forms) = Vec::with_capacity(alloc, stages.len()) else {
+        return Err(Refusal::Memory);
+    };
+    let mut names = ExtraNames::none(alloc);
+    for i in 0..stages.len() {
+        let Ok(mut below) = next_below(alloc, stages, readers, belows.as_slice()) else {
+            return Err(Refusal::Memory);
+        };
+        let form = bind_stage(alloc, &stages[i], i as u32, &mut below, &mut names, readers)?;
+        forms.push_reserved(form);
+        belows.push_reserved(below);
+    }
+    Ok(forms)
+}

@@ -1,0 +1,5 @@
+pub mod Outcomes
+pub mod Causes
+pub mod Results
+pub mod Stages
+pub mod Runs

@@ -1,0 +1,3 @@
+pub mod Cause
+pub mod Faults
+pub mod Outcomes

@@ -1,0 +1,74 @@
+-- Works that are evaluated one after the other.
+use Rattle.std.proofs.Common.{◌≡◌, ℕ, true, List, Option, refl, ap, sym, ◌∙◌, true≢false, arith}
+use Rattle.set_engine.proofs.Lists.{some-at}
+use Rattle.std.proofs.lemmas.Option.{slice_get_within}
+use Rattle.answer_model.specs.Rows.{Setting, row_of}
+use Rattle.answer_model.specs.Rows as rows
+use Rattle.answer_model.specs.Values.{LasFile, Opened, options_at, setting_at}
+use Rattle.file_devices.specs.declared.devices.Source as source
+use Rattle.run_report.specs.declared.report.StageCount.{StageCount}
+use Rattle.set_engine.proofs.Values.{AreAfter, AreEvaluated, FitRows}
+use Rattle.stage_forms.specs.Starts.{AreTold, AreAtStart, HaveRead, IsAtStart, IsStarted, form_for}
+use Rattle.set_engine.specs.Fits.{IsFor}
+use Rattle.stage_kinds.specs.Files.{chosen}
+use Rattle.stage_kinds.specs.Stages.{writes_of, writing_filter}
+use Rattle.stage_kinds.specs.declared.file_form.StageForm.{StageForm}
+use Rattle.stage_kinds.specs.declared.file_form.StageForm.TheVariants.{Reads, Filters, Gathers, Writes}
+use Rattle.stage_kinds.specs.declared.file_form.Writing.{Writing}
+use Rattle.stage_kinds.specs.declared.stage_work.StageWork.{StageWork}
+use Rattle.stage_kinds.specs.declared.stage_work.StageWork.TheVariants.{Reader, Filter, Collector, Writer}
+use Rattle.stage_options.specs.Roles.{Role, role_of, is_reading}
+use Rattle.stage_options.specs.Roles as role
+use Rattle.stage_options.specs.declared.options.Options.{Options}
+use Rattle.stage_options.specs.declared.stage.StageSpec.{StageSpec}
+use Rattle.stage_forms.proofs.Works.{IsRow, row-is, writing-at-start}
+use Rattle.stream_filters.specs.Kinds.{filtering_of}
+use Rattle.stage_forms.specs.Later.{AreLater, CameToEnd}
+
+reading-name : (r : Role) → is_reading r ≡ true → (name : List ℕ) × (r ≡ role.Reads name)
+reading-name (role.Reads name) e = (name, refl)
+reading-name role.Filters e = absurd (true≢false (sym e))
+reading-name role.Gathers e = absurd (true≢false (sym e))
+reading-name (role.Writes name) e = absurd (true≢false (sym e))
+
+module _ {S K : Type 0} (bytes : K → Option (List ℕ)) where
+  -- a work at its start does what its stage's row says
+  fits : (o : Options) (setting : Setting) (w : StageWork S K) → IsAtStart bytes o setting w → IsFor bytes (role_of o) (row_of o setting) w
+  fits o setting w start = go (form_for o setting) (row-is o setting) w start
+    where
+      go : (form : StageForm) → IsRow form o setting → (w : StageWork S K) → IsStarted bytes form w → IsFor bytes (role_of o) (row_of o setting) w
+      go Reads row (Reader r) start = let n = reading-name (role_of o) row.0 in record { name = n.0; does = n.1; start = start }
+      go (Filters f) row (Filter g) start = record { does = row.does; judges = row.filtering ∙ ap (λ h. rows.Judging (filtering_of h)) (sym start) }
+      go (Gathers g) row (Collector c) start = record { does = row.does; gathers = row.gathers ∙ ap rows.Gathered (sym start.gathering) }
+      go (Writes x) row (Writer v) start =
+          let same : writes_of v ≡ x = (let e = start.is in cc) in
+          record {
+            name = row.name;
+            does = row.does;
+            judges = row.filtering ∙ ap (λ y. rows.Judging (writing_filter y)) (sym same);
+            chooses = λ ps. ap (λ (y : Writing). chosen y.only ps) same ∙ row.chooses ps;
+            holds = start.holds;
+          }
+      go form row w start = absurd start
+
+-- they hold their devices
+pub are-later : {S K : Type 0} (faults : StageWork S K → ℕ) (works new : List (StageWork S K)) → AreAfter faults works new → AreLater faults works new
+are-later faults works new after = record { count = after.count; op = λ i v w a b. (after.each i v w a b).op; later = λ i v w a b. (after.each i v w a b).later }
+
+module _ {S K : Type 0} (s : source.Ghosts S) (bytes : K → Option (List ℕ)) (stages : List StageSpec) (works : List (StageWork S K)) (starts : AreAtStart bytes stages works) where
+  read : (opened : Opened) → AreTold s works opened → HaveRead works opened
+  read opened told i r e = ap (λ (x : LasFile). x.read) ((told i (Reader r) r e refl).holds)
+
+  pub all-fit : FitRows s bytes stages works
+  all-fit opened told i w e = fits bytes (options_at stages i) (setting_at stages opened i) w (starts opened (read opened told) i w e)
+
+  module _ (faults : StageWork S K → ℕ) (new : List (StageWork S K)) (after : AreAfter faults works new) where
+    pub came : (opened : Opened) (counts : List StageCount) → AreTold s works opened → AreEvaluated bytes stages opened new counts → CameToEnd bytes stages opened new counts
+    came opened counts told c = record {
+      sound = c.sound;
+      counted = c.counted;
+      held = λ i w e x is.
+          let v = some-at works i (let a = slice_get_within new i w e in let b = after.count in omega (arith, a, b)) in
+          let start = starts opened (read opened told) i v.0 v.1 in
+          c.held i w e x ((after.each i v.0 w v.1 e).writing ∙ writing-at-start s bytes (options_at stages i) (setting_at stages opened i) v.0 start x is);
+    }

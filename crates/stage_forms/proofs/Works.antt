@@ -1,0 +1,249 @@
+-- What the works of stages tell and make, by what they are made of.
+use Rattle.std.proofs.Common.{◌≡◌, ℕ, true, false, List, [], filter, Option, Some, None, refl, ap, sym, subst, ◌∙◌, true≢false}
+use Rattle.std.specs.Prelude.{option_map, length}
+use Rattle.las_reader.specs.declared.reader.Progress.TheVariants.{Records}
+use Rattle.stage_names.specs.Kinds as names
+use Rattle.stage_options.specs.Kinds.{kind_of}
+use Rattle.file_devices.specs.declared.devices.Source as source
+use Rattle.cloud_points.specs.declared.point.Point.{Point}
+use Rattle.cloud_points.specs.declared.faults.StageFault.TheVariants as stage
+use Rattle.cloud_points.specs.Flows.{Flow, points}
+use Rattle.cloud_points.specs.Queue.{up_to_limit}
+use Rattle.cloud_points.specs.Marks.{flow_marks}
+use Rattle.las_reader.specs.Files.{Las as LasPoints}
+use Rattle.las_reader.specs.Flows.{las_flow, las_fault}
+use Rattle.las_reader.specs.declared.reader.LasReader.{LasReader}
+use Rattle.network_theory.specs.Machine.{made_of, fault_on}
+use Rattle.stage_meanings.specs.ByRule.{spot_at}
+use Rattle.stream_filters.specs.Kinds.{filtering_of, spot_of}
+use Rattle.stream_filters.specs.declared.filter.Filter.{Filter as Filtering}
+use Rattle.stage_kinds.specs.declared.file_form.StageForm.{StageForm}
+use Rattle.stage_kinds.specs.declared.file_form.StageForm.TheVariants.{Reads, Filters, Gathers, Writes}
+use Rattle.stage_kinds.specs.declared.file_form.Writing.{Writing}
+use Rattle.stage_kinds.specs.declared.stage_work.StageWork.{StageWork}
+use Rattle.stage_kinds.specs.declared.stage_work.StageWork.TheVariants.{Reader, Filter, Collector, Writer}
+use Rattle.stage_kinds.specs.declared.stage_work.StageState.TheVariants.{Filtering as At}
+use Rattle.stage_kinds.specs.Files.{chosen, file_bytes}
+use Rattle.stage_kinds.specs.Held.{op_of}
+use Rattle.stage_kinds.specs.Stages.{filter_work, writer_work, writing_filter, stops_nowhere, meaning_of, state_of, is_leaf, holds_of, writing_of}
+use Rattle.stage_kinds.specs.Reads.{tells_of, told_of, told_fault_of}
+use Rattle.stage_kinds.proofs.Streams.{filter_gives, filter_fault, writer_gives, writer_fault, sound_nowhere}
+use Rattle.stage_kinds.proofs.Telling.{reader_starts}
+use Rattle.stage_options.specs.declared.options.Options.{Options}
+use Rattle.stage_options.specs.declared.options.Options.TheVariants.{ReadersLas, FiltersSort, FiltersTail, FiltersGroupby, WritersLas, WritersText}
+use Rattle.stage_options.specs.Roles.{Role, role_of, target_of, is_reading, is_gathering, is_writing}
+use Rattle.stage_options.specs.Roles as role
+use Rattle.answer_model.specs.Rows.{Setting, row_of, value_on}
+use Rattle.answer_model.specs.Rows as rows
+use Rattle.answer_model.specs.Values.{LasFile, Opened}
+use Rattle.stage_forms.specs.Starts.{wrote_of, IsCollecting, HoldsNone, IsAtStart, IsStarted, form_for, op_for}
+use Rattle.whole_filters.specs.declared.gathering.Gathering.{Gathering}
+use Rattle.view_works.specs.declared.collector.Collector.{Collector as Collecting}
+use Rattle.stage_forms.specs.Below.{Tells}
+
+-- a leaf is the work of a reader, and tells the flow and the fault of its file
+pub record IsLeaf {S K : Type 0} (s : source.Ghosts S) (o : Options) (las : LasPoints) (w : StageWork S K) : Type 0 where
+  pub reads : is_reading (role_of o) ≡ true
+  pub tells : tells_of s.bytes w ≡ true
+  pub told : told_of s.bytes w ≡ flow_marks (las_flow las)
+  pub fault : told_fault_of s.bytes w ≡ option_map stage.Point (las_fault las)
+
+-- any other work of a stage that doesn't need whole views makes the value of its stage, and has the stage's fault
+pub record IsInner {S K : Type 0} (o : Options) (setting : Setting) (w : StageWork S K) : Type 0 where
+  pub inner : is_reading (role_of o) ≡ false
+  pub makes : (flow : Flow Point) → made_of (meaning_of w) (state_of w) flow ≡ flow_marks (value_on (row_of o setting) flow)
+  pub fault : (flow : Flow Point) → fault_on (meaning_of w) (state_of w) flow ≡ option_map stage.Point (rows.fault_on (row_of o setting) flow)
+
+-- ---- what a stage's work is made of is what its row says
+
+pub record IsFilterRow (f : Filtering) (o : Options) (setting : Setting) : Type 0 where
+  pub does : role_of o ≡ role.Filters
+  pub begins : spot_of f ≡ spot_at 0
+  pub filtering : (row_of o setting).making ≡ rows.Judging (filtering_of f)
+
+pub record IsGatherRow (g : Gathering) (o : Options) (setting : Setting) : Type 0 where
+  pub does : role_of o ≡ role.Gathers
+  pub gathers : (row_of o setting).making ≡ rows.Gathered g
+
+pub record IsWriterRow (x : Writing) (o : Options) (setting : Setting) : Type 0 where
+  pub name : List ℕ
+  pub does : role_of o ≡ role.Writes name
+  pub filtering : (row_of o setting).making ≡ rows.Judging (writing_filter x)
+  pub chooses : (ps : List Point) → chosen x.only ps ≡ filter ((row_of o setting).writes) ps
+  pub bytes : (ps : List Point) → file_bytes x.form ps ≡ (row_of o setting).bytes ps
+
+abbrev pub IsRow : StageForm → Options → Setting → Type 0
+IsRow Reads o setting = (is_reading (role_of o) ≡ true) × (op_for (role_of o) ≡ op_for (role.Reads []))
+IsRow (Filters f) o setting = IsFilterRow f o setting
+IsRow (Gathers g) o setting = IsGatherRow g o setting
+IsRow (Writes x) o setting = IsWriterRow x o setting
+
+pub row-is : (o : Options) (setting : Setting) → IsRow (form_for o setting) o setting
+row-is (ReadersLas o) setting = (refl, refl)
+row-is (WritersLas o) setting = record { name = o.filename; does = refl; filtering = refl; chooses = λ ps. refl; bytes = λ ps. refl }
+row-is (WritersText o) setting = record { name = o.filename; does = refl; filtering = refl; chooses = λ ps. refl; bytes = λ ps. refl }
+row-is (FiltersSort o) setting = record { does = refl; gathers = refl }
+row-is (FiltersTail o) setting = record { does = refl; gathers = refl }
+row-is (FiltersGroupby o) setting = record { does = refl; gathers = refl }
+row-is o setting = record { does = refl; begins = refl; filtering = refl }
+
+-- ---- works at their start
+
+module _ {S K : Type 0} (s : source.Ghosts S) (bytes : K → Option (List ℕ)) where
+  pub leaf-is : (o : Options) (setting : Setting) (opened : Opened) (i : ℕ) (w : StageWork S K) → IsAtStart bytes o setting w → is_leaf w ≡ true → ((r : LasReader S) → w ≡ Reader r → Tells s opened i r) → IsLeaf s o (opened i).las w
+  leaf-is o setting opened i w start leaf tell = go (form_for o setting) (row-is o setting) w start leaf tell
+    where
+      go : (form : StageForm) → IsRow form o setting → (w : StageWork S K) → IsStarted bytes form w → is_leaf w ≡ true → ((r : LasReader S) → w ≡ Reader r → Tells s opened i r) → IsLeaf s o (opened i).las w
+      go Reads row (Reader r) start leaf tell = (
+          let t = tell r refl in
+          let f = reader_starts {K = K} s.bytes r t.file start t.told in
+          let las = ap (λ (x : LasFile). x.las) t.holds in
+          record {
+            reads = row.0;
+            tells = f.tells;
+            told = f.told ∙ ap (λ las. flow_marks (las_flow las)) (sym las);
+            fault = f.fault ∙ ap (λ las. option_map stage.Point (las_fault las)) (sym las);
+          })
+      go (Filters f) row (Filter g) start leaf tell = absurd (true≢false (sym leaf))
+      go (Gathers g) row (Collector c) start leaf tell = absurd (true≢false (sym leaf))
+      go (Writes x) row (Writer v) start leaf tell = absurd (true≢false (sym leaf))
+      go form row w start leaf tell = absurd start
+
+  pub inner-is : (o : Options) (setting : Setting) (w : StageWork S K) → IsAtStart bytes o setting w → is_leaf w ≡ false → is_gathering (role_of o) ≡ false → IsInner o setting w
+  inner-is o setting w start inner streams = go (form_for o setting) (row-is o setting) w start inner
+    where
+      go : (form : StageForm) → IsRow form o setting → (w : StageWork S K) → IsStarted bytes form w → is_leaf w ≡ false → IsInner o setting w
+      go Reads row (Reader r) start inner = absurd (true≢false inner)
+      go (Filters f) row (Filter g) start inner = subst (λ h. IsInner {S = S} {K = K} o setting (Filter h)) (sym start) (record {
+        inner = ap is_reading row.does;
+        makes = λ flow. ap (λ t. made_of (filter_work (filtering_of f)) (At t) flow) row.begins ∙ filter_gives (filtering_of f) flow ∙ ap (λ m. flow_marks (rows.made m flow)) (sym row.filtering);
+        fault = λ flow. ap (λ t. fault_on (filter_work (filtering_of f)) (At t) flow) row.begins ∙ filter_fault (filtering_of f) flow ∙ ap (λ m. option_map stage.Point (rows.stop m flow)) (sym row.filtering);
+      })
+      go (Gathers g) row (Collector c) start inner = absurd (true≢false (sym (ap is_gathering row.does) ∙ streams))
+      go (Writes x) row (Writer v) start inner = record {
+        inner = ap is_reading row.does;
+        makes = λ flow. ap (λ t. made_of writer_work t flow) start.state ∙ writer_gives x flow ∙ ap (λ m. flow_marks (rows.made m flow)) (sym row.filtering);
+        fault = λ flow. ap (λ t. fault_on writer_work t flow) start.state ∙ writer_fault x flow ∙ ap (λ m. option_map stage.Point (rows.stop m flow)) (sym row.filtering);
+      }
+      go form row w start inner = absurd start
+
+  -- a work at its start holds nothing
+  pub holds-nothing : (o : Options) (setting : Setting) (w : StageWork S K) → IsAtStart bytes o setting w → holds_of bytes w [] ≡ true
+  holds-nothing o setting w start = go (form_for o setting) w start
+    where
+      go : (form : StageForm) (w : StageWork S K) → IsStarted bytes form w → holds_of bytes w [] ≡ true
+      go Reads (Reader r) start = refl
+      go (Filters f) (Filter g) start = refl
+      go (Gathers g) (Collector c) start = refl
+      go (Writes x) (Writer v) start = start.holds
+      go form w start = absurd start
+
+  -- and the device of its stage's role
+  pub op-at-start : (o : Options) (setting : Setting) (w : StageWork S K) → IsAtStart bytes o setting w → op_of w ≡ op_for (role_of o)
+  op-at-start o setting w start = go (form_for o setting) (row-is o setting) w start
+    where
+      go : (form : StageForm) → IsRow form o setting → (w : StageWork S K) → IsStarted bytes form w → op_of w ≡ op_for (role_of o)
+      go Reads row (Reader r) start = sym row.1
+      go (Filters f) row (Filter g) start = sym (ap op_for row.does)
+      go (Gathers g) row (Collector c) start = sym (ap op_for row.does)
+      go (Writes x) row (Writer v) start = sym (ap op_for row.does)
+      go form row w start = absurd start
+
+  -- its work is a leaf exactly where the stage reads
+  reads-at-start : (o : Options) (setting : Setting) (w : StageWork S K) → IsAtStart bytes o setting w → is_leaf w ≡ is_reading (role_of o)
+  reads-at-start o setting w start = go (form_for o setting) (row-is o setting) w start
+    where
+      go : (form : StageForm) → IsRow form o setting → (w : StageWork S K) → IsStarted bytes form w → is_leaf w ≡ is_reading (role_of o)
+      go Reads row (Reader r) start = sym row.0
+      go (Filters f) row (Filter g) start = sym (ap is_reading row.does)
+      go (Gathers g) row (Collector c) start = sym (ap is_reading row.does)
+      go (Writes x) row (Writer v) start = sym (ap is_reading row.does)
+      go form row w start = absurd start
+
+  -- so it is where its type is a reader's
+  pub start-reads : (o : Options) (setting : Setting) (w : StageWork S K) → IsAtStart bytes o setting w → is_leaf w ≡ names.is_reader (kind_of o)
+  start-reads o setting w start = reads-at-start o setting w start ∙ same o
+    where
+      same : (o : Options) → is_reading (role_of o) ≡ names.is_reader (kind_of o)
+      same (ReadersLas o) = refl
+      same o = refl
+
+  -- a stage that needs whole views has a work that takes them
+  pub collects-at-start : (o : Options) (setting : Setting) (w : StageWork S K) → IsAtStart bytes o setting w → is_gathering (role_of o) ≡ true
+      → (c : Collecting) × (g : Gathering) × (w ≡ Collector c) × HoldsNone g c × ((row_of o setting).making ≡ rows.Gathered g)
+  collects-at-start o setting w start gathers = go (form_for o setting) (row-is o setting) w start
+    where
+      not-reading : (r : Role) → is_reading r ≡ true → is_gathering r ≡ true → ⊥
+      not-reading (role.Reads name) a b = absurd (true≢false (sym b))
+      not-reading role.Gathers a b = absurd (true≢false (sym a))
+      not-reading r a b = absurd (true≢false (sym b))
+
+      go : (form : StageForm) → IsRow form o setting → (w : StageWork S K) → IsStarted bytes form w
+          → (c : Collecting) × (g : Gathering) × (w ≡ Collector c) × HoldsNone g c × ((row_of o setting).making ≡ rows.Gathered g)
+      go Reads row (Reader r) start = absurd (not-reading (role_of o) row.0 gathers)
+      go (Filters f) row (Filter h) start = absurd (true≢false (sym gathers ∙ ap is_gathering row.does))
+      go (Gathers g) row (Collector c) start = (c, g, refl, start, row.gathers)
+      go (Writes x) row (Writer v) start = absurd (true≢false (sym gathers ∙ ap is_gathering row.does))
+      go form row w start = absurd start
+
+  -- and a work that takes them is that of a stage that needs them
+  pub collects-gathers : (o : Options) (setting : Setting) (w : StageWork S K) → IsAtStart bytes o setting w → IsCollecting w → is_gathering (role_of o) ≡ true
+  collects-gathers o setting (Collector c) start collects = go (form_for o setting) (row-is o setting) start
+    where
+      go : (form : StageForm) → IsRow form o setting → IsStarted {S = S} {K = K} bytes form (Collector c) → is_gathering (role_of o) ≡ true
+      go (Gathers g) row start = ap is_gathering row.does
+      go form row start = absurd start
+  collects-gathers o setting w start collects = absurd collects
+
+  -- a writer writes what its stage does
+  pub writing-at-start : (o : Options) (setting : Setting) (w : StageWork S K) → IsAtStart bytes o setting w → (x : Writing) → form_for o setting ≡ Writes x → writing_of w ≡ Some x
+  writing-at-start o setting w start x e = go w (subst (λ form. IsStarted bytes form w) e start)
+    where
+      go : (w : StageWork S K) → IsStarted bytes (Writes x) w → writing_of w ≡ Some x
+      go (Writer v) start = start.is
+      go w start = absurd start
+
+  -- a reader that gave nothing yet is the work of a stage that reads
+  pub reader-start : (o : Options) (setting : Setting) (r : LasReader S) → is_reading (role_of o) ≡ true → r.progress ≡ Records 0 → IsAtStart bytes o setting (Reader r)
+  reader-start o setting r reads start = go (form_for o setting) (row-is o setting) reads start
+    where
+      go : (form : StageForm) → IsRow form o setting → is_reading (role_of o) ≡ true → r.progress ≡ Records 0 → IsStarted {S = S} {K = K} bytes form (Reader r)
+      go Reads row reads start = start
+      go (Filters f) row reads start = absurd (true≢false (sym reads ∙ ap is_reading row.does))
+      go (Gathers g) row reads start = absurd (true≢false (sym reads ∙ ap is_reading row.does))
+      go (Writes x) row reads start = absurd (true≢false (sym reads ∙ ap is_reading row.does))
+
+-- ---- what writers write
+
+-- a stage that writes is one whose work is made of a file
+pub writes-form : (o : Options) (setting : Setting) → is_writing (role_of o) ≡ true → (x : Writing) × (form_for o setting ≡ Writes x)
+writes-form o setting writes = go (form_for o setting) refl (row-is o setting)
+  where
+    not-both : (r : Role) → is_reading r ≡ true → is_writing r ≡ true → ⊥
+    not-both (role.Reads name) a b = absurd (true≢false (sym b))
+    not-both (role.Writes name) a b = absurd (true≢false (sym a))
+    not-both r a b = absurd (true≢false (sym b))
+
+    go : (form : StageForm) → form_for o setting ≡ form → IsRow form o setting → (x : Writing) × (form_for o setting ≡ Writes x)
+    go Reads e row = absurd (not-both (role_of o) row.0 writes)
+    go (Filters f) e row = absurd (true≢false (sym writes ∙ ap is_writing row.does))
+    go (Gathers g) e row = absurd (true≢false (sym writes ∙ ap is_writing row.does))
+    go (Writes x) e row = (x, e)
+
+pub writer-row : (o : Options) (setting : Setting) (x : Writing) → form_for o setting ≡ Writes x → IsWriterRow x o setting
+writer-row o setting x e = subst (λ form. IsRow form o setting) e (row-is o setting)
+
+-- where its stage has no fault on a flow, a writer stops at none of its points
+pub nowhere-is : (o : Options) (setting : Setting) (x : Writing) (flow : Flow Point) → form_for o setting ≡ Writes x → rows.fault_on (row_of o setting) flow ≡ None → stops_nowhere x (points flow) ≡ true
+nowhere-is o setting x flow e sound = sound_nowhere x flow (ap (λ m. rows.stop m flow) (sym ((writer-row o setting x e).filtering)) ∙ sound)
+
+-- a stage wrote what its row writes
+pub wrote-is : (o : Options) (setting : Setting) (ps : List Point) → wrote_of (form_for o setting) ps ≡ option_map (λ (name : List ℕ). up_to_limit (length (filter ((row_of o setting).writes) ps))) (target_of (role_of o))
+wrote-is (WritersLas o) setting ps = refl
+wrote-is (WritersText o) setting ps = refl
+wrote-is o setting ps = refl
+
+-- a reader has no fault on what it would take
+pub reader-sound : (o : Options) (setting : Setting) (flow : Flow Point) → is_reading (role_of o) ≡ true → rows.fault_on (row_of o setting) flow ≡ None
+reader-sound (ReadersLas o) setting flow reads = refl
+reader-sound o setting flow reads = absurd (true≢false (sym reads))

@@ -1,0 +1,144 @@
+-- The works of a tree's stages at their start.
+use Rattle.std.specs.Prelude.{◌≡◌, ℕ, ⊤, true, false, List, [], length, slice_get, Option, Some, None}
+use Rattle.file_devices.specs.declared.devices.Op.{Op}
+use Rattle.file_devices.specs.declared.devices.Op.TheVariants.{Read, Write}
+use Rattle.file_devices.specs.declared.devices.Source as source
+use Rattle.cloud_points.specs.declared.dims.Dim.{Dim}
+use Rattle.cloud_points.specs.declared.work.Work.{Ghosts}
+use Rattle.cloud_points.specs.Flows.{empty_flow}
+use Rattle.expr_lang.specs.Formula.{Formula}
+use Rattle.whole_filters.specs.declared.gathering.Gathering.{Gathering}
+use Rattle.view_works.specs.declared.collector.Collector.{Collector as Collecting}
+use Rattle.forward_rules.specs.Forwarded.{form_of}
+use Rattle.las_reader.specs.declared.reader.LasReader.{LasReader}
+use Rattle.las_reader.specs.declared.reader.Progress.TheVariants.{Records}
+use Rattle.stage_kinds.specs.declared.file_form.FileForm.{FileForm}
+use Rattle.stage_kinds.specs.declared.file_form.FileForm.TheVariants as file
+use Rattle.stage_kinds.specs.declared.file_form.StageForm.{StageForm}
+use Rattle.stage_kinds.specs.declared.file_form.StageForm.TheVariants.{Reads, Filters, Gathers, Writes}
+use Rattle.stage_kinds.specs.declared.file_form.Writing.{Writing}
+use Rattle.stage_kinds.specs.declared.stage_work.StageWork.{StageWork}
+use Rattle.stage_kinds.specs.declared.stage_work.StageWork.TheVariants.{Reader, Filter, Collector, Writer}
+use Rattle.stage_kinds.specs.Files.{IsFileForm, chosen}
+use Rattle.stage_kinds.specs.Held.{op_of}
+use Rattle.stage_kinds.specs.Stages.{begun, state_of, holds_of, writing_of}
+use Rattle.stage_options.specs.Roles.{Role}
+use Rattle.stage_options.specs.Roles as role
+use Rattle.stage_options.specs.declared.options.Options.{Options}
+use Rattle.stage_options.specs.declared.options.Options.TheVariants.{WritersLas, WritersText}
+use Rattle.name_binding.specs.declared.binding.BoundFilter.{BoundFilter}
+use Rattle.name_binding.specs.declared.binding.BoundFilter.TheVariants as bound
+use Rattle.name_binding.specs.declared.binding.BoundStage.{BoundStage}
+use Rattle.name_binding.specs.declared.binding.BoundStage.TheVariants as does
+use Rattle.name_binding.specs.Binding.{bound_stage}
+use Rattle.name_binding.specs.Ferries.{names_behind}
+use Rattle.stage_meanings.specs.ByRule.{spot_at}
+use Rattle.stream_filters.specs.declared.filter.Filter.{Filter as Filtering}
+use Rattle.stream_filters.specs.declared.filter.Filter.TheVariants as filter
+use Rattle.stage_options.specs.declared.stage.StageSpec.{StageSpec}
+use Rattle.stage_forms.specs.Below.{Tells, read_of}
+use Rattle.answer_model.specs.Forms.{text_form}
+use Rattle.answer_model.specs.Rows.{Setting}
+use Rattle.answer_model.specs.Values.{Opened, options_at, role_at, setting_at}
+use Rattle.cloud_points.specs.declared.point.Point.{Point}
+use Rattle.cloud_points.specs.Queue.{up_to_limit}
+
+-- ---- what the work of a stage is made of, beside its device
+
+-- a filter before all points, of those for which a condition holds
+abbrev pub started : BoundFilter → Option (Formula Dim) → Filtering
+started (bound.Range limits) only = filter.Range (record { rule = limits; only = only; spot = spot_at 0 })
+started (bound.Crop shape outside) only = filter.Crop (record { rule = record { shape = shape; outside = outside }; only = only; spot = spot_at 0 })
+started (bound.Assign list) only = filter.Assign (record { rule = list; only = only; spot = spot_at 0 })
+started (bound.Expression condition) only = filter.Expression (record { rule = record { 0 = condition }; only = only; spot = spot_at 0 })
+started (bound.Decimation step offset limit) only = filter.Decimation (record { rule = record { step = step; offset = offset; limit = limit }; only = only; spot = spot_at 0 })
+started (bound.Head count) only = filter.Head (record { rule = record { count = count }; only = only; spot = spot_at 0 })
+started (bound.Returns groups) only = filter.Returns (record { rule = groups; only = only; spot = spot_at 0 })
+started bound.Merge only = filter.Merge
+
+-- the form of a writer's file, by its options and where it stands
+abbrev pub file_for : Options → Setting → Option FileForm
+file_for (WritersLas o) setting = Some (file.Las (form_of o.fields setting.reads))
+file_for (WritersText o) setting = Some (file.Text (text_form setting.names o))
+file_for _ setting = None
+
+-- by what a stage does; each that writes has a file
+abbrev pub does_with : BoundStage → Option FileForm → StageForm
+does_with (does.Filters f only) form = Filters (started f only)
+does_with (does.Gathers g) form = Gathers g
+does_with (does.Writes only) (Some form) = Writes (record { form = form; only = only })
+does_with _ form = Reads
+
+-- by its options, and where it stands
+abbrev pub form_for : Options → Setting → StageForm
+form_for o setting = does_with (bound_stage setting.names o) (file_for o setting)
+
+-- its options are bound beside the extra names before it, and these are the ones behind it
+pub record IsBoundBehind (o : Options) (b : BoundStage) (before after : List (List ℕ)) : Type 0 where
+  pub bound : b ≡ bound_stage before o
+  pub behind : after ≡ names_behind before o
+
+-- a file that it writes can be written
+abbrev pub IsGood : StageForm → Type 0
+IsGood (Writes writing) = IsFileForm writing.form
+IsGood _ = ⊤
+
+-- ---- works at their start
+
+-- a writer that had no point yet; `bytes` is what a sink tells
+pub record IsBegun {S K : Type 0} (bytes : K → Option (List ℕ)) (writing : Writing) (w : StageWork S K) : Type 0 where
+  pub is : writing_of w ≡ Some writing
+  pub state : state_of w ≡ begun writing
+  pub holds : holds_of bytes w [] ≡ true
+
+-- a stage that needs whole views and took none yet
+pub record HoldsNone (g : Gathering) (c : Collecting) : Type 0 where
+  pub gathering : c.gathering ≡ g
+  pub short : c.short ≡ false
+  pub views : c.views ≡ empty_flow
+
+-- a work made of this that had no turn yet
+abbrev pub IsStarted : {S K : Type 0} → (K → Option (List ℕ)) → StageForm → StageWork S K → Type 0
+IsStarted bytes Reads (Reader r) = r.progress ≡ Records 0
+IsStarted bytes (Filters f) (Filter g) = g ≡ f
+IsStarted bytes (Gathers g) (Collector c) = HoldsNone g c
+IsStarted {S} {K} bytes (Writes writing) (Writer w) = IsBegun {S = S} {K = K} bytes writing (Writer w)
+IsStarted bytes _ _ = ⊥
+
+-- a work does what a stage with these options does where it stands, and had no turn yet
+abbrev pub IsAtStart : {S K : Type 0} → (K → Option (List ℕ)) → Options → Setting → StageWork S K → Type 0
+IsAtStart bytes o setting w = IsStarted bytes (form_for o setting) w
+
+-- what a stage that does this does with its device while the stages take turns
+abbrev pub op_for : Role → Option Op
+op_for (role.Reads name) = Some Read
+op_for role.Filters = None
+op_for role.Gathers = None
+op_for (role.Writes name) = Some Write
+
+-- works that hold the devices of their stages' roles
+abbrev pub HaveDevices : {S K : Type 0} → List StageSpec → List (StageWork S K) → Type 0
+HaveDevices {S} {K} stages works = (i : ℕ) (w : StageWork S K) → slice_get works i ≡ Some w → op_of w ≡ op_for (role_at stages i)
+
+-- these are the files of the readers among works
+abbrev pub HaveRead : {S K : Type 0} → List (StageWork S K) → Opened → Type 0
+HaveRead {S} works opened = (i : ℕ) (r : LasReader S) → slice_get works i ≡ Some (Reader r) → (opened i).read ≡ read_of r
+
+-- the works of the first stages, as many as there are, are at their start behind the files of the readers among them
+abbrev pub AreAtStart : {S K : Type 0} → (K → Option (List ℕ)) → List StageSpec → List (StageWork S K) → Type 0
+AreAtStart {S} {K} bytes stages works = (opened : Opened) → HaveRead works opened
+    → (i : ℕ) (w : StageWork S K) → slice_get works i ≡ Some w → IsAtStart bytes (options_at stages i) (setting_at stages opened i) w
+
+-- the readers' sources tell these files
+abbrev pub AreTold : {S K : Type 0} → source.Ghosts S → List (StageWork S K) → Opened → Type 0
+AreTold {S} {K} s works opened = (i : ℕ) (w : StageWork S K) (r : LasReader S) → slice_get works i ≡ Some w → w ≡ Reader r → Tells s opened i r
+
+-- a work takes whole views
+abbrev pub IsCollecting : {S K : Type 0} → StageWork S K → Type 0
+IsCollecting (Collector c) = ⊤
+IsCollecting w = ⊥
+
+-- how many of these points a stage wrote
+abbrev pub wrote_of : StageForm → List Point → Option ℕ
+wrote_of (Writes x) points = Some (up_to_limit (length (chosen x.only points)))
+wrote_of _ points = None

@@ -1,0 +1,100 @@
+//! What the works of stages are made of, by the options of the stage.
+
+ghost use Rattle.std.specs.Prelude.{◌≡◌, ◌<◌, ℕ, List, All, Some, true, length, IfOk};
+ghost use Rattle.stage_forms.specs.Below.{reads_in};
+ghost use Rattle.stage_kinds.specs.Files.{IsFileForm};
+ghost use Rattle.stage_options.specs.Roles.{is_writing, role_of};
+ghost use Rattle.stage_forms.specs.Starts.{IsBoundBehind, IsGood, file_for, form_for, started};
+
+use crate::{las_form, text_form};
+use cloud_points::ExtraNames;
+use expr_eval::Bound;
+use file_devices::Source;
+use las_reader::LasReader;
+use name_binding::{BoundFilter, BoundStage};
+use stage_kinds::{FileForm, StageForm, Writing};
+use stage_options::Options;
+use std::alloc::{AllocError, Global};
+use stream_filters::{Condition, Crop, Decimation, Filter, Head, PointFilter};
+
+/// A filter that does this with the points for which a condition holds, before all points.
+fn filter_of(bound: BoundFilter, only: Option<Bound>) -> Filter
+    ensures { result ≡ started bound only }
+{
+    match bound {
+        BoundFilter::Range(limits) => Filter::Range(PointFilter::new(limits, only)),
+        BoundFilter::Crop(shape, outside) => {
+            Filter::Crop(PointFilter::new(Crop { shape, outside }, only))
+        }
+        BoundFilter::Assign(assignments) => { Filter::Assign(PointFilter::new(assignments, only)) }
+        BoundFilter::Expression(condition) => {
+            Filter::Expression(PointFilter::new(Condition(condition), only))
+        }
+        BoundFilter::Decimation(step, offset, limit) => {
+            Filter::Decimation(PointFilter::new(
+                Decimation {
+                    step,
+                    offset,
+                    limit,
+                },
+                only,
+            ))
+        }
+        BoundFilter::Returns(groups) => Filter::Returns(PointFilter::new(groups, only)),
+        BoundFilter::Head(count) => Filter::Head(PointFilter::new(Head { count }, only)),
+        BoundFilter::Merge => Filter::Merge,
+    }
+}
+
+/// The form of the file that a writer with these options writes, beside these extra names and behind the readers of these numbers.
+/// Refused only where memory is wanting.
+fn file_form<S: Source>(
+    alloc: Global,
+    options: &Options,
+    names: &ExtraNames,
+    readers: &[Option<LasReader<S>>],
+    below: &[u32],
+) -> Result<FileForm, AllocError>
+    requires writes { is_writing (role_of options.now) ≡ true }
+    requires inside { All (λ j. j < length readers.now) below.now }
+    ensures form { IfOk result (λ form. file_for options.now (record { names = names.now; reads = reads_in readers.now below.now }) ≡ Some form) }
+    ensures good { IfOk result IsFileForm }
+{
+    match options {
+        Options::WritersLas(las) => Ok(FileForm::Las(las_form(
+            alloc,
+            &las.fields,
+            readers,
+            below,
+        )?)),
+        Options::WritersText(text) => Ok(FileForm::Text(text_form(alloc, names, text)?)),
+        _ => unreachable!(),
+    }
+}
+
+/// What the work of a stage is made of, by its options and by these with dimensions in place of names, beside the extra names behind
+/// it and behind the readers of these numbers. Refused only where memory is wanting.
+pub fn stage_form<S: Source>(
+    alloc: Global,
+    options: &Options,
+    bound: BoundStage,
+    names: &ExtraNames,
+    readers: &[Option<LasReader<S>>],
+    below: &[u32],
+) -> Result<StageForm, AllocError>
+    requires bound { (before : List (List ℕ)) × IsBoundBehind options.now bound before names.now }
+    requires inside { All (λ j. j < length readers.now) below.now }
+    ensures form { (before : List (List ℕ)) → IsBoundBehind options.now bound before names.now
+        → IfOk result (λ form. form ≡ form_for options.now (record { names = before; reads = reads_in readers.now below.now })) }
+    ensures good { IfOk result IsGood }
+{
+    match bound {
+        BoundStage::Reads => Ok(StageForm::Reads),
+        BoundStage::Filters(filter, only) => Ok(StageForm::Filters(filter_of(filter, only))),
+        BoundStage::Gathers(gathering) => Ok(StageForm::Gathers(gathering)),
+        BoundStage::Writes(only) => {
+            let form = file_form(alloc, options, names, readers, below)?;
+            Ok(StageForm::Writes(Writing { form, only }))
+        }
+    }
+}
