@@ -125,7 +125,7 @@ patched-las (WritersText o) setting x is e = let no : op.Write ≡ op.Patch = ap
 patched-las o setting x is e = let no : op.Read ≡ op.Patch = ap last_op is ∙ e in cc
 
 -- a count that rose in a device rose in that of the files, once the device is given back
-rose-given : (before after files end : ℕ) → Rose before after → saturating files after ≤ end → Rose files end
+pub rose-given : (before after files end : ℕ) → Rose before after → saturating files after ≤ end → Rose files end
 rose-given before after files end rose back = omega (arith, rose, back)
 
 -- what a work does with its device isn't a keeping

@@ -5,3 +5,4 @@ pub mod Ran
 pub mod Puts
 pub mod Answers
 pub mod Waiting
+pub mod Blamed

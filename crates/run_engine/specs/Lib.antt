@@ -1,3 +1,4 @@
 pub mod Counted
 pub mod Done
 pub mod Jobs
+pub mod Blame

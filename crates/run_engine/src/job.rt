@@ -4,7 +4,9 @@ ghost use Rattle.std.specs.Prelude.{◌≡◌, ◌≤◌, ◌+◌, ℕ, length, 
 ghost use Rattle.file_devices.specs.Counts.{Rose};
 ghost use Rattle.file_devices.specs.Named.{Names};
 ghost use Rattle.pipeline_json.specs.Trees.{IsTree};
-ghost use Rattle.run_report.specs.declared.refusal.Refusal.{Refusal as Refused};
+ghost use Rattle.file_devices.specs.declared.devices.Op.{Op};
+ghost use Rattle.run_report.specs.declared.refusal.Place as place;
+ghost use Rattle.run_report.specs.declared.refusal.Refusal as refused;
 ghost use Rattle.stage_options.specs.Kinds.{HaveOwnOptions};
 ghost use Rattle.stage_options.specs.Shapes.{shapes};
 ghost use Rattle.stage_kinds.specs.Held.{faults_of};
@@ -14,6 +16,7 @@ ghost use Rattle.stage_runs.specs.Short.{SomeGathers};
 ghost use Rattle.held_devices.specs.Holding.{all_held};
 ghost use Rattle.run_outcome.specs.Cause.{IsCause, IsRun, IsLeft};
 ghost use Rattle.run_engine.specs.declared.engine.Engine.{Engine as Chosen};
+ghost use Rattle.run_engine.specs.Blame.{IsBlamed};
 ghost use Rattle.run_engine.specs.Jobs.{TakesTurns, IsReady, IsWaiting, IsShort, CameTo, HasRun};
 ghost use Rattle.stage_forms.specs.Later.{AreLater};
 ghost use Rattle.set_engine.specs.Evaluated.{HaveEnded};
@@ -109,7 +112,10 @@ impl<S: Source, K: FileSink> Job<S, K> {
     ///
     /// Where stages have faults it answers the one that goes first, and where memory was wanting `Memory`, and keeps nothing. Else `Data`
     /// comes only where the files had that fault as the run was prepared, `Device` only where the device failed, `Memory` where there was
-    /// none. After a refusal the files are as before; only where the keeping of a file failed or found no memory are those of the writers
+    /// none. The device of a stage is named for what the stages did in their turns only where that of no earlier stage failed, and for the
+    /// end of its file only where no stage has a fault.
+    ///
+    /// After a refusal the files are as before; only where the keeping of a file failed or found no memory are those of the writers
     /// before it kept, and that one may be. Files that don't tell what they have don't tell it after the run.
     pub fn close<F: Files<In = S, Out = K>>(
         self,
@@ -124,8 +130,10 @@ impl<S: Source, K: FileSink> Job<S, K> {
             → IsCause (Rose (F.faults files.old) (F.faults files.new)) first stages.now refusal) }
         ensures left { IfErr result (λ refusal. (m : Names) → HasRun S.Source K.Sink (Some m) stages.now self
             → IsLeft refusal (F.map files.old) (F.map files.new) (run_of m stages.now)) }
-        ensures refused { (refusal : Refused) → CameTo refusal self.step
+        ensures refused { (refusal : refused.Refusal) → CameTo refusal self.step
             → (result ≡ Err refusal) × (F.map files.new ≡ F.map files.old) }
+        ensures blamed { (i : ℕ) (o : Op) → result ≡ Err (refused.Refusal.Device (place.Place.Stage i) o)
+            → IsBlamed (faults_of S.faults K.faults) (Rose (F.faults files.old) (F.faults files.new)) self.works.items self.step i o }
         ensures untold { F.map files.old ≡ None → F.map files.new ≡ None }
         ensures lent { (others : ℕ) → F.lent files.old ≡ others + all_held self.works.items → F.lent files.new ≡ others }
         ensures later { F.faults files.old ≤ F.faults files.new }

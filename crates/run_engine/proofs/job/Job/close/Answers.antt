@@ -1,4 +1,4 @@
-use Rattle.std.proofs.Common.{◌≡◌, ◌+◌, length, Err, refl, ap, sym, subst, ◌∙◌, arith}
+use Rattle.std.proofs.Common.{◌≡◌, ◌+◌, length, Err, refl, ap, sym, subst, ◌∙◌, arith, inl, inr}
 use Rattle.std.specs.Prelude.{None, Some}
 use Rattle.file_devices.specs.Counts.{Rose}
 use Rattle.stage_kinds.specs.Held.{faults_of}
@@ -9,9 +9,14 @@ use Rattle.run_outcome.specs.Outcomes.{refusal_for}
 use Rattle.run_outcome.proofs.Outcomes.{not-refused}
 use Rattle.run_outcome.proofs.Results.{on-ok, err-of}
 use Rattle.run_ending.specs.Finished.{IsUnfinished}
+use Rattle.run_ending.specs.Keeping.{BrokeOff}
+use Rattle.run_report.specs.declared.refusal.Place.TheVariants.{Stage}
+use Rattle.run_report.specs.declared.refusal.Refusal.TheVariants.{Device}
 use Rattle.run_ending.proofs.Keeping.{untold-kept, untold-broke}
+use Rattle.run_engine.specs.Blame.{IsBlamed}
 use Rattle.run_engine.specs.Done.{AreDone}
 use Rattle.run_engine.specs.Jobs.{HaveCome, CameTo}
+use Rattle.run_engine.proofs.Blamed.{failed-first, failed-finish, failed-keep}
 use Rattle.run_engine.proofs.Ran.{later-on, done-on}
 use Rattle.run_engine.proofs.Answers.{early-left, fault-cause, fault-early, unfinished-to-cause, unfinished-early, same-held, fit, is-run, unkept-cause, unkept-left}
 use Rattle.run_engine.proofs.job.Job.close.Goals as goal
@@ -217,3 +222,51 @@ returns-in-Ok-clause-lent g c =
     let works = c.args.self.works.items in
     let done = c.finish-works.result.works.items in
     λ others h. c.keep_works.ensures.lent others (h ∙ ap (λ n. others + n) (sym (same-held faults works done c.finish-works.ensures.later)))
+
+pub returns-in-Err-clause-blamed : goal.returns-in-Err-clause-blamed
+returns-in-Err-clause-blamed g c = λ i o same.
+    let s = g.S.Source in
+    let k = g.K.Sink in
+    let stages = c.args.stages.now in
+    let works = c.args.self.works.items in
+    let ran = c.requires.ran.1 in
+    let came = subst (HaveCome s k stages ran.before works) c.in-Done.is ran.came in
+    let found : refusal_for c.in-Done.ended.faults.items ≡ Some c.in-Err.refusal = subst (λ fs. refusal_for fs ≡ Some c.in-Err.refusal) c.as_slice.ensures.value c.in-Err.ensures.err in
+    let is : c.in-Err.refusal ≡ Device (Stage i) o = cc in
+    let first = failed-first s k stages ran.before works c.in-Done.ended.faults.items c.in-Done.ended.report.items came ran.later i o (found ∙ ap (λ r. Some r) is) in
+    subst (λ step. IsBlamed (faults_of s.faults k.faults) (Rose (g.F.Files.faults c.args.files.now) (g.F.Files.faults c.release_works-in-Err.new.files)) works step i o) (sym c.in-Done.is) (inl first)
+
+pub returns-in-Err-outcome-clause-blamed : goal.returns-in-Err-outcome-clause-blamed
+returns-in-Err-outcome-clause-blamed g c = λ i o same.
+    let s = g.S.Source in
+    let k = g.K.Sink in
+    let files = g.F.Files in
+    let stages = c.args.stages.now in
+    let faults = faults_of s.faults k.faults in
+    let works = c.args.self.works.items in
+    let done = c.finish-works.result.works.items in
+    let none : refusal_for c.in-Done.ended.faults.items ≡ None = subst (λ fs. refusal_for fs ≡ None) c.as_slice.ensures.value c.in_default.ensures.ok in
+    let sound = not-refused c.in-Done.ended.faults.items none in
+    let unfinished = err-of (IsUnfinished faults works done) c.finish-works.result.outcome c.in-Err-outcome.refusal c.in-Err-outcome.is c.finish-works.ensures.err in
+    let is : c.in-Err-outcome.refusal ≡ Device (Stage i) o = cc in
+    let last = failed-finish s k stages works done c.in-Done.ended.faults.items (files.faults c.args.files.now) (files.faults c.release_works-in-Err-outcome.new.files) sound c.release_works-in-Err-outcome.ensures.counted i o
+    (subst (IsUnfinished faults works done) is unfinished) in
+    subst (λ step. IsBlamed faults (Rose (files.faults c.args.files.now) (files.faults c.release_works-in-Err-outcome.new.files)) works step i o) (sym c.in-Done.is) (inr last)
+
+pub returns-in-Err-keep_works-clause-blamed : goal.returns-in-Err-keep_works-clause-blamed
+returns-in-Err-keep_works-clause-blamed g c = λ i o same.
+    let s = g.S.Source in
+    let k = g.K.Sink in
+    let files = g.F.Files in
+    let stages = c.args.stages.now in
+    let faults = faults_of s.faults k.faults in
+    let works = c.args.self.works.items in
+    let done = c.finish-works.result.works.items in
+    let ran = c.requires.ran.1 in
+    let none : refusal_for c.in-Done.ended.faults.items ≡ None = subst (λ fs. refusal_for fs ≡ None) c.as_slice.ensures.value c.in_default.ensures.ok in
+    let sound = not-refused c.in-Done.ended.faults.items none in
+    let rose = Rose (files.faults c.args.files.now) (files.faults c.keep_works.new.files) in
+    let is : c.in-Err-keep_works.refusal ≡ Device (Stage i) o = cc in
+    let last = failed-keep s k stages works done c.in-Done.ended.faults.items rose (files.map c.args.files.now) (files.map c.keep_works.new.files) sound (fit s k c.requires.ran.0 stages ran.before works ran.ready faults ran.later)
+    c.finish-works.ensures.later i o (subst (BrokeOff k.bytes rose (files.map c.args.files.now) (files.map c.keep_works.new.files) stages done) is c.in-Err-keep_works.ensures.err) in
+    subst (λ step. IsBlamed faults rose works step i o) (sym c.in-Done.is) (inr last)

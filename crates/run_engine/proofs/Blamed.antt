@@ -1,0 +1,107 @@
+-- Which device is named where a run is closed.
+use Rattle.std.proofs.Common.{◌≡◌, ℕ, ◌≤◌, false, true, List, length, Option, Some, None, slice_get, refl, ap, ◌∙◌, arith, inl, inr}
+use Rattle.file_devices.specs.Counts.{Rose, saturating}
+use Rattle.file_devices.specs.Named.{Names}
+use Rattle.file_devices.specs.declared.devices.Op.{Op}
+use Rattle.file_devices.specs.declared.devices.Op.TheVariants.{Write, Keep}
+use Rattle.file_devices.specs.declared.devices.Source as source
+use Rattle.file_devices.specs.declared.devices.Sink as sink
+use Rattle.cloud_points.specs.Events.{is_device}
+use Rattle.cloud_points.specs.declared.faults.PointFault.{PointFault}
+use Rattle.cloud_points.specs.declared.faults.StageFault.{StageFault}
+use Rattle.cloud_points.specs.declared.faults.StageFault.TheVariants as stage
+use Rattle.run_report.specs.declared.report.StageCount.{StageCount}
+use Rattle.run_report.specs.declared.refusal.Place.TheVariants.{Stage}
+use Rattle.run_report.specs.declared.refusal.Refusal.TheVariants.{Memory, Device}
+use Rattle.stage_kinds.specs.Held.{faults_of}
+use Rattle.stage_kinds.specs.declared.stage_work.StageWork.{StageWork}
+use Rattle.stage_options.specs.Roles.{Role, Reads, Filters, Gathers, Writes, is_writing}
+use Rattle.stage_options.specs.declared.stage.StageSpec.{StageSpec}
+use Rattle.answer_model.specs.Values.{role_at}
+use Rattle.answer_model.proofs.Least.{found}
+use Rattle.stage_forms.specs.Later.{AreLater}
+use Rattle.stage_forms.specs.Starts.{HaveDevices, op_for}
+use Rattle.held_devices.proofs.Lists.{some_at}
+use Rattle.run_outcome.specs.Faults.{fault_at, AreSound}
+use Rattle.run_outcome.specs.Outcomes.{device_op, first_failed, first_faulty, refusal_by, refusal_for}
+use Rattle.run_ending.specs.Finished.{IsUnfinished}
+use Rattle.run_ending.specs.Keeping.{BrokeOff}
+use Rattle.set_engine.specs.Evaluated.{HaveEnded}
+use Rattle.run_engine.specs.Blame.{FailedFirst, FailedLast}
+use Rattle.run_engine.proofs.Answers.{rose-given}
+
+a-device : (f : Option StageFault) (o : Op) → device_op f ≡ Some o → f ≡ Some (stage.Device o)
+a-device None o e = cc
+a-device (Some (stage.Point f)) o e = cc
+a-device (Some (stage.Device p)) o e = let same : p ≡ o = cc in ap (λ x. Some (stage.Device x)) same
+
+no-device : (f : Option StageFault) → device_op f ≡ None → is_device f ≡ false
+no-device None e = refl
+no-device (Some (stage.Point f)) e = refl
+no-device (Some (stage.Device o)) e = cc
+
+-- the refusal of a run that names a device is for the first stage whose device failed
+first-is : (faults : List (Option StageFault)) (i : ℕ) (o : Op) → refusal_for faults ≡ Some (Device (Stage i) o) → first_failed faults ≡ Some (i, o)
+first-is faults i o e = go (first_failed faults) (first_faulty faults) e
+  where
+    go : (failed : Option (ℕ × Op)) (faulty : Option (ℕ × PointFault)) → refusal_by failed faulty ≡ Some (Device (Stage i) o) → failed ≡ Some (i, o)
+    go (Some d) faulty e =
+        let same : Device (Stage d.0) d.1 ≡ Device (Stage i) o = cc in
+        let number : d.0 ≡ i = cc in
+        let op : d.1 ≡ o = cc in
+        (λ k. Some (number k, op k))
+    go None (Some p) e = absurd cc
+    go None None e = absurd cc
+
+module _ {S K : Type 0} (s : source.Ghosts S) (k : sink.Ghosts K) (stages : List StageSpec) where
+  pub failed-first : (old works : List (StageWork S K)) (faults : List (Option StageFault)) (counts : List StageCount) → HaveEnded s k stages old works faults counts → AreLater (faults_of s.faults k.faults) old works
+      → (i : ℕ) (o : Op) → refusal_for faults ≡ Some (Device (Stage i) o) → FailedFirst (faults_of s.faults k.faults) faults works i o
+  failed-first old works faults counts ended later i o e =
+      let r = found (λ j. device_op (fault_at faults j)) (length faults) 0 i o (first-is faults i o e) in
+      let has = a-device (fault_at faults i) o r.here in
+      let c = ended.caused i o has in
+      record {
+        has = has;
+        least = λ j lt. no-device (fault_at faults j) (r.least j (omega arith) lt);
+        work = c.after;
+        at = c.is;
+        does = later.op i c.before c.after c.was c.is ∙ c.does;
+        count = (let rose = c.rose in omega (arith, rose));
+      }
+
+  -- a writer whose file couldn't be finished
+  pub failed-finish : (works new : List (StageWork S K)) (faults : List (Option StageFault)) (start end : ℕ) → AreSound faults
+      → ((i : ℕ) (w : StageWork S K) → slice_get new i ≡ Some w → saturating start (faults_of s.faults k.faults w) ≤ end)
+      → (i : ℕ) (o : Op) → IsUnfinished (faults_of s.faults k.faults) works new (Device (Stage i) o) → FailedLast (Rose start end) faults works i o
+  failed-finish works new faults start end sound back i o c = record {
+    sound = sound;
+    rises = rose-given (faults_of s.faults k.faults c.before) (faults_of s.faults k.faults c.after) start end c.rose (back i c.after c.is);
+    work = c.before;
+    at = c.was;
+    ends = inl c.named;
+  }
+
+  does-write : (role : Role) → is_writing role ≡ true → op_for role ≡ Some Write
+  does-write (Reads name) e = cc
+  does-write Filters e = cc
+  does-write Gathers e = cc
+  does-write (Writes name) e = refl
+
+  -- one whose file wasn't kept
+  pub failed-keep : {bytes : K → Option (List ℕ)} (works done : List (StageWork S K)) (faults : List (Option StageFault)) (rose : Type 0) (old new : Option Names) → AreSound faults → HaveDevices stages works
+      → AreLater (faults_of s.faults k.faults) works done → (i : ℕ) (o : Op) → BrokeOff bytes rose old new stages done (Device (Stage i) o) → FailedLast rose faults works i o
+  failed-keep works done faults rose old new sound fit later i o broke = elim broke.why [
+    | inl m ↦ absurd (let no : Device (Stage i) o ≡ Memory = m in cc)
+    | inr d ↦ (
+        let same : Device (Stage i) o ≡ Device (Stage broke.stage) Keep = d.0 in
+        let number : i ≡ broke.stage = cc in
+        let op : o ≡ Keep = cc in
+        let w = some_at works i (let a = broke.inside in let b = later.count in omega (arith, a, b, number)) in
+        record {
+          sound = sound;
+          rises = d.1;
+          work = w.0;
+          at = w.1;
+          ends = inr (fit i w.0 w.1 ∙ does-write (role_at stages i) (ap (λ j. is_writing (role_at stages j)) number ∙ broke.writes), op);
+        })
+  ]

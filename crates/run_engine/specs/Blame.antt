@@ -1,0 +1,41 @@
+-- Which device is named where a run is closed.
+use Rattle.std.specs.Prelude.{◌≡◌, ◌⊎◌, ℕ, ◌<◌, false, List, slice_get, option_map, Option, Some}
+use Rattle.file_devices.specs.declared.devices.Op.{Op}
+use Rattle.file_devices.specs.declared.devices.Op.TheVariants.{Write, Keep}
+use Rattle.cloud_points.specs.Events.{is_device}
+use Rattle.cloud_points.specs.declared.faults.StageFault.{StageFault}
+use Rattle.cloud_points.specs.declared.faults.StageFault.TheVariants.{Device}
+use Rattle.stage_kinds.specs.Files.{finishing_op}
+use Rattle.stage_kinds.specs.Held.{op_of}
+use Rattle.stage_kinds.specs.Stages.{writing_of}
+use Rattle.stage_kinds.specs.declared.file_form.Writing.{Writing}
+use Rattle.stage_kinds.specs.declared.stage_work.StageWork.{StageWork}
+use Rattle.run_outcome.specs.Faults.{fault_at, AreSound}
+use Rattle.run_engine.specs.declared.job.Step.{Step}
+use Rattle.run_engine.specs.declared.job.Step.TheVariants.{Done}
+
+-- the device of stage i failed in this before it came to its end, and that of no earlier stage failed; its own count is above 0
+pub record FailedFirst {S K : Type 0} (faults : StageWork S K → ℕ) (found : List (Option StageFault)) (works : List (StageWork S K)) (i : ℕ) (o : Op) : Type 0 where
+  pub has : fault_at found i ≡ Some (Device o)
+  pub least : (j : ℕ) → j < i → is_device (fault_at found j) ≡ false
+  pub work : StageWork S K
+  pub at : slice_get works i ≡ Some work
+  pub does : op_of work ≡ Some o
+  pub count : 0 < faults work
+
+-- a writer's file is ended by this, and then kept
+abbrev pub EndsBy : {S K : Type 0} → StageWork S K → Op → Type 0
+EndsBy work o = (option_map (λ (x : Writing). finishing_op x.form) (writing_of work) ≡ Some o) ⊎ ((op_of work ≡ Some Write) × (o ≡ Keep))
+
+-- no stage has a fault, and the file of stage i, a writer, couldn't be ended or kept; the count of the files' faults rose
+pub record FailedLast {S K : Type 0} (rose : Type 0) (found : List (Option StageFault)) (works : List (StageWork S K)) (i : ℕ) (o : Op) : Type 0 where
+  pub sound : AreSound found
+  pub rises : rose
+  pub work : StageWork S K
+  pub at : slice_get works i ≡ Some work
+  pub ends : EndsBy work o
+
+-- so the device of stage i is named for this
+abbrev pub IsBlamed : {S K : Type 0} → (StageWork S K → ℕ) → Type 0 → List (StageWork S K) → Step S K → ℕ → Op → Type 0
+IsBlamed faults rose works (Done ended) i o = FailedFirst faults ended.faults.items works i o ⊎ FailedLast rose ended.faults.items works i o
+IsBlamed faults rose works step i o = ⊥
