@@ -3,6 +3,8 @@ use Rattle.std.specs.Prelude.{◌≡◌, ◌≤◌, ◌⊎◌, ℕ, List, Option
 use Rattle.file_devices.specs.Counts.{Rose}
 use Rattle.file_devices.specs.Content.{Appends, AppendsPart}
 use Rattle.file_devices.specs.Named.{Names}
+use Rattle.file_devices.specs.declared.devices.Files as files
+use Rattle.file_devices.specs.declared.devices.Sink as sink
 use Rattle.file_devices.specs.declared.devices.Op.{Op}
 use Rattle.file_devices.specs.declared.devices.Op.TheVariants as op
 use Rattle.stage_names.specs.declared.faults.PipeFault.{PipeFault}
@@ -34,6 +36,19 @@ pub record Seen : Type 0 where
   pub out_faults : ℕ
   pub err : Option (List ℕ)
   pub err_faults : ℕ
+
+-- so it is with these files, output and errors
+abbrev pub seen : {F I O K E : Type 0} → files.Ghosts F I O → sink.Ghosts K → sink.Ghosts E → F → K → E → Seen
+seen f k e files out err = record {
+  map = f.map files;
+  faults = f.faults files;
+  read_to = f.read_to files;
+  lent = f.lent files;
+  out = k.bytes out;
+  out_faults = k.faults out;
+  err = e.bytes err;
+  err_faults = e.faults err;
+}
 
 -- the count of the files' faults rose
 abbrev pub FilesRose : Seen → Seen → Type 0

@@ -4,7 +4,7 @@ ghost use Rattle.std.specs.Prelude.{◌≡◌, map, IfOk, OnErr, string_bytes};
 ghost use Rattle.run_report.specs.declared.refusal.Refusal.{Refusal};
 ghost use Rattle.run_report.specs.Faults.{fault_line};
 ghost use Rattle.lasline_top.specs.declared.status.Status.{Status};
-ghost use Rattle.lasline_top.specs.Calls.{HasExited};
+ghost use Rattle.lasline_top.specs.Calls.{HasExited, seen};
 ghost use Rattle.lasline_top.specs.Cause.{ToldWhy};
 ghost use Rattle.lasline_top.specs.Codes.{code_of};
 
@@ -25,26 +25,8 @@ pub fn run_program<F: Files, K: Sink, E: Sink>(
     err: &mut E,
 ) -> u8
     ensures exited { IfOk words (λ words. HasExited (map string_bytes words.items)
-        (record {
-          map = F.map files.old;
-          faults = F.faults files.old;
-          read_to = F.read_to files.old;
-          lent = F.lent files.old;
-          out = K.bytes out.old;
-          out_faults = K.faults out.old;
-          err = E.bytes err.old;
-          err_faults = E.faults err.old;
-        })
-        (record {
-          map = F.map files.new;
-          faults = F.faults files.new;
-          read_to = F.read_to files.new;
-          lent = F.lent files.new;
-          out = K.bytes out.new;
-          out_faults = K.faults out.new;
-          err = E.bytes err.new;
-          err_faults = E.faults err.new;
-        })
+        (seen F.Files K.Sink E.Sink files.old out.old err.old)
+        (seen F.Files K.Sink E.Sink files.new out.new err.new)
         result) }
     ensures code { OnErr words (result ≡ code_of Status.Memory) }
     ensures told_why { OnErr words (ToldWhy (E.bytes err.old) (E.bytes err.new) (E.faults err.old) (E.faults err.new)

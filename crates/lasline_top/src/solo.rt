@@ -10,7 +10,7 @@ ghost use Rattle.lasline_top.specs.Refusals.{status_for};
 ghost use Rattle.lasline_top.specs.Cause.{ToldWhy};
 ghost use Rattle.lasline_top.specs.Ends.{WasDone, WasRefused};
 ghost use Rattle.lasline_top.specs.Reading.{IsReadBy};
-ghost use Rattle.lasline_top.specs.Calls.{HasAnswered};
+ghost use Rattle.lasline_top.specs.Calls.{HasAnswered, seen};
 
 use crate::generating::make_file;
 use crate::planning::plan_file;
@@ -89,26 +89,8 @@ pub fn lasline_solo<F: Files, K: Sink, E: Sink>(
     err: &mut E,
 ) -> Status
     ensures answered { HasAnswered (map string_bytes words.now)
-        (record {
-          map = F.map files.old;
-          faults = F.faults files.old;
-          read_to = F.read_to files.old;
-          lent = F.lent files.old;
-          out = K.bytes out.old;
-          out_faults = K.faults out.old;
-          err = E.bytes err.old;
-          err_faults = E.faults err.old;
-        })
-        (record {
-          map = F.map files.new;
-          faults = F.faults files.new;
-          read_to = F.read_to files.new;
-          lent = F.lent files.new;
-          out = K.bytes out.new;
-          out_faults = K.faults out.new;
-          err = E.bytes err.new;
-          err_faults = E.faults err.new;
-        })
+        (seen F.Files K.Sink E.Sink files.old out.old err.old)
+        (seen F.Files K.Sink E.Sink files.new out.new err.new)
         result }
 {
     match run_command(alloc, words, files, out) {
