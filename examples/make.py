@@ -8,6 +8,7 @@ All is worked out from the points below, by the ASPRS LAS Specification 1.4 R15 
 code takes part in it, and no output of the program is copied.
 """
 
+import json
 import os
 import struct
 import sys
@@ -40,8 +41,8 @@ def header(minor, point_format, size, points, scale, offset, start, vlrs=0, evlr
     return block
 
 
-def vlr(record_id, payload):
-    return struct.pack("<H16sHH32s", 0, b"lasline", record_id, len(payload), b"an example") + payload
+def vlr(record_id, payload, user=b"lasline"):
+    return struct.pack("<H16sHH32s", 0, user, record_id, len(payload), b"an example") + payload
 
 
 def evlr(record_id, payload):
@@ -162,12 +163,58 @@ def lies_in(point, corners):
     return odd
 
 
-def small(minor):
-    """2 points in format 0, in a file of this minor version."""
+def small(minor, times=1):
+    """2 points in format 0, so many times, in a file of this minor version."""
     scale, offset = [Fraction(1, 100)] * 3, [Fraction(0)] * 3
-    raw = [(100, 200, 300), (101, 201, 301)]
+    raw = [(100, 200, 300), (101, 201, 301)] * times
     data = header(minor, 0, 20, grid(raw, scale, offset), scale, offset, 375 if minor == 4 else 227)
     return data + b"".join(struct.pack("<iiiHBBbBH", x, y, z, 0, 9, 2, 0, 0, 0) for x, y, z in raw)
+
+
+SYSTEM = vlr(2112, b'LOCAL_CS["an example"]\0', b"LASF_Projection")
+SOUTH = [(2000, 1000, 100500), (250000, 500000, 101000), (999999, 999999, 99875)]
+NORTH = [(0, 0, 99900), (500000, 250000, 100250), (1000000, 1000000, 98765)]
+
+
+def tile(raw, north):
+    """Points in format 6 in steps of 0.001, with a coordinate system. North and east are counted from a corner."""
+    scale, offset = [Fraction(1, 1000)] * 3, [Fraction(500000), Fraction(north), Fraction(0)]
+    points = grid(raw, scale, offset)
+    data = header(4, 6, 30, points, scale, offset, 375 + len(SYSTEM), 1) + SYSTEM
+    return data + b"".join(record6(point, 10, 2, 0, 0) for point in raw), points
+
+
+def ground_of(name):
+    """The pipeline that each.sh makes for a file."""
+    stages = [
+        {"type": "readers.las", "filename": name},
+        {"type": "filters.range", "limits": "Classification[2:2]"},
+        {"type": "writers.las", "filename": f"ground/{name}", "forward": "all"},
+    ]
+    return json.dumps(stages, indent=2) + "\n"
+
+
+def double(value):
+    """A number as od prints it, with as few digits as it takes from 15 on."""
+    return next(text for text in (f"{float(value):.{digits}g}" for digits in (15, 16, 17)) if float(text) == float(value))
+
+
+def bounds(points, show):
+    return " ".join(f"{show(min(axis))} {show(max(axis))}" for axis in zip(*points))
+
+
+def header_lines(point_format, size, points, scale, offset, records):
+    """What header.sh prints of a file of LAS 1.4."""
+    lines = [
+        "version: 1.4",
+        f"format: {point_format}, records of {size} bytes",
+        f"points: {len(points)}",
+        "scales: " + " ".join(map(double, scale)),
+        "offsets: " + " ".join(map(double, offset)),
+        "bounds in the header: " + bounds(points, double),
+        "bounds of the points: " + bounds(points, lambda value: places(value, 9)),
+    ]
+    return "".join(line + "\n" for line in lines + records)
 
 
 def back(points):
@@ -190,6 +237,11 @@ def main():
     corners = [tuple(map(Fraction, corner)) for corner in [(500003, 4800003), (500015, 4800003), (500009, 4800012)]]
     # All points of the hill are ground.
     ground = [point for point in hill_points if lies_in(point, corners)]
+    gap = [tuple(map(Fraction, corner)) for corner in [(500007, 4800004), (500011, 4800004), (500009, 4800009)]]
+    ring = [point for point in ground if not lies_in(point, gap)]
+    south_data, south_points = tile(SOUTH, 4800000)
+    north_data, north_points = tile(NORTH, 4801000)
+    tiles_data, _ = tile(SOUTH + [(x, y + 1000000, z) for x, y, z in NORTH], 4800000)
     reader, head, writer, las_writer = "readers.las", "filters.head", "writers.text", "writers.las"
 
     # By pipeline: the exit code, what is printed, what is said on standard error, and the files that are kept.
@@ -282,9 +334,70 @@ def main():
         "old": (0, report((reader, 2), (las_writer, 2, 2)), "", {"new.las": small(4)}),
         "back": (0, report((reader, 5), (las_writer, 5, 5)), "", {"back.las": back(coast_points)}),
         "older": (3, "", "lasline: stage 0: version not read\n", {}),
+        "hole": (
+            0,
+            report(
+                (reader, every),
+                ("filters.crop", len(ground)),
+                ("filters.crop", len(ring)),
+                (writer, len(ring), len(ring)),
+            ),
+            "",
+            {"ring.txt": text(ring)},
+        ),
+        "tiles": (0, report((reader, 3), (reader, 3), (las_writer, 6, 6), two_views=[2]), "", {"tiles.las": tiles_data}),
+        # The offsets differ, so the written one is 0, and 4800000 is too many steps of 0.001.
+        "apart": (3, "", "lasline: stage 2: point 0: Y not held by the scale\n", {}),
+    }
+
+    # What comes of the scripts.
+    runs_of_each = {
+        f"ground/{name}.{kind}": content
+        for name, stages in [
+            ("hill.las", report((reader, every), ("filters.range", every), (las_writer, every, every))),
+            ("old.las", report((reader, 2), ("filters.range", 2), (las_writer, 2, 2))),
+            ("older.las", ""),
+        ]
+        for kind, content in [("json", ground_of(name)), ("report", stages)]
+    } | {"ground/hill.las": hill_data, "ground/old.las": small(4)}
+    not_read = "lasline: stage 0: version not read\n"
+    runs |= {
+        "one_by_one": (1, "", not_read + "older.las: exit code 3\n", runs_of_each),
+        "two_at_once": (123, "", not_read + "older.las: exit code 3\n", runs_of_each),
+        # The files are merged in batches of 60, 60, 60 and 20.
+        "many_into_one": (
+            0,
+            report(*[(reader, count) for count in (120, 120, 120, 40)], (las_writer, 400, 400)).replace(
+                "writers.las views 1", "writers.las views 4"
+            ),
+            "",
+            {"merged.las": small(4, 200)},
+        ),
+        "not_merged": (3, "", "lasline: stage 1: version not read\n", {}),
+        "header": (
+            0,
+            header_lines(3, 36, coast_points, *COAST_GRID, ["VLR 0: lasline 7, 6 bytes", "EVLR 0: lasline 8, 12 bytes"]),
+            "",
+            {},
+        ),
+        "headers": (
+            3,
+            header_lines(
+                6,
+                30,
+                south_points,
+                [Fraction(1, 1000)] * 3,
+                [Fraction(500000), Fraction(4800000), Fraction(0)],
+                ["VLR 0: LASF_Projection 2112, 23 bytes"],
+            ),
+            not_read,
+            {},
+        ),
+        "times": (0, runs["columns"][1] + "".join(f"{250000.0 + k / 100}\n" for k in range(every)), "", {}),
     }
 
     files = {"hill.las": hill_data, "coast.las": coast_data, "old.las": small(2), "older.las": small(1)}
+    files |= {"south.las": south_data, "north.las": north_data}
     for name, (code, printed, said, kept) in runs.items():
         for file, content in [("code", f"{code}\n"), ("printed", printed), ("said", said), *kept.items()]:
             files[f"expected/{name}/{file}"] = content if isinstance(content, bytes) else content.encode()

@@ -1,0 +1,15 @@
+#!/bin/sh
+# Writes the ground points of a LAS file into the folder ground/, under the name of the file, and beside them the pipeline and the
+# report. The exit code is that of the run. Where it isn't 0, the file is named on standard error.
+#
+#     examples/each.sh FILE
+name=$(basename "$1")
+mkdir -p ground || exit 1
+jq -n --arg in "$1" --arg out "ground/$name" '
+  [{"type":"readers.las","filename":$in},
+   {"type":"filters.range","limits":"Classification[2:2]"},
+   {"type":"writers.las","filename":$out,"forward":"all"}]' > "ground/$name.json" || exit 1
+lasline run "ground/$name.json" > "ground/$name.report"
+code=$?
+[ "$code" -eq 0 ] || echo "$1: exit code $code" >&2
+exit "$code"
