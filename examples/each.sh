@@ -1,9 +1,10 @@
 #!/bin/sh
 # Writes the ground points of a LAS file into the folder ground/, under the name of the file, and beside them the pipeline and the
-# report. The exit code is that of the run. Where it isn't 0, the file is named on standard error.
+# report. Of two files of one name, in different folders, the later one replaces what came of the other. The exit code is that of
+# the run. Where it isn't 0, the file is named on standard error.
 #
 #     examples/each.sh FILE
-name=$(basename "$1")
+name=$(basename -- "$1")
 mkdir -p ground || exit 1
 jq -n --arg in "$1" --arg out "ground/$name" '
   [{"type":"readers.las","filename":$in},

@@ -23,7 +23,7 @@ trap 'exit 130' INT TERM
 join() {
     jq -n --argjson count "$1" --arg out "$2" --argjson options "$options" '
       [$ARGS.positional[2:2 + $count][] | {"type":"readers.las","filename":.}]
-      + [$options + {"type":"writers.las","filename":$out}]' --args "$@" > "$room/pipeline.json" || exit 2
+      + [$options + {"type":"writers.las","filename":$out}]' --args -- "$@" > "$room/pipeline.json" || exit 2
     lasline run "$room/pipeline.json" > "$room/report"
 }
 
