@@ -77,8 +77,8 @@ def columns(points):
 
 
 def report(*stages, two_views=()):
-    """A report of stages, each with its type, the points that it gave on, and for a writer the points that it wrote. The stages
-    with these numbers gave on two views, each other one a single one."""
+    """A report of stages, each with its type, the points that it passed on, and for a writer the points that it wrote. The stages
+    with these numbers passed on two views, each other one a single one."""
     lines = [
         f"stage {number} {kind} views {2 if number in two_views else 1} points {count}" + (f" wrote {wrote[0]}" if wrote else "")
         for number, (kind, count, *wrote) in enumerate(stages)
@@ -118,7 +118,7 @@ NOTE, LATER_NOTE = vlr(7, b"a note"), evlr(8, b"another note")
 
 
 def coast():
-    """5 points in format 3 on a grid of 0.0001, with bytes of their own behind each record, a VLR, a gap and an EVLR."""
+    """5 points in format 3 on a grid of 0.0001, with bytes of their own after each record, a VLR, a gap and an EVLR."""
     scale, offset = COAST_GRID
     raw = [(15005, -4, 0), (14995, -5, -2500), (-2147483648, 2147483647, -2505), (10005, 5, 7), (0, 123456789, -2495)]
     start = 375 + len(NOTE) + 3
@@ -133,7 +133,7 @@ def steps(points, scale, offset):
 
 
 def copied(points):
-    """These first points of the coast, in a file of the same kind: without the gap, and the bytes behind each record."""
+    """These first points of the coast, in a file of the same kind: without the gap, and the bytes after each record."""
     scale, offset = COAST_GRID
     raw, start = steps(points, scale, offset), 375 + len(NOTE)
     data = header(4, 3, 34, points, scale, offset, start, 1, 1, start + 34 * len(points)) + NOTE
