@@ -2,7 +2,9 @@
 # make          proves everything and builds the program to target/lasline
 # make run      builds it, and runs the stored example in target/example
 # make examples builds it, and runs the pipelines of examples/ in target/examples
-# make test     the merge gate: every proof, every edit that must be refused, every test, every program; then docs/ERRORS.md
+# make test     the merge gate: every proof, every edit that must be refused, every test, every program; then the documents, and
+#               the examples by the program that was built
+# make lint     scripts, the manual page, completions, and whether examples/make.py writes the stored files
 # make install  PREFIX=/usr/local: the program, its manual page, and completions for bash and zsh
 # make clean    removes target/ and what rt made
 
@@ -38,6 +40,11 @@ examples: target/lasline
 test:
 	rt ci
 	docs/check-errors.sh
+	docs/check.sh
+	$(MAKE) examples
+
+lint:
+	docs/lint.sh target/lint
 
 install: target/lasline
 	install -d $(DESTDIR)$(PREFIX)/bin
@@ -52,4 +59,4 @@ install: target/lasline
 clean:
 	rm -rf target crates/*/out
 
-.PHONY: all try run examples test install clean
+.PHONY: all try run examples test lint install clean
