@@ -150,6 +150,7 @@ commands = re.findall(r'"([a-z-]+)" => Some\(State::', reading)
 settings = re.findall(r'"(--\w+)"', read("crates/command_words/src/options.rt")) + re.findall(r'== "(--\w+)"', reading)
 page = json.loads('"' + re.search(r'"(lasline runs .*?)"\n', read("crates/lasline_top/src/pages.rt"))[1] + '"')
 idle = re.findall(r"(--\w+) .*without effect", page)
+active = [name for name in settings if name not in idle]
 version = re.search(r'"(lasline \S+)\\n"', read("crates/lasline_top/src/pages.rt"))[1]
 
 # The stored cases, in the order in which they are read.
@@ -198,9 +199,11 @@ for page_name, text in list(TEXTS.items()) + [("man/lasline.1", MAN)]:
 if not looked["counts of cases"]:
     fault("docs/PROVED.md", "says no number of cases")
 stored = read("crates/worked_runs/stdout").rstrip("\n").split("\n")
-agree("crates/worked_runs/stdout", "cases", [re.sub(r"^\w+ (.*) \(\d+ runs\)$", r"\1", line) for line in stored[:-1]], [case["name"] for case in cases])
+passed = [re.sub(r"^\w+ (.*) \(\d+ runs\)$", r"\1", line) for line in stored[:-1]]
+agree("crates/worked_runs/stdout", "cases", passed, [case["name"] for case in cases])
 agree("crates/worked_runs/stdout", "last line", stored[-1:], [f"{len(cases)} of {len(cases)} cases passed"])
-agree("docs/WORKED_RUNS.md", "files of cases", [cells[0].strip("`") for _, head, cells in rows(TEXTS["docs/WORKED_RUNS.md"]) if head[0] == "file"], case_files)
+listed = [cells[0].strip("`") for _, head, cells in rows(TEXTS["docs/WORKED_RUNS.md"]) if head[0] == "file"]
+agree("docs/WORKED_RUNS.md", "files of cases", listed, case_files)
 agree("crates/worked_runs/args", "files of cases", sorted(case_files), sorted(os.listdir("crates/worked_runs/data")))
 words = len(TEXTS["README.md"].split())
 if words > 2600:
@@ -263,6 +266,19 @@ for number, before, block, behind, rest in blocks(TEXTS["docs/PIPELINES.md"]):
         if not any(case["report"] == printed for case in found):
             fault(place, "no case of it has this report")
 
+# Each line of a refusal that a page names is one of docs/ERRORS.md, which has N, NAME and AXIS in place of what differs.
+refusals = []
+for _, _, code in codes(TEXTS["docs/ERRORS.md"]):
+    if re.match(r"lasline: .*\w$", code):
+        pattern = re.sub(r"\bNAME\b", ".+", re.sub(r"\bAXIS\b", "[XYZ]", re.sub(r"\bN\b", r"\\d+", re.escape(code))))
+        refusals.append(re.compile(pattern))
+for page_name, text in TEXTS.items():
+    for number, _, code in codes(text):
+        if page_name != "docs/ERRORS.md" and re.match(r"lasline: (?!TEXT$).", code):
+            looked["lines of refusals"] += 1
+            if not any(line.fullmatch(code) for line in refusals):
+                fault(f"{page_name}:{number}", f"docs/ERRORS.md has no line for `{code}`")
+
 # ---- paths, headings, targets
 
 HEADS = {page_name: re.findall(r"^#+ (.*)$", text, re.M) for page_name, text in TEXTS.items()}
@@ -300,7 +316,7 @@ for page_name, text in TEXTS.items():
             word = word.rstrip(".,:;").split("#")[0]
             if re.search(r"NAME|FILE|FOLDER|[<>\"']|\.\.", word):
                 continue
-            if re.match(rf"({'|'.join(TOP)})/", word) or re.fullmatch(r"[A-Z]+\.md|[A-Z]+|Makefile|crates\.txt", word) and word.lower().endswith((".md", "file", ".txt")):
+            if re.match(rf"({'|'.join(TOP)})/", word) or re.fullmatch(r"[A-Z]+\.md|Makefile|crates\.txt", word):
                 looked["paths"] += 1
                 if not glob.glob(word.rstrip("/")):
                     fault(place, f"there is no {word}")
@@ -327,7 +343,6 @@ for page_name, text in TEXTS.items():
             looked["links"] += 1
             path, _, anchor = link.partition("#")
             if "://" in path:
-                fault(f"{page_name}:{number}", f"the link {link} leads out of the repository")
                 continue
             page = os.path.normpath(os.path.join(os.path.dirname(page_name), path)) if path else page_name
             if not os.path.exists(page) or (anchor and anchor not in anchors(page)):
@@ -377,20 +392,23 @@ names_stand("docs/DECISIONS.md", re.sub(r"`(byteorder|fdatasync)`", "", TEXTS["d
 
 # ---- the crates
 
-agree("docs/ARCHITECTURE.md", "crates of the table", [cells[0].strip("`") for _, head, cells in rows(table) if head[0] == "crate"], crates)
+listed = [cells[0].strip("`") for _, head, cells in rows(table) if head[0] == "crate"]
+agree("docs/ARCHITECTURE.md", "crates of the table", listed, crates)
 for number, head, cells in rows(table):
     if head[0] == "crate" and cells[0].strip("`") in crates:
         name = cells[0].strip("`")
         agree(f"docs/ARCHITECTURE.md:{number}", f"crates that {name} stands on", re.findall(r"`(\w+)`", cells[1]), drawn[name])
         names_stand("docs/ARCHITECTURE.md", re.sub(r"`(rt run|main)`", "", cells[2]), number, name)
 picture = re.search(r"```mermaid\n(.*?)```", architecture, re.S)[1]
-agree("docs/ARCHITECTURE.md", "groups of the picture", re.findall(r'subgraph \w+\["(.*?)"\]', picture), [name for name, _ in reversed(groups)])
+listed = re.findall(r'subgraph \w+\["(.*?)"\]', picture)
+agree("docs/ARCHITECTURE.md", "groups of the picture", listed, [name for name, _ in reversed(groups)])
 for name, held in groups:
     found = re.search(rf'subgraph \w+\["{re.escape(name)}"\]\n(.*?)\n    end', picture, re.S)
     agree("docs/ARCHITECTURE.md", f"crates of the picture in {name}", found[1].split() if found else [], held)
 arrows = dict(re.findall(r"^    (\w+) --> (.*)$", picture, re.M))
 for name in crates:
-    agree("docs/ARCHITECTURE.md", f"arrows of the picture from {name}", arrows.get(name, "").split(" & ") if name in arrows else [], drawn[name])
+    listed = arrows[name].split(" & ") if name in arrows else []
+    agree("docs/ARCHITECTURE.md", f"arrows of the picture from {name}", listed, drawn[name])
 for name in arrows:
     if name not in crates:
         fault("docs/ARCHITECTURE.md", f"the picture has an arrow from {name}, which is no crate")
@@ -403,12 +421,9 @@ for page_name, text in TEXTS.items():
 
 # ---- the types of stages and their options
 
-def first_cells(text, column=0):
-    return [cells[column].strip("`") for _, _, cells in rows(text) if re.fullmatch(r"`(readers|filters|writers)\.\w+`", cells[column])]
-
-
 pipelines = TEXTS["docs/PIPELINES.md"]
-agree("README.md", "types of the table", sorted(first_cells(TEXTS["README.md"])), sorted(types))
+listed = re.findall(r"^\| `((?:readers|filters|writers)\.\w+)` \|", TEXTS["README.md"], re.M)
+agree("README.md", "types of the table", sorted(listed), sorted(types))
 linked = re.findall(r"^\| \[`([a-z.]+)`\]\(#\w+\)", pipelines, re.M)
 headed = [head for head in HEADS["docs/PIPELINES.md"] if re.match(r"(readers|filters|writers)\.", head)]
 agree("docs/PIPELINES.md", "types of the table", sorted(linked), sorted(types))
@@ -446,7 +461,8 @@ for number, head, cells in rows(section(TEXTS["docs/ERRORS.md"], "bad value of o
     for option in re.findall(r"`(\w+)`", cells[0]):
         for name in re.findall(r"`([a-z.]+)`", cells[1]):
             pairs.add(f"{option} of {name}")
-agree("docs/ERRORS.md", "options", sorted(pairs), sorted(f"{option} of {name}" for name in types for option in options[name]))
+listed = [f"{option} of {name}" for name in types for option in options[name]]
+agree("docs/ERRORS.md", "options", sorted(pairs), sorted(listed))
 
 # A type that a page names is one, unless it stands beside PDAL, and so is a member of a stage.
 for page_name, text in list(TEXTS.items()) + [("man/lasline.1", MAN)]:
@@ -472,18 +488,28 @@ for page_name, text in list(TEXTS.items()) + [("man/lasline.1", MAN)]:
 for place in ("README.md", "docs/PIPELINES.md", "man/lasline.1", "completions/lasline.bash", "completions/_lasline"):
     text = read(place).replace("\\-", "-")
     page_words = set(re.findall(r"(?<![\w-])--[a-z]+\b", text))
-    lacks = [name for name in settings if name not in page_words and name not in idle]
-    lacks += [name for name in commands if not re.search(rf"(?<![\w-]){name}\b", text) and not (place.startswith("docs") and name != "run")]
-    looked["words"] += len(settings) + len(commands)
-    if lacks and not (place == "README.md" and set(lacks) <= set(settings)):
+    # The pages may leave words out, and name those of other programs.
+    if place == "README.md":
+        wanted = commands
+    elif place == "docs/PIPELINES.md":
+        wanted = active
+    else:
+        wanted = commands + active
+    lacks = [name for name in wanted if not re.search(rf"(?<![\w-]){name}\b", text)]
+    looked["words"] += len(wanted)
+    if lacks:
         fault(place, "lacks " + ", ".join(lacks))
     if not place.endswith(".md"):
         more = page_words - set(settings) - set(commands)
         if more:
             fault(place, "has " + ", ".join(sorted(more)) + ", which is no word of the program")
+bash, zsh = read("completions/lasline.bash"), read("completions/_lasline")
+agree("completions/lasline.bash", "commands", re.search(r'-W "([^"]*)"', bash)[1].split(), commands)
+agree("completions/lasline.bash", "options", re.search(r"for option in (.*?);", bash)[1].split(), active)
+agree("completions/_lasline", "words", re.findall(r"'(-{0,2}[a-z]+):", zsh), commands + active)
 title = re.search(r'^\.TH LASLINE 1 "[^"]*" "([^"]*)"', MAN, re.M)
 agree("man/lasline.1", "version", [title[1] if title else ""], [version])
-releases = re.findall(r"^## (lasline \d\S*?),? ", TEXTS["CHANGELOG.md"] .replace("\n", " \n"), re.M)
+releases = re.findall(r"^## (lasline \d\S*?),? ", TEXTS["CHANGELOG.md"].replace("\n", " \n"), re.M)
 agree("CHANGELOG.md", "version at the top", releases[:1], [version])
 for line in re.findall(r"^## .*$", TEXTS["CHANGELOG.md"], re.M):
     if not re.fullmatch(r"## lasline \d\S*, (\d{4}-\d\d-\d\d|not yet released)|## \d{4}-\d\d-\d\d", line):
@@ -501,7 +527,11 @@ for page_name, found in kits.items():
 
 # ---- the end
 
-LEAST = {"recipes": 15, "pipelines": 40, "refusals": 12, "reports": 10, "paths": 100, "names": 400, "names of types": 100, "members": 100, "options": 50, "links": 10, "cases": 500, "words": 20, "kit": 2, "targets": 5}
+LEAST = {
+    "cases": 500, "recipes": 15, "pipelines": 40, "refusals": 12, "reports": 8, "lines of refusals": 20,
+    "paths": 100, "links": 10, "targets": 5,
+    "names": 400, "names of types": 100, "options": 50, "members": 100, "words": 20, "kit": 2,
+}
 for what, least in LEAST.items():
     if looked[what] < least:
         fault("docs/check.sh", f"found {looked[what]} {what} alone: it has to follow the files that it reads")
