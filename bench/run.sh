@@ -1,7 +1,7 @@
 #!/bin/sh
 # Measures the pipelines of the table of speed in README.md, over a generated file of 2,000,000 points, and a short program in
-# plain Rust that does what one of them does. It prints for each the least processor time of seven runs, of program and system, the
-# most memory that a run had, and the figures of README.md.
+# plain Rust that does what one of them does, byte for byte. It prints for each the least processor time of seven runs, of
+# program and system, the memory that one more run took, and the figures of README.md.
 #
 #     bench/run.sh                         measures target/lasline in target/bench
 #     bench/run.sh PROGRAM FOLDER [RUNS]
