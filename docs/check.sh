@@ -148,7 +148,8 @@ forwarded = set(re.findall(r'"(\w+)"', fields))
 reading = read("crates/command_words/src/reading.rt")
 commands = re.findall(r'"([a-z-]+)" => Some\(State::', reading)
 settings = re.findall(r'"(--\w+)"', read("crates/command_words/src/options.rt")) + re.findall(r'== "(--\w+)"', reading)
-page = json.loads('"' + re.search(r'"(lasline runs .*?)"\n', read("crates/lasline_top/src/pages.rt"))[1] + '"')
+lines = re.search(r"concat!\((.*?)\n    \)", read("crates/lasline_top/src/pages.rt"), re.S)[1]
+page = "".join(json.loads(line) for line in re.findall(r'".*"', lines))
 idle = re.findall(r"(--\w+) .*without effect", page)
 active = [name for name in settings if name not in idle]
 version = re.search(r'"(lasline \S+)\\n"', read("crates/lasline_top/src/pages.rt"))[1]
