@@ -3,7 +3,7 @@
 # make run      builds it, and runs the stored example in target/example
 # make examples builds it, and runs the pipelines of examples/ in target/examples
 # make test     the merge gate: every proof, every edit that must be refused, every test, every program; then the documents, and
-#               the examples by the program that was built
+#               the examples by the program that the gate built, which becomes target/lasline
 # make lint     scripts, the manual page, completions, and whether examples/make.py writes the stored files
 # make install  PREFIX=/usr/local: the program, its manual page, and completions for bash and zsh
 # make clean    removes target/ and what rt made
@@ -39,9 +39,11 @@ examples: target/lasline
 
 test:
 	rt ci
+	mkdir -p target
+	cp $(CRATE)/out/lasline target/lasline
 	docs/check-errors.sh
 	docs/check.sh
-	$(MAKE) examples
+	examples/run.sh target/lasline target/examples
 
 lint:
 	docs/lint.sh target/lint

@@ -18,7 +18,7 @@ mkdir -p "$2" && room=$(cd "$2" && pwd) || exit 2
 
 # The scripts call the program by its name.
 rm -rf "${room:?}/bin"
-mkdir "$room/bin" && ln -s "$program" "$room/bin/lasline" || exit 2
+mkdir "$room/bin" && cp "$program" "$room/bin/lasline" || exit 2
 PATH=$room/bin:$PATH
 export PATH
 

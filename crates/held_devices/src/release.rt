@@ -13,7 +13,8 @@ use stage_kinds::{Held, StageWork};
 /// Gives back the sources of readers.
 pub fn give_back<F: Files>(files: &mut F, readers: Vec<Option<LasReader<F::In>>>)
     ensures map { F.map files.new ≡ F.map files.old }
-    ensures lent { (others : ℕ) → F.lent files.old ≡ others + all_there readers.items → F.lent files.new ≡ others }
+    ensures lent { (others : ℕ) → F.lent files.old ≡ others + all_there readers.items
+        → F.lent files.new ≡ others }
     ensures later { F.faults files.old ≤ F.faults files.new }
 {
     let mut readers = readers;
@@ -31,7 +32,8 @@ pub fn release_work<F: Files>(files: &mut F, work: StageWork<F::In, F::Out>)
     ensures map { F.map files.new ≡ F.map files.old }
     ensures lent { (others : ℕ) → F.lent files.old ≡ others + there (op_of work) → F.lent files.new ≡ others }
     ensures later { F.faults files.old ≤ F.faults files.new }
-    ensures counted { saturating (F.faults files.old) (faults_of F.In.faults F.Out.faults work) ≤ F.faults files.new }
+    ensures counted { saturating (F.faults files.old) (faults_of F.In.faults F.Out.faults work)
+        ≤ F.faults files.new }
 {
     match work.release() {
         Held::Nothing => {}
@@ -43,7 +45,8 @@ pub fn release_work<F: Files>(files: &mut F, work: StageWork<F::In, F::Out>)
 /// Gives back the devices of works; no writer's file is kept.
 pub fn release_works<F: Files>(files: &mut F, works: Vec<StageWork<F::In, F::Out>>)
     ensures map { F.map files.new ≡ F.map files.old }
-    ensures lent { (others : ℕ) → F.lent files.old ≡ others + all_held works.items → F.lent files.new ≡ others }
+    ensures lent { (others : ℕ) → F.lent files.old ≡ others + all_held works.items
+        → F.lent files.new ≡ others }
     ensures later { F.faults files.old ≤ F.faults files.new }
     ensures counted { (i : ℕ) (w : work_type.StageWork F.In F.Out) → slice_get works.items i ≡ Some w
         → saturating (F.faults files.old) (faults_of F.In.faults F.Out.faults w) ≤ F.faults files.new }

@@ -22,8 +22,10 @@ pub(crate) fn make<F: Files>(
     name: &str,
     count: PointCount,
 ) -> Result<(), Refusal>
-    ensures ok { OnOk result (IsPut (F.map files.old) name.now (generated_file count.points) (F.map files.new)) }
-    ensures err { IfErr result (WasUnmade (Rose (F.faults files.old) (F.faults files.new)) (F.map files.old) name.now (generated_file count.points) (F.map files.new)) }
+    ensures ok { OnOk result (IsPut (F.map files.old) name.now (generated_file count.points)
+        (F.map files.new)) }
+    ensures err { IfErr result (WasUnmade (Rose (F.faults files.old) (F.faults files.new))
+        (F.map files.old) name.now (generated_file count.points) (F.map files.new)) }
     ensures lent { F.lent files.new ≡ F.lent files.old }
     ensures later { F.faults files.old ≤ F.faults files.new }
 {
@@ -42,8 +44,10 @@ pub(crate) fn make_file<F: Files, K: Sink>(
     files: &mut F,
     out: &mut K,
 ) -> Result<(), Refusal>
-    ensures ok { OnOk result (WasDone (Ok (Make_file count.points name.now)) (F.map files.old) (F.map files.new) (K.bytes out.old) (K.bytes out.new)) }
-    ensures err { IfErr result (WasRefused (Ok (Make_file count.points name.now)) (Rose (F.faults files.old) (F.faults files.new)) (Rose (K.faults out.old) (K.faults out.new))
+    ensures ok { OnOk result (WasDone (Ok (Make_file count.points name.now)) (F.map files.old)
+        (F.map files.new) (K.bytes out.old) (K.bytes out.new)) }
+    ensures err { IfErr result (WasRefused (Ok (Make_file count.points name.now))
+        (Rose (F.faults files.old) (F.faults files.new)) (Rose (K.faults out.old) (K.faults out.new))
         (F.map files.old) (F.map files.new) (K.bytes out.old) (K.bytes out.new)) }
     ensures of_files { IfErr result IsOfFiles }
     ensures lent { F.lent files.new ≡ F.lent files.old }

@@ -27,11 +27,13 @@ pub(crate) fn read_text<F: Files>(
     files: &mut F,
     name: &str,
 ) -> Result<Vec<u8>, Refusal>
-    ensures ok { IfOk result (λ text. (m : Names) → F.map files.old ≡ Some m → file_at (m name.now) Place.PipelineFile ≡ Ok text.items) }
+    ensures ok { IfOk result (λ text. (m : Names) → F.map files.old ≡ Some m
+        → file_at (m name.now) Place.PipelineFile ≡ Ok text.items) }
     ensures err { IfErr result (λ refusal. (m : Names) → F.map files.old ≡ Some m
         → Because (plan_in m name.now) (AtText (Rose (F.faults files.old) (F.faults files.new))) refusal) }
     ensures of_plan { IfErr result IsOfPlan }
-    ensures risen { IfErr result (Risen (Rose (F.faults files.old) (F.faults files.new)) ⊥ (F.map files.old)) }
+    ensures risen { IfErr result (Risen (Rose (F.faults files.old) (F.faults files.new)) ⊥
+        (F.map files.old)) }
     ensures settled { IsSettled (F.map files.old) (F.map files.new) (F.lent files.old) (F.lent files.new)
         (F.faults files.old) (F.faults files.new) }
     ensures opened { ReadAtMost (MOST_BYTES + 1) (F.read_to files.old) (F.read_to files.new) }
@@ -79,11 +81,13 @@ pub(crate) fn read_stages(alloc: Global, text: &[u8]) -> Result<Tree, Refusal>
 
 /// The pipeline in a file: its stages with their options. No other file is opened.
 pub(crate) fn read_plan<F: Files>(alloc: Global, files: &mut F, name: &str) -> Result<Tree, Refusal>
-    ensures ok { IfOk result (λ tree. (m : Names) → F.map files.old ≡ Some m → plan_in m name.now ≡ Ok (specs_view tree)) }
+    ensures ok { IfOk result (λ tree. (m : Names) → F.map files.old ≡ Some m
+        → plan_in m name.now ≡ Ok (specs_view tree)) }
     ensures err { IfErr result (λ refusal. (m : Names) → F.map files.old ≡ Some m
         → Because (plan_in m name.now) (AtText (Rose (F.faults files.old) (F.faults files.new))) refusal) }
     ensures of_plan { IfErr result IsOfPlan }
-    ensures risen { IfErr result (Risen (Rose (F.faults files.old) (F.faults files.new)) ⊥ (F.map files.old)) }
+    ensures risen { IfErr result (Risen (Rose (F.faults files.old) (F.faults files.new)) ⊥
+        (F.map files.old)) }
     ensures settled { IsSettled (F.map files.old) (F.map files.new) (F.lent files.old) (F.lent files.new)
         (F.faults files.old) (F.faults files.new) }
     ensures opened { ReadAtMost (MOST_BYTES + 1) (F.read_to files.old) (F.read_to files.new) }

@@ -23,8 +23,10 @@ pub(crate) fn plan_file<F: Files, K: Sink>(
     files: &mut F,
     out: &mut K,
 ) -> Result<(), Refusal>
-    ensures ok { OnOk result (WasDone (Ok (Plan_file name.now)) (F.map files.old) (F.map files.new) (K.bytes out.old) (K.bytes out.new)) }
-    ensures err { IfErr result (WasRefused (Ok (Plan_file name.now)) (Rose (F.faults files.old) (F.faults files.new)) (Rose (K.faults out.old) (K.faults out.new))
+    ensures ok { OnOk result (WasDone (Ok (Plan_file name.now)) (F.map files.old) (F.map files.new)
+        (K.bytes out.old) (K.bytes out.new)) }
+    ensures err { IfErr result (WasRefused (Ok (Plan_file name.now))
+        (Rose (F.faults files.old) (F.faults files.new)) (Rose (K.faults out.old) (K.faults out.new))
         (F.map files.old) (F.map files.new) (K.bytes out.old) (K.bytes out.new)) }
     ensures of_files { IfErr result IsOfFiles }
     ensures lent { F.lent files.new ≡ F.lent files.old }

@@ -29,8 +29,8 @@ pub fn run_program<F: Files, K: Sink, E: Sink>(
         (seen F.Files K.Sink E.Sink files.new out.new err.new)
         result) }
     ensures code { OnErr words (result ≡ code_of Status.Memory) }
-    ensures told_why { OnErr words (ToldWhy (E.bytes err.old) (E.bytes err.new) (E.faults err.old) (E.faults err.new)
-        (fault_line Refusal.Memory)) }
+    ensures told_why { OnErr words (ToldWhy (E.bytes err.old) (E.bytes err.new) (E.faults err.old)
+        (E.faults err.new) (fault_line Refusal.Memory)) }
     ensures idle { OnErr words ((files.new ≡ files.old) × (out.new ≡ out.old)) }
 {
     match words {

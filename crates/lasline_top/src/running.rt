@@ -30,7 +30,8 @@ fn run_text<F: Files>(
 ) -> Result<Report, Refusal>
     ensures ok { IfOk result (λ report. (m : Names) → F.map files.old ≡ Some m
         → IsOkAnd (text_run m text.now) (IsRun (F.map files.old) (F.map files.new) report.items)) }
-    ensures err { IfErr result (WasStopped (Rose (F.faults files.old) (F.faults files.new)) (F.map files.old) (F.map files.new) text.now) }
+    ensures err { IfErr result (WasStopped (Rose (F.faults files.old) (F.faults files.new)) (F.map files.old)
+        (F.map files.new) text.now) }
     ensures untold { F.map files.old ≡ None → F.map files.new ≡ None }
     ensures lent { F.lent files.new ≡ F.lent files.old }
     ensures later { F.faults files.old ≤ F.faults files.new }
@@ -47,8 +48,10 @@ pub(crate) fn run_file<F: Files, K: Sink>(
     files: &mut F,
     out: &mut K,
 ) -> Result<(), Refusal>
-    ensures ok { OnOk result (WasDone (Ok (Run_file name.now (engine_view engine))) (F.map files.old) (F.map files.new) (K.bytes out.old) (K.bytes out.new)) }
-    ensures err { IfErr result (WasRefused (Ok (Run_file name.now (engine_view engine))) (Rose (F.faults files.old) (F.faults files.new)) (Rose (K.faults out.old) (K.faults out.new))
+    ensures ok { OnOk result (WasDone (Ok (Run_file name.now (engine_view engine))) (F.map files.old)
+        (F.map files.new) (K.bytes out.old) (K.bytes out.new)) }
+    ensures err { IfErr result (WasRefused (Ok (Run_file name.now (engine_view engine)))
+        (Rose (F.faults files.old) (F.faults files.new)) (Rose (K.faults out.old) (K.faults out.new))
         (F.map files.old) (F.map files.new) (K.bytes out.old) (K.bytes out.new)) }
     ensures of_files { IfErr result IsOfFiles }
     ensures lent { F.lent files.new ≡ F.lent files.old }
@@ -81,8 +84,10 @@ pub(crate) fn run_trial<F: Files, K: Sink>(
     files: &mut F,
     out: &mut K,
 ) -> Result<(), Refusal>
-    ensures ok { OnOk result (WasDone (Ok (Trial count.points (engine_view engine))) (F.map files.old) (F.map files.new) (K.bytes out.old) (K.bytes out.new)) }
-    ensures err { IfErr result (WasRefused (Ok (Trial count.points (engine_view engine))) (Rose (F.faults files.old) (F.faults files.new)) (Rose (K.faults out.old) (K.faults out.new))
+    ensures ok { OnOk result (WasDone (Ok (Trial count.points (engine_view engine))) (F.map files.old)
+        (F.map files.new) (K.bytes out.old) (K.bytes out.new)) }
+    ensures err { IfErr result (WasRefused (Ok (Trial count.points (engine_view engine)))
+        (Rose (F.faults files.old) (F.faults files.new)) (Rose (K.faults out.old) (K.faults out.new))
         (F.map files.old) (F.map files.new) (K.bytes out.old) (K.bytes out.new)) }
     ensures of_files { IfErr result IsOfFiles }
     ensures lent { F.lent files.new ≡ F.lent files.old }

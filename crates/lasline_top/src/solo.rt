@@ -29,16 +29,23 @@ fn run_command<F: Files, K: Sink>(
     files: &mut F,
     out: &mut K,
 ) -> Result<(), Refusal>
-    ensures ok { OnOk result (WasDone (task_of (map string_bytes words.now)) (F.map files.old) (F.map files.new) (K.bytes out.old) (K.bytes out.new)) }
-    ensures err { IfErr result (WasRefused (task_of (map string_bytes words.now)) (Rose (F.faults files.old) (F.faults files.new)) (Rose (K.faults out.old) (K.faults out.new))
+    ensures ok { OnOk result (WasDone (task_of (map string_bytes words.now)) (F.map files.old)
+        (F.map files.new) (K.bytes out.old) (K.bytes out.new)) }
+    ensures err { IfErr result (WasRefused (task_of (map string_bytes words.now))
+        (Rose (F.faults files.old) (F.faults files.new)) (Rose (K.faults out.old) (K.faults out.new))
         (F.map files.old) (F.map files.new) (K.bytes out.old) (K.bytes out.new)) }
-    ensures words_first { (refusal : Refusal) → task_of (map string_bytes words.now) ≡ Err refusal → result ≡ Err refusal }
-    ensures of_words { (k : ℕ) → result ≡ Err (Refusal.Usage k) → task_of (map string_bytes words.now) ≡ Err (Refusal.Usage k) }
-    ensures page { (text : List ℕ) → task_of (map string_bytes words.now) ≡ Ok (Print text) → OnOk result (Appends (K.bytes out.old) text (K.bytes out.new)) }
-    ensures page_part { (text : List ℕ) → task_of (map string_bytes words.now) ≡ Ok (Print text) → OnErr result (AppendsPart (K.bytes out.old) text (K.bytes out.new)) }
+    ensures words_first { (refusal : Refusal) → task_of (map string_bytes words.now) ≡ Err refusal
+        → result ≡ Err refusal }
+    ensures of_words { (k : ℕ) → result ≡ Err (Refusal.Usage k)
+        → task_of (map string_bytes words.now) ≡ Err (Refusal.Usage k) }
+    ensures page { (text : List ℕ) → task_of (map string_bytes words.now) ≡ Ok (Print text)
+        → OnOk result (Appends (K.bytes out.old) text (K.bytes out.new)) }
+    ensures page_part { (text : List ℕ) → task_of (map string_bytes words.now) ≡ Ok (Print text)
+        → OnErr result (AppendsPart (K.bytes out.old) text (K.bytes out.new)) }
     ensures lent { F.lent files.new ≡ F.lent files.old }
     ensures later { F.faults files.old ≤ F.faults files.new }
-    ensures opened { IsReadBy (task_of (map string_bytes words.now)) (F.read_to files.old) (F.read_to files.new) }
+    ensures opened { IsReadBy (task_of (map string_bytes words.now)) (F.read_to files.old)
+        (F.read_to files.new) }
 {
     match task_of(words)? {
         Task::Run { file, engine } => run_file(alloc, file, engine, files, out),
@@ -52,7 +59,8 @@ fn run_command<F: Files, K: Sink>(
 /// Appends the line that says why a command was refused, and answers its status.
 pub fn refused<E: Sink>(refusal: Refusal, err: &mut E) -> Status
     ensures status { result ≡ status_for refusal }
-    ensures line { ToldWhy (E.bytes err.old) (E.bytes err.new) (E.faults err.old) (E.faults err.new) (fault_line refusal) }
+    ensures line { ToldWhy (E.bytes err.old) (E.bytes err.new) (E.faults err.old) (E.faults err.new)
+        (fault_line refusal) }
 {
     match fault_text(&refusal, err) {
         Ok(()) => Status::of(refusal),
@@ -70,7 +78,7 @@ pub fn refused<E: Sink>(refusal: Refusal, err: &mut E) -> Status
 /// - `trial N` does that with the name `trial.las`, and runs a fixed pipeline on it;
 /// - `--help` and `--version` print a page.
 ///
-/// Behind `run FILE` and `trial N` may stand `--chunk N`, the points that a stage hands on at once, and `--queue N`, the items that a
+/// Behind `run FILE` and `trial N` may stand `--chunk N`, the points that a stage passes on at once, and `--queue N`, the items that a
 /// queue between two stages holds: each at most once, in any order, with N from 1 to 64. Without them N is 64 and 8. With `--whole`
 /// the stages are evaluated one after the other, each on all its points. None of these changes what is kept or reported.
 ///

@@ -23,7 +23,8 @@ pub fn finish<S: Source, K: FileSink>(works: Vec<StageWork<S, K>>) -> Ran<S, K, 
     requires few { length works.items ≤ 64 }
     ensures later { AreLater (faults_of S.faults K.faults) works.items result.works.items }
     ensures finished { OnOk result.outcome (AreFinished K.bytes works.items result.works.items) }
-    ensures err { IfErr result.outcome (IsUnfinished (faults_of S.faults K.faults) works.items result.works.items) }
+    ensures err { IfErr result.outcome
+        (IsUnfinished (faults_of S.faults K.faults) works.items result.works.items) }
 {
     let mut works = works;
     for i in 0..works.len() {

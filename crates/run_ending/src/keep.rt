@@ -22,9 +22,11 @@ fn keep_work<F: Files>(
     number: u32,
 ) -> Result<(), Refusal>
     requires { op_of work ≡ op_for (role_of stage.now.options) }
-    ensures ok { OnOk result (F.map files.new ≡ kept_one F.Out.bytes (F.map files.old) (role_of stage.now.options) work) }
-    ensures err { IfErr result (NotKept (Rose (F.faults files.old) (F.faults files.new)) number (role_of stage.now.options)
-        (F.map files.old) (F.map files.new) (kept_one F.Out.bytes (F.map files.old) (role_of stage.now.options) work)) }
+    ensures ok { OnOk result (F.map files.new
+        ≡ kept_one F.Out.bytes (F.map files.old) (role_of stage.now.options) work) }
+    ensures err { IfErr result (NotKept (Rose (F.faults files.old) (F.faults files.new)) number
+        (role_of stage.now.options) (F.map files.old) (F.map files.new)
+        (kept_one F.Out.bytes (F.map files.old) (role_of stage.now.options) work)) }
     ensures lent { (others : ℕ) → F.lent files.old ≡ others + there (op_of work) → F.lent files.new ≡ others }
     ensures later { F.faults files.old ≤ F.faults files.new }
 {
@@ -56,9 +58,12 @@ pub fn keep_works<F: Files>(
     requires fit { HaveDevices stages.now works.items }
     requires count { length works.items ≡ length stages.now }
     requires few { length stages.now ≤ 64 }
-    ensures ok { OnOk result (F.map files.new ≡ kept_first F.Out.bytes (length works.items) (F.map files.old) stages.now works.items) }
-    ensures err { IfErr result (BrokeOff F.Out.bytes (Rose (F.faults files.old) (F.faults files.new)) (F.map files.old) (F.map files.new) stages.now works.items) }
-    ensures lent { (others : ℕ) → F.lent files.old ≡ others + all_held works.items → F.lent files.new ≡ others }
+    ensures ok { OnOk result (F.map files.new
+        ≡ kept_first F.Out.bytes (length works.items) (F.map files.old) stages.now works.items) }
+    ensures err { IfErr result (BrokeOff F.Out.bytes (Rose (F.faults files.old) (F.faults files.new))
+        (F.map files.old) (F.map files.new) stages.now works.items) }
+    ensures lent { (others : ℕ) → F.lent files.old ≡ others + all_held works.items
+        → F.lent files.new ≡ others }
     ensures later { F.faults files.old ≤ F.faults files.new }
 {
     let mut works = works;

@@ -69,8 +69,8 @@ fn evaluate<S: Source, K: FileSink>(
     requires count { length works.items ≡ length stages.now }
     requires waits { (engine : Chosen) × IsWaiting S.Source K.Sink engine stages.now step }
     ensures later { AreLater (faults_of S.faults K.faults) works.items result.works.items }
-    ensures ended { IfOk result.outcome (λ ended. HaveEnded S.Source K.Sink stages.now works.items result.works.items
-        ended.faults.items ended.report.items) }
+    ensures ended { IfOk result.outcome (λ ended. HaveEnded S.Source K.Sink stages.now works.items
+        result.works.items ended.faults.items ended.report.items) }
     ensures gathers { OnErr result.outcome (TakesTurns step → SomeGathers stages.now) }
 {
     match step {
@@ -87,8 +87,10 @@ impl<S: Source, K: FileSink> Job<S, K> {
     pub fn run_solo(&mut self, alloc: Global, stages: &[StageSpec]) -> Result<(), AllocError>
         requires tree { IsTree (shapes stages.now) }
         requires own { HaveOwnOptions stages.now }
-        requires ready { (engine : Chosen) × (map : Option Names) × IsReady S.Source K.Sink engine map stages.now self.old }
-        ensures ran { (engine : Chosen) (map : Option Names) → IsReady S.Source K.Sink engine map stages.now self.old
+        requires ready { (engine : Chosen) × (map : Option Names)
+            × IsReady S.Source K.Sink engine map stages.now self.old }
+        ensures ran { (engine : Chosen) (map : Option Names)
+            → IsReady S.Source K.Sink engine map stages.now self.old
             → HasRun S.Source K.Sink map stages.now self.new }
         ensures held { all_held self.new.works.items ≡ all_held self.old.works.items }
         ensures enough { OnOk result (IsShort self.new.step → ⊥) }
@@ -126,16 +128,19 @@ impl<S: Source, K: FileSink> Job<S, K> {
         requires ran { (first : Option Names) × HasRun S.Source K.Sink first stages.now self }
         ensures ok { IfOk result (λ report. (m : Names) → HasRun S.Source K.Sink (Some m) stages.now self
             → IsOkAnd (run_of m stages.now) (IsRun (F.map files.old) (F.map files.new) report.items)) }
-        ensures err { IfErr result (λ refusal. (first : Option Names) → HasRun S.Source K.Sink first stages.now self
+        ensures err { IfErr result (λ refusal. (first : Option Names)
+            → HasRun S.Source K.Sink first stages.now self
             → IsCause (Rose (F.faults files.old) (F.faults files.new)) first stages.now refusal) }
         ensures left { IfErr result (λ refusal. (m : Names) → HasRun S.Source K.Sink (Some m) stages.now self
             → IsLeft refusal (F.map files.old) (F.map files.new) (run_of m stages.now)) }
         ensures refused { (refusal : refused.Refusal) → CameTo refusal self.step
             → (result ≡ Err refusal) × (F.map files.new ≡ F.map files.old) }
         ensures blamed { (i : ℕ) (o : Op) → result ≡ Err (refused.Refusal.Device (place.Place.Stage i) o)
-            → IsBlamed (faults_of S.faults K.faults) (Rose (F.faults files.old) (F.faults files.new)) self.works.items self.step i o }
+            → IsBlamed (faults_of S.faults K.faults) (Rose (F.faults files.old) (F.faults files.new))
+                self.works.items self.step i o }
         ensures untold { F.map files.old ≡ None → F.map files.new ≡ None }
-        ensures lent { (others : ℕ) → F.lent files.old ≡ others + all_held self.works.items → F.lent files.new ≡ others }
+        ensures lent { (others : ℕ) → F.lent files.old ≡ others + all_held self.works.items
+            → F.lent files.new ≡ others }
         ensures later { F.faults files.old ≤ F.faults files.new }
     {
         let Job { works, step } = self;

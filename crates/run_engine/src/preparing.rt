@@ -48,7 +48,8 @@ pub fn prepare<F: Files>(
 ) -> Result<Job<F::In, F::Out>, Refusal>
     requires tree { IsTree (shapes stages.now) }
     ensures ready { IfOk result (IsReady F.In.Source F.Out.Sink engine (F.map files.old) stages.now) }
-    ensures err { IfErr result (IsCause (Rose (F.faults files.old) (F.faults files.new)) (F.map files.old) stages.now) }
+    ensures err { IfErr result (IsCause (Rose (F.faults files.old) (F.faults files.new))
+        (F.map files.old) stages.now) }
     ensures early { IfErr result IsEarly }
     ensures map { F.map files.new ≡ F.map files.old }
     ensures lent_ok { IfOk result (λ job. F.lent files.new ≡ F.lent files.old + all_held job.works.items) }

@@ -34,8 +34,10 @@ pub fn run_pipeline<F: Files>(
     requires own { HaveOwnOptions stages.now }
     ensures ok { IfOk result (λ report. (m : Names) → F.map files.old ≡ Some m
         → IsOkAnd (run_of m stages.now) (IsRun (F.map files.old) (F.map files.new) report.items)) }
-    ensures err { IfErr result (IsCause (Rose (F.faults files.old) (F.faults files.new)) (F.map files.old) stages.now) }
-    ensures left { IfErr result (λ refusal. (m : Names) → F.map files.old ≡ Some m → IsLeft refusal (F.map files.old) (F.map files.new) (run_of m stages.now)) }
+    ensures err { IfErr result (IsCause (Rose (F.faults files.old) (F.faults files.new))
+        (F.map files.old) stages.now) }
+    ensures left { IfErr result (λ refusal. (m : Names) → F.map files.old ≡ Some m
+        → IsLeft refusal (F.map files.old) (F.map files.new) (run_of m stages.now)) }
     ensures untold { F.map files.old ≡ None → F.map files.new ≡ None }
     ensures lent { F.lent files.new ≡ F.lent files.old }
     ensures later { F.faults files.old ≤ F.faults files.new }

@@ -2,7 +2,7 @@
 
 ghost use Rattle.std.specs.Prelude.{◌≡◌, ◌<◌, ◌≤◌};
 
-/// How many points a stage hands on at once, and how many items a queue between two stages holds, 1 to 64 each. What a run
+/// How many points a stage passes on at once, and how many items a queue between two stages holds, 1 to 64 each. What a run
 /// gives doesn't depend on it.
 #[derive(Clone, Copy, Debug)]
 pub struct Shape {

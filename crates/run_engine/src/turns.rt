@@ -37,8 +37,8 @@ pub(crate) fn turn_works<S: Source, K: FileSink>(
     requires count { length works.items ≡ length stages.now }
     requires room { IsTurnRoom S.Source K.Sink room.shape stages.now room }
     ensures later { AreLater (faults_of S.faults K.faults) works.items result.works.items }
-    ensures ended { IfOk result.outcome (λ ended. HaveEnded S.Source K.Sink stages.now works.items result.works.items
-        ended.faults.items ended.report.items) }
+    ensures ended { IfOk result.outcome (λ ended. HaveEnded S.Source K.Sink stages.now works.items
+        result.works.items ended.faults.items ended.report.items) }
     ensures gathers { OnErr result.outcome (SomeGathers stages.now) }
 {
     let TurnRoom {

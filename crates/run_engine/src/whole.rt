@@ -27,8 +27,8 @@ pub(crate) fn whole_works<S: Source, K: FileSink>(
     requires starts { AreAtStart K.bytes stages.now works.items }
     requires count { length works.items ≡ length stages.now }
     ensures later { AreLater (faults_of S.faults K.faults) works.items result.works.items }
-    ensures ended { IfOk result.outcome (λ ended. HaveEnded S.Source K.Sink stages.now works.items result.works.items
-        ended.faults.items ended.report.items) }
+    ensures ended { IfOk result.outcome (λ ended. HaveEnded S.Source K.Sink stages.now works.items
+        result.works.items ended.faults.items ended.report.items) }
 {
     let mut works = works;
     let outcome = evaluate_stages(alloc, works.as_mut_slice(), stages);

@@ -70,13 +70,15 @@ fn begin_work<F: Files>(
 ) -> Result<StageWork<F::In, F::Out>, Refusal>
     requires opened { IsOpened F.In.Source (F.map files.old) number (role_of stage.now.options) reader }
     requires form { IsForm (role_of stage.now.options) form }
-    ensures ok { IfOk result (IsWork F.In.Source F.Out.Sink (F.map files.old) number stage.now.options reader form) }
+    ensures ok { IfOk result (IsWork F.In.Source F.Out.Sink (F.map files.old)
+        number stage.now.options reader form) }
     ensures writes { OnErr result (is_writing (role_of stage.now.options) ≡ true) }
     ensures err { IfErr result (IsUncreated (Rose (F.faults files.old) (F.faults files.new)) number) }
     ensures none { OnErr result (there reader ≡ 0) }
     ensures early { IfErr result IsEarly }
     ensures map { F.map files.new ≡ F.map files.old }
-    ensures lent_ok { IfOk result (λ work. F.lent files.new + there reader ≡ F.lent files.old + there (op_of work)) }
+    ensures lent_ok { IfOk result (λ work. F.lent files.new + there reader
+        ≡ F.lent files.old + there (op_of work)) }
     ensures lent_err { OnErr result (F.lent files.new ≡ F.lent files.old) }
     ensures later { F.faults files.old ≤ F.faults files.new }
 {
@@ -111,14 +113,17 @@ pub(crate) fn begin_works<F: Files>(
     requires forms { length forms.items ≡ length stages.now }
     requires few { length stages.now ≤ 64 }
     requires come { (m : Names) → F.map files.old ≡ Some m → CanBegin m stages.now }
-    ensures ok { IfOk result (λ works. AreBegun F.In.Source F.Out.Sink (F.map files.old) stages.now readers.items forms.items works.items) }
+    ensures ok { IfOk result (λ works. AreBegun F.In.Source F.Out.Sink (F.map files.old)
+        stages.now readers.items forms.items works.items) }
     ensures count { IfOk result (λ works. length works.items ≡ length stages.now) }
-    ensures err { IfErr result (IsCause (Rose (F.faults files.old) (F.faults files.new)) (F.map files.old) stages.now) }
+    ensures err { IfErr result (IsCause (Rose (F.faults files.old) (F.faults files.new))
+        (F.map files.old) stages.now) }
     ensures early { IfErr result IsEarly }
     ensures map { F.map files.new ≡ F.map files.old }
     ensures lent_ok { IfOk result (λ works. (others : ℕ) → F.lent files.old ≡ others + all_there readers.items
         → F.lent files.new ≡ others + all_held works.items) }
-    ensures lent_err { OnErr result ((others : ℕ) → F.lent files.old ≡ others + all_there readers.items → F.lent files.new ≡ others) }
+    ensures lent_err { OnErr result ((others : ℕ)
+        → F.lent files.old ≡ others + all_there readers.items → F.lent files.new ≡ others) }
     ensures later { F.faults files.old ≤ F.faults files.new }
 {
     let Ok(mut works) = Vec::with_capacity(alloc, stages.len()) else {

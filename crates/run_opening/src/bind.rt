@@ -36,13 +36,17 @@ fn bind_stage<S: Source>(
     readers: &[Option<LasReader<S>>],
 ) -> Result<StageForm, Refusal>
     requires inside { All (λ j. j < length readers.now) below.old.readers.items }
-    ensures form { IfOk result (λ o. o ≡ form_for stage.now.options (record { names = names.old; reads = reads_in readers.now below.old.readers.items })) }
+    ensures form { IfOk result (λ o. o ≡ form_for stage.now.options
+        (record { names = names.old; reads = reads_in readers.now below.old.readers.items })) }
     ensures fits { IfOk result (IsForm (role_of stage.now.options)) }
     ensures names { OnOk result (names.new ≡ names_behind names.old stage.now.options) }
-    ensures layout { OnOk result ((dim : Dim) → holds below.new.layout dim ≡ (holds below.old.layout dim || adds names.old stage.now.options dim)) }
+    ensures layout { OnOk result ((dim : Dim)
+        → holds below.new.layout dim ≡ (holds below.old.layout dim || adds names.old stage.now.options dim)) }
     ensures readers { OnOk result (below.new.readers ≡ below.old.readers) }
-    ensures bound { OnOk result (binding_fault number names.old (holds below.old.layout) stage.now.options ≡ None) }
-    ensures err { IfErr result (IsUnboundAt (binding_fault number names.old (holds below.old.layout) stage.now.options)) }
+    ensures bound { OnOk result (binding_fault number names.old (holds below.old.layout) stage.now.options
+        ≡ None) }
+    ensures err { IfErr result (IsUnboundAt
+        (binding_fault number names.old (holds below.old.layout) stage.now.options)) }
 {
     let bound = match bind(alloc, &stage.options, number, &mut below.layout, names) {
         Ok(bound) => bound,

@@ -35,7 +35,8 @@ fn open_reader<F: Files>(
     stage: u32,
 ) -> Result<LasReader<F::In>, Refusal>
     ensures ok { IfOk result (IsReading F.In.Source (F.map files.old) stage (Reads name.now)) }
-    ensures err { IfErr result (IsUnopened (Rose (F.faults files.old) (F.faults files.new)) (F.map files.old) stage (Reads name.now)) }
+    ensures err { IfErr result (IsUnopened (Rose (F.faults files.old) (F.faults files.new))
+        (F.map files.old) stage (Reads name.now)) }
     ensures early { IfErr result IsEarly }
     ensures map { F.map files.new ≡ F.map files.old }
     ensures lent_ok { OnOk result (F.lent files.new ≡ F.lent files.old + 1) }
@@ -64,7 +65,8 @@ fn open_stage<F: Files>(
     number: u32,
 ) -> Result<Option<LasReader<F::In>>, Refusal>
     ensures ok { IfOk result (IsOpened F.In.Source (F.map files.old) number (role_of stage.now.options)) }
-    ensures err { IfErr result (IsUnopened (Rose (F.faults files.old) (F.faults files.new)) (F.map files.old) number (role_of stage.now.options)) }
+    ensures err { IfErr result (IsUnopened (Rose (F.faults files.old) (F.faults files.new))
+        (F.map files.old) number (role_of stage.now.options)) }
     ensures early { IfErr result IsEarly }
     ensures map { F.map files.new ≡ F.map files.old }
     ensures lent_ok { IfOk result (λ reader. F.lent files.new ≡ F.lent files.old + there reader) }
@@ -88,7 +90,8 @@ pub(crate) fn open_readers<F: Files>(
     requires few { length stages.now ≤ 64 }
     ensures ok { IfOk result (λ readers. AreOpened F.In.Source (F.map files.old) stages.now readers.items) }
     ensures count { IfOk result (λ readers. length readers.items ≡ length stages.now) }
-    ensures err { IfErr result (IsCause (Rose (F.faults files.old) (F.faults files.new)) (F.map files.old) stages.now) }
+    ensures err { IfErr result (IsCause (Rose (F.faults files.old) (F.faults files.new))
+        (F.map files.old) stages.now) }
     ensures early { IfErr result IsEarly }
     ensures map { F.map files.new ≡ F.map files.old }
     ensures lent_ok { IfOk result (λ readers. F.lent files.new ≡ F.lent files.old + all_there readers.items) }

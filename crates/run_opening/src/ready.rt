@@ -30,8 +30,10 @@ pub fn ready_works<F: Files>(
     stages: &[StageSpec],
 ) -> Result<Vec<StageWork<F::In, F::Out>>, Refusal>
     requires tree { IsTree (shapes stages.now) }
-    ensures ready { IfOk result (λ works. AreReady F.In.Source F.Out.Sink (F.map files.old) stages.now works.items) }
-    ensures err { IfErr result (IsCause (Rose (F.faults files.old) (F.faults files.new)) (F.map files.old) stages.now) }
+    ensures ready { IfOk result (λ works. AreReady F.In.Source F.Out.Sink (F.map files.old)
+        stages.now works.items) }
+    ensures err { IfErr result (IsCause (Rose (F.faults files.old) (F.faults files.new))
+        (F.map files.old) stages.now) }
     ensures early { IfErr result IsEarly }
     ensures map { F.map files.new ≡ F.map files.old }
     ensures lent_ok { IfOk result (λ works. F.lent files.new ≡ F.lent files.old + all_held works.items) }
