@@ -504,6 +504,12 @@ for place in ("README.md", "docs/PIPELINES.md", "man/lasline.1", "completions/la
         more = page_words - set(settings) - set(commands)
         if more:
             fault(place, "has " + ", ".join(sorted(more)) + ", which is no word of the program")
+# In a page a word of the program stands by itself in a piece of code, or with its number. `--x` is the name of a file.
+for page_name, text in TEXTS.items():
+    for name in re.findall(r"`(--[a-z]+)(?: N)?`", text):
+        looked["words"] += 1
+        if name not in settings + commands + ["--x"]:
+            fault(page_name, f"has {name}, which is no word of the program")
 bash, zsh = read("completions/lasline.bash"), read("completions/_lasline")
 agree("completions/lasline.bash", "commands", re.search(r'-W "([^"]*)"', bash)[1].split(), commands)
 agree("completions/lasline.bash", "options", re.search(r"for option in (.*?);", bash)[1].split(), active)

@@ -137,7 +137,7 @@ impl<S: Source, K: FileSink> Job<S, K> {
             → (result ≡ Err refusal) × (F.map files.new ≡ F.map files.old) }
         ensures blamed { (i : ℕ) (o : Op) → result ≡ Err (refused.Refusal.Device (place.Place.Stage i) o)
             → IsBlamed (faults_of S.faults K.faults) (Rose (F.faults files.old) (F.faults files.new))
-                self.works.items self.step i o }
+            self.works.items self.step i o }
         ensures untold { F.map files.old ≡ None → F.map files.new ≡ None }
         ensures lent { (others : ℕ) → F.lent files.old ≡ others + all_held self.works.items
             → F.lent files.new ≡ others }
