@@ -54,6 +54,13 @@ abbrev pub knows : Pass Item (Known Item) → Known Item
 knows p = view p
 
 module _ {Q A : Type 0} (line : Slotted (Option Item) (Doing Item (Known Item)) Q A) (pass : Pass Item (Known Item)) where
+  -- an end of this queue with this pass
+  abbrev pub seen_out : OutSeen
+  seen_out = out_seen line.table.shared.table_id (ruled_capacity line) (knows pass).sent
+
+  abbrev pub seen_in : InSeen
+  seen_in = in_seen line.table.shared.table_id (ruled_capacity line) (knows pass).got
+
   pub record IsOut (n : ℕ) : Type 0 where
     pub queue : IsPassOf line pass
     pub role : (knows pass).sends ≡ true

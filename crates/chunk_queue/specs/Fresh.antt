@@ -1,12 +1,15 @@
--- A new queue's one pass has sent and got nothing.
-use Rattle.std.specs.Prelude.{◌≡◌, true, [], Option, Some, None}
-use Rattle.crossbeam_queue.specs.Passes.{Pass, view, IsPassOf}
-use Rattle.crossbeam_queue.specs.declared.array_queue.Slotted.{Slotted}
-use Rattle.crossbeam_queue.specs.declared.array_queue.Doing.{Doing}
-use Rattle.cloud_points.specs.declared.item.Item.{Item}
-use Rattle.chunk_queue.specs.declared.known.Known.{Known}
-use Rattle.chunk_queue.specs.Known.{known}
+-- The ends of a new queue.
+use Rattle.std.specs.Prelude.{◌≡◌, ℕ, [], Option, Some, None}
+use Rattle.chunk_queue.specs.declared.ruled.BothEnds.{BothEnds}
 
-abbrev pub IsFresh : {Q A : Type 0} → Slotted (Option Item) (Doing Item (Known Item)) Q A → Option (Pass Item (Known Item)) → Type 0
-IsFresh line None = Unit {0}
-IsFresh line (Some pass) = IsPassOf line pass × (view pass ≡ known true true 0 [] [])
+-- two ends of one queue with this capacity, over which nothing was sent
+pub record IsNew (capacity : ℕ) (ends : BothEnds) : Type 0 where
+  pub queue : ends.out.queue ≡ ends.inn.queue
+  pub sends : ends.out.capacity ≡ capacity
+  pub takes : ends.inn.capacity ≡ capacity
+  pub sent : ends.out.sent ≡ []
+  pub got : ends.inn.got ≡ []
+
+abbrev pub AreFresh : ℕ → Option BothEnds → Type 0
+AreFresh capacity None = Unit {0}
+AreFresh capacity (Some ends) = IsNew capacity ends

@@ -1,6 +1,6 @@
 -- The rule of a queue, and that a call keeps it whatever was sent and got before.
 use Rattle.std.specs.Prelude.{◌≡◌, ℕ, Bool, false, List, [], ◌∷◌, ◌++◌, length}
-use Rattle.circular_buffer.specs.Buffer.{Buffer}
+use Rattle.circular_buffer.specs.Buffer.{Buffer, buffer}
 use Rattle.cloud_points.specs.declared.item.Item.{Item}
 use Rattle.cloud_points.specs.Bodies.{body_ends}
 use Rattle.cloud_points.specs.Queue.{IsQueue, up_to_limit, has_end}
@@ -14,6 +14,10 @@ item_ends i = body_ends i.body
 -- the queue holds what was sent and not yet got
 abbrev pub StandsBetween : List Item → List Item → Buffer Item → Type 0
 StandsBetween sent got queue = IsQueue item_number item_ends sent got queue.items queue.capacity
+
+-- a queue with one item more
+abbrev pub with_item : Buffer Item → Item → Buffer Item
+with_item queue item = buffer (queue.items ++ item ∷ []) queue.capacity
 
 -- an item that goes in with the next number, and before any End, is the next one sent
 abbrev pub KeepsRuleOnPush : Buffer Item → Item → Buffer Item → Type 0

@@ -3,7 +3,7 @@
 ghost use Rattle.std.specs.Prelude.{◌≡◌, ◌<◌, ◌≤◌, ◌||◌, true, false, length, OnOk, IfErr, MatchOption};
 ghost use Rattle.std.specs.Bool.{OnTrue, OnFalse};
 ghost use Rattle.cloud_points.specs.Queue.{up_to_limit};
-ghost use Rattle.chunk_queue.specs.Slots.{brings_points, tag_item, kind_body};
+ghost use Rattle.chunk_queue.specs.Slots.{brings_points, tag_item};
 
 use crate::order::{Line, LinePass, Sends, Takes};
 use crate::parcel::Parcel;
@@ -12,54 +12,59 @@ use crate::slots::{Slots, put_free, take_free};
 use crate::tag::{ItemKind, Tag};
 use cloud_points::{Body, Item, Point, Spread};
 use std::marker::Model;
-use std::sync::Wait;
+use std::sync::{Arc, Wait};
+
+/// What both ends of a queue share: its line of items, and its slots.
+#[derive(Drop)]
+pub(crate) struct Channel {
+    pub(crate) line: Line,
+    pub(crate) slots: Slots,
+}
 
 /// The end that sends. A clause sees which queue it is of, its capacity, and all that was sent.
 #[derive(Drop)]
-pub struct RuledOut<'a> {
-    pub(crate) line: &'a Line,
-    pub(crate) slots: &'a Slots,
+pub struct RuledOut {
+    pub(crate) channel: Arc<Channel>,
     pub(crate) pass: LinePass,
     pub(crate) count: u64,
 }
 
-impl<'a> Model for RuledOut<'a> {
-    ghost use Rattle.crossbeam_queue.specs.Passes.{ruled_capacity};
-    ghost use Rattle.chunk_queue.specs.Ends.{OutSeen, out_seen, knows, IsOut};
+impl Model for RuledOut {
+    ghost use Rattle.std.specs.Arc.{arc_value};
+    ghost use Rattle.chunk_queue.specs.Ends.{OutSeen, seen_out, IsOut};
 
     ghost Value = { OutSeen };
 
-    ghost view = { λ o. out_seen o.line.now.table.shared.table_id (ruled_capacity o.line.now) (knows o.pass).sent };
+    ghost view = { λ o. seen_out (arc_value o.channel).line o.pass };
 
-    ghost invariant = { λ o. IsOut o.line.now o.pass o.count };
+    ghost invariant = { λ o. IsOut (arc_value o.channel).line o.pass o.count };
 }
 
 /// The end that takes. A clause sees which queue it is of, its capacity, and all that was got.
 #[derive(Drop)]
-pub struct RuledIn<'a> {
-    pub(crate) line: &'a Line,
-    pub(crate) slots: &'a Slots,
+pub struct RuledIn {
+    pub(crate) channel: Arc<Channel>,
     pub(crate) pass: LinePass,
     pub(crate) count: u64,
     pub(crate) ended: bool,
 }
 
-impl<'a> Model for RuledIn<'a> {
-    ghost use Rattle.crossbeam_queue.specs.Passes.{ruled_capacity};
-    ghost use Rattle.chunk_queue.specs.Ends.{InSeen, in_seen, knows, IsIn};
+impl Model for RuledIn {
+    ghost use Rattle.std.specs.Arc.{arc_value};
+    ghost use Rattle.chunk_queue.specs.Ends.{InSeen, seen_in, IsIn};
 
     ghost Value = { InSeen };
 
-    ghost view = { λ i. in_seen i.line.now.table.shared.table_id (ruled_capacity i.line.now) (knows i.pass).got };
+    ghost view = { λ i. seen_in (arc_value i.channel).line i.pass };
 
-    ghost invariant = { λ i. IsIn i.line.now i.pass i.count i.ended };
+    ghost invariant = { λ i. IsIn (arc_value i.channel).line i.pass i.count i.ended };
 }
 
-impl<'a> RuledOut<'a> {
+impl RuledOut {
     ghost use Rattle.chunk_queue.specs.Ends.{ended, sends, HadRoom, WasFull};
 
-    /// Sends the item that a tag and points make, or changes nothing where the queue was full at a step of the call. The
-    /// points count only where the tag brings points, and then there are 1 to 64 of them.
+    /// Sends the item that a tag and points make, or changes nothing where the queue was full at a step of
+    /// the call. The points count only where the tag brings points, and then there are 1 to 64 of them.
     pub fn push_from<R: Wait>(&mut self, rt: &R, tag: Tag, points: &[Point]) -> bool
         requires number { tag.no ≡ up_to_limit (length self.old.sent) }
         requires goes_on { ended self.old.sent ≡ false }
@@ -70,17 +75,21 @@ impl<'a> RuledOut<'a> {
         ensures same { OnFalse result (self.new ≡ self.old) }
         ensures full { OnFalse result (WasFull self.old) }
     {
-        if self.line.is_full_as::<Sends>(&mut self.pass) {
+        if self.channel.line.is_full_as::<Sends>(&mut self.pass) {
             return false;
         }
-        let parcel = Parcel::new(tag, take_free(rt, self.slots), points);
-        match self.line.push_as::<Sends, R>(rt, &mut self.pass, parcel) {
+        let parcel = Parcel::new(tag, take_free(rt, &self.channel.slots), points);
+        match self
+            .channel
+            .line
+            .push_as::<Sends, R>(rt, &mut self.pass, parcel)
+        {
             Ok(()) => {
                 self.count = self.count.saturating_add(1);
                 true
             }
             Err(parcel) => {
-                put_free(rt, self.slots, parcel.into_slot());
+                put_free(rt, &self.channel.slots, parcel.into_slot());
                 false
             }
         }
@@ -128,17 +137,18 @@ impl<'a> RuledOut<'a> {
     }
 }
 
-impl<'a> RuledIn<'a> {
+impl RuledIn {
     ghost use Rattle.chunk_queue.specs.Ends.{takes, IsTaken, WasEmpty, WasFirst};
 
-    /// Takes the first item, apart from its points, which are put in place of what the spread held. None comes where the
-    /// queue was empty at a step of the call. The spread is unchanged where the item brings no points.
+    /// Takes the first item, apart from its points, which are put in place of what the spread held. None
+    /// comes where the queue was empty at a step of the call. The spread is unchanged where the item brings
+    /// no points.
     pub fn pop_into<R: Wait>(&mut self, rt: &R, points: &mut Spread) -> Option<Tag>
         ensures { IsTaken self.old self.new result points.old.items points.new.items }
     {
-        let parcel = self.line.pop_as::<Takes, R>(rt, &mut self.pass)?;
+        let parcel = self.channel.line.pop_as::<Takes, R>(rt, &mut self.pass)?;
         let (tag, slot) = parcel.open(points);
-        put_free(rt, self.slots, slot);
+        put_free(rt, &self.channel.slots, slot);
         self.count = self.count.saturating_add(1);
         self.ended |= tag.kind.is_end();
         Some(tag)
@@ -146,7 +156,8 @@ impl<'a> RuledIn<'a> {
 
     /// Takes the first item. None comes where the queue was empty at a step of the call.
     pub fn pop<R: Wait>(&mut self, rt: &R) -> Option<Item>
-        ensures { MatchOption result ((self.new ≡ self.old) × WasEmpty self.old) (λ i. (self.new ≡ takes self.old i) × WasFirst self.old i) }
+        ensures { MatchOption result ((self.new ≡ self.old) × WasEmpty self.old)
+            (λ i. (self.new ≡ takes self.old i) × WasFirst self.old i) }
     {
         let mut points = Spread::new();
         let tag = self.pop_into(rt, &mut points)?;

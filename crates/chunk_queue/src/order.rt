@@ -10,8 +10,8 @@ use crossbeam_queue::protocol::{Join, Lesson, Outcome, Protocol, Split};
 use crossbeam_queue::{Pass, RuledArrayQueue};
 use std::marker::{Brand, PhantomData};
 
-/// What was got and what is held are what was sent, in its order. The one who sends knows what was sent, and the one
-/// who takes knows what was got.
+/// What was got and what is held are what was sent, in its order. The one who sends knows what was sent, and
+/// the one who takes knows what was got.
 pub struct InOrder;
 
 impl Protocol<Parcel, Known<Parcel>> for InOrder {

@@ -1,9 +1,10 @@
 //! A queue on one thread.
 
-ghost use Rattle.std.specs.Prelude.{◌≡◌, ◌<◌, ◌≤◌, ◌+◌, [], ◌∷◌, ◌++◌, ◌↔◌, length, drop, slice_get, true, false, IfOk, IfErr, IfSome, OnOk, OnErr, IsOk, IsTrue, nat_lt, ◌==◌, ◌^◌};
+ghost use Rattle.std.specs.Prelude.{◌≡◌, ◌<◌, ◌≤◌, ◌+◌, [], ◌∷◌, ◌++◌, ◌↔◌, length, drop, slice_get, true};
+ghost use Rattle.std.specs.Prelude.{false, IfOk, IfErr, IfSome, OnOk, OnErr, IsOk, IsTrue, nat_lt, ◌==◌, ◌^◌};
 ghost use Rattle.std.specs.Bool.{OnTrue, OnFalse};
 ghost use Rattle.circular_buffer.specs.Buffer.{buffer};
-ghost use Rattle.chunk_queue.specs.Rule.{StandsBetween, KeepsRuleOnPush, KeepsRuleOnPop};
+ghost use Rattle.chunk_queue.specs.Rule.{StandsBetween, KeepsRuleOnPush, KeepsRuleOnPop, with_item};
 ghost use Rattle.chunk_queue.specs.Slots.{filled, tag_item, kind_body, brings_points, IsPopped};
 
 use crate::tag::{ItemKind, SlottedItem, Tag};
@@ -12,15 +13,16 @@ use cloud_points::{Body, Chunk, Item, Point, Spread, put_points};
 use std::alloc::{AllocError, Global};
 use std::marker::Model;
 
-/// A queue with room for a stated number of items, from 1 to 64. A clause sees the list of the items that it holds,
-/// and its capacity.
+/// A queue with room for a stated number of items, from 1 to 64. A clause sees the list of the items that it
+/// holds, and its capacity.
 ///
-/// Each call keeps the rule of a queue, whatever was sent and got before it: what was got and what is held are what was
-/// sent, in its order, with the numbers 0, 1, .. and an End only last. A clause `rule` says so of an item that goes in
-/// with the next number and before any End, and of each item that comes out.
+/// Each call keeps the rule of a queue, whatever was sent and got before it: what was got and what is held
+/// are what was sent, in its order, with the numbers 0, 1, .. and an End only last. A clause `rule` says so
+/// of an item that goes in with the next number and before any End, and of each item that comes out.
 ///
-/// The points of an item lie in a slot of their own, so that they are copied once into the queue and once out of it,
-/// and no call but `new` takes memory. The slot that came free last is taken first, so that those in use stay in the cache.
+/// The points of an item lie in a slot of their own, so that they are copied once into the queue and once out
+/// of it, and no call but `new` takes memory. The slot that came free last is taken first, so that those in
+/// use stay in the cache.
 #[derive(Drop)]
 pub struct PlainQueue {
     entries: HeapCircularBuffer<SlottedItem>,
@@ -74,7 +76,7 @@ impl PlainQueue {
     /// Appends an item, or hands it back exactly where the queue is full.
     pub fn push(&mut self, item: Item) -> Result<(), Item>
         ensures room { IsOk result ↔ (length self.old.items < self.old.capacity) }
-        ensures ok { OnOk result (self.new ≡ buffer (self.old.items ++ item ∷ []) self.old.capacity) }
+        ensures ok { OnOk result (self.new ≡ with_item self.old item) }
         ensures err { OnErr result (self.new ≡ self.old) }
         ensures back { IfErr result (λ i. i ≡ item) }
         ensures rule { OnOk result (KeepsRuleOnPush self.old item self.new) }
@@ -100,13 +102,13 @@ impl PlainQueue {
         self.entries.is_empty()
     }
 
-    /// Appends the item that a tag and points make, or changes nothing exactly where the queue is full. The points count
-    /// only where the tag brings points, and then there are 1 to 64 of them.
+    /// Appends the item that a tag and points make, or changes nothing exactly where the queue is full. The
+    /// points count only where the tag brings points, and then there are 1 to 64 of them.
     pub fn push_from(&mut self, tag: Tag, points: &[Point]) -> bool
         requires some { brings_points tag.kind ≡ true → 0 < length points.now }
         requires most { length points.now ≤ 64 }
         ensures room { IsTrue result ↔ (length self.old.items < self.old.capacity) }
-        ensures pushed { OnTrue result (self.new ≡ buffer (self.old.items ++ tag_item tag points.now ∷ []) self.old.capacity) }
+        ensures pushed { OnTrue result (self.new ≡ with_item self.old (tag_item tag points.now)) }
         ensures full { OnFalse result (self.new ≡ self.old) }
         ensures rule { OnTrue result (KeepsRuleOnPush self.old (tag_item tag points.now) self.new) }
     {
@@ -117,12 +119,14 @@ impl PlainQueue {
         true
     }
 
-    /// The first item, which leaves the queue, apart from its points, which are put in place of what the spread held;
-    /// None exactly where the queue is empty. The spread is unchanged where the item brings no points.
+    /// The first item, which leaves the queue, apart from its points, which are put in place of what the
+    /// spread held; None exactly where the queue is empty. The spread is unchanged where the item brings no
+    /// points.
     pub fn pop_into(&mut self, points: &mut Spread) -> Option<Tag>
         ensures popped { IsPopped self.old.items result points.old.items points.new.items }
         ensures items { self.new ≡ buffer (drop 1 self.old.items) self.old.capacity }
-        ensures rule { IfSome result (λ tag. KeepsRuleOnPop self.old (tag_item tag points.new.items) self.new) }
+        ensures rule { IfSome result
+            (λ tag. KeepsRuleOnPop self.old (tag_item tag points.new.items) self.new) }
     {
         let SlottedItem { tag, slot } = self.entries.pop_front()?;
         take_slot(points, tag.kind, &slot);
@@ -133,7 +137,7 @@ impl PlainQueue {
     /// Appends an item where there is room.
     fn put_body(&mut self, no: u64, body: &Body)
         requires { length self.old.items < self.old.capacity }
-        ensures { self.new ≡ buffer (self.old.items ++ record { no = no; body = body.now } ∷ []) self.old.capacity }
+        ensures { self.new ≡ with_item self.old (record { no = no; body = body.now }) }
     {
         match body {
             Body::Points(chunk) => self.put(no, ItemKind::Points, chunk.points()),
@@ -147,7 +151,7 @@ impl PlainQueue {
         requires room { length self.old.items < self.old.capacity }
         requires some { brings_points kind ≡ true → 0 < length points.now }
         requires most { length points.now ≤ 64 }
-        ensures { self.new ≡ buffer (self.old.items ++ tag_item (record { no = no; kind = kind }) points.now ∷ []) self.old.capacity }
+        ensures { self.new ≡ with_item self.old (tag_item (record { no = no; kind = kind }) points.now) }
     {
         let Some(mut slot) = self.free.pop() else {
             unreachable!()

@@ -16,18 +16,22 @@ use crate::pipeline_file::{read_stages, read_text};
 use crate::printing::{print_report, print_text};
 use crate::texts::generated_line;
 use file_devices::{Files, Sink};
+use network_solo::Scheduler;
 use run_engine::{Engine, run_pipeline};
 use run_report::{Refusal, Report};
+use stage_kinds::StageWork;
 use std::alloc::Global;
 
 /// Runs the pipeline that a text is, and answers what each of its stages gave on. Files that don't tell what they have don't tell it
 /// after the run.
-fn run_text<F: Files>(
+fn run_text<F: Files, T: Scheduler<StageWork<F::In, F::Out>>>(
     alloc: Global,
     text: &[u8],
     engine: Engine,
+    scheduler: &T,
     files: &mut F,
 ) -> Result<Report, Refusal>
+    requires sound { T.sound scheduler.now }
     ensures ok { IfOk result (λ report. (m : Names) → F.map files.old ≡ Some m
         → IsOkAnd (text_run m text.now) (IsRun (F.map files.old) (F.map files.new) report.items)) }
     ensures err { IfErr result (WasStopped (Rose (F.faults files.old) (F.faults files.new)) (F.map files.old)
@@ -37,17 +41,19 @@ fn run_text<F: Files>(
     ensures later { F.faults files.old ≤ F.faults files.new }
 {
     let tree = read_stages(alloc, text)?;
-    run_pipeline(alloc, files, tree.as_slice(), engine)
+    run_pipeline(alloc, files, tree.as_slice(), engine, scheduler)
 }
 
 /// Runs the pipeline in a file and prints the report.
-pub(crate) fn run_file<F: Files, K: Sink>(
+pub(crate) fn run_file<F: Files, K: Sink, T: Scheduler<StageWork<F::In, F::Out>>>(
     alloc: Global,
     name: &str,
     engine: Engine,
+    scheduler: &T,
     files: &mut F,
     out: &mut K,
 ) -> Result<(), Refusal>
+    requires sound { T.sound scheduler.now }
     ensures ok { OnOk result (WasDone (Ok (Run_file name.now (engine_view engine))) (F.map files.old)
         (F.map files.new) (K.bytes out.old) (K.bytes out.new)) }
     ensures err { IfErr result (WasRefused (Ok (Run_file name.now (engine_view engine)))
@@ -58,7 +64,7 @@ pub(crate) fn run_file<F: Files, K: Sink>(
     ensures later { F.faults files.old ≤ F.faults files.new }
 {
     let text = read_text(alloc, files, name)?;
-    let report = run_text(alloc, &text, engine, files)?;
+    let report = run_text(alloc, &text, engine, scheduler, files)?;
     print_report(report.as_slice(), out)
 }
 
@@ -77,13 +83,15 @@ fn trial_text() -> &'static str
 }
 
 /// Makes a LAS file of generated points, runs the pipeline of the trial on it, and prints how many points there are and the report.
-pub(crate) fn run_trial<F: Files, K: Sink>(
+pub(crate) fn run_trial<F: Files, K: Sink, T: Scheduler<StageWork<F::In, F::Out>>>(
     alloc: Global,
     count: PointCount,
     engine: Engine,
+    scheduler: &T,
     files: &mut F,
     out: &mut K,
 ) -> Result<(), Refusal>
+    requires sound { T.sound scheduler.now }
     ensures ok { OnOk result (WasDone (Ok (Trial count.points (engine_view engine))) (F.map files.old)
         (F.map files.new) (K.bytes out.old) (K.bytes out.new)) }
     ensures err { IfErr result (WasRefused (Ok (Trial count.points (engine_view engine)))
@@ -97,7 +105,7 @@ pub(crate) fn run_trial<F: Files, K: Sink>(
         return Err(Refusal::Memory);
     };
     make(alloc, files, trial_name(), count)?;
-    let report = run_text(alloc, trial_text().as_bytes(), engine, files)?;
+    let report = run_text(alloc, trial_text().as_bytes(), engine, scheduler, files)?;
     print_text(line.as_str(), out)?;
     print_report(report.as_slice(), out)
 }

@@ -19,16 +19,20 @@ use crate::running::{run_file, run_trial};
 use crate::status::Status;
 use crate::words::{Task, task_of};
 use file_devices::{Files, Sink};
+use network_solo::{OneThread, Scheduler};
 use run_report::{Refusal, fault_text};
+use stage_kinds::StageWork;
 use std::alloc::Global;
 
 /// Does a command and prints its report, or its page.
-fn run_command<F: Files, K: Sink>(
+fn run_command<F: Files, K: Sink, T: Scheduler<StageWork<F::In, F::Out>>>(
     alloc: Global,
+    scheduler: &T,
     words: &[String],
     files: &mut F,
     out: &mut K,
 ) -> Result<(), Refusal>
+    requires sound { T.sound scheduler.now }
     ensures ok { OnOk result (WasDone (task_of (map string_bytes words.now)) (F.map files.old)
         (F.map files.new) (K.bytes out.old) (K.bytes out.new)) }
     ensures err { IfErr result (WasRefused (task_of (map string_bytes words.now))
@@ -48,10 +52,10 @@ fn run_command<F: Files, K: Sink>(
         (F.read_to files.new) }
 {
     match task_of(words)? {
-        Task::Run { file, engine } => run_file(alloc, file, engine, files, out),
+        Task::Run { file, engine } => run_file(alloc, file, engine, scheduler, files, out),
         Task::Plan { file } => plan_file(alloc, file, files, out),
         Task::Generate { count, name } => make_file(alloc, count, name, files, out),
-        Task::Trial { count, engine } => run_trial(alloc, count, engine, files, out),
+        Task::Trial { count, engine } => run_trial(alloc, count, engine, scheduler, files, out),
         Task::Print(page) => print_text(page, out),
     }
 }
@@ -68,6 +72,27 @@ pub fn refused<E: Sink>(refusal: Refusal, err: &mut E) -> Status
     }
 }
 
+/// Does a command, whose stages take turns as the scheduler has it, and says why where it was refused.
+pub(crate) fn do_command<F: Files, K: Sink, E: Sink, T: Scheduler<StageWork<F::In, F::Out>>>(
+    alloc: Global,
+    scheduler: &T,
+    words: &[String],
+    files: &mut F,
+    out: &mut K,
+    err: &mut E,
+) -> Status
+    requires sound { T.sound scheduler.now }
+    ensures answered { HasAnswered (map string_bytes words.now)
+        (seen F.Files K.Sink E.Sink files.old out.old err.old)
+        (seen F.Files K.Sink E.Sink files.new out.new err.new)
+        result }
+{
+    match run_command(alloc, scheduler, words, files, out) {
+        Ok(()) => Status::Ok,
+        Err(refusal) => refused(refusal, err),
+    }
+}
+
 /// Does a command on one thread. It always returns, and waits for nobody.
 ///
 /// `words` are the command line without the program's name:
@@ -80,7 +105,8 @@ pub fn refused<E: Sink>(refusal: Refusal, err: &mut E) -> Status
 ///
 /// Behind `run FILE` and `trial N` may stand `--chunk N`, the points that a stage passes on at once, and `--queue N`, the items that a
 /// queue between two stages holds: each at most once, in any order, with N from 1 to 64. Without them N is 64 and 8. With `--whole`
-/// the stages are evaluated one after the other, each on all its points. None of these changes what is kept or reported.
+/// the stages are evaluated one after the other, each on all its points. None of these changes what is kept or
+/// reported.
 ///
 /// On `Ok` the outputs are kept in `files` and the report is appended to `out`; on any other status a line that says why is appended to
 /// `err`. Every object that `files` handed out is given back.
@@ -101,8 +127,5 @@ pub fn lasline_solo<F: Files, K: Sink, E: Sink>(
         (seen F.Files K.Sink E.Sink files.new out.new err.new)
         result }
 {
-    match run_command(alloc, words, files, out) {
-        Ok(()) => Status::Ok,
-        Err(refusal) => refused(refusal, err),
-    }
+    do_command(alloc, &OneThread, words, files, out, err)
 }

@@ -1,3 +1,4 @@
+pub mod Calms
 pub mod Rows
 pub mod Events
 pub mod Lent

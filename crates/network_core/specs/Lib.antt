@@ -1,5 +1,6 @@
 pub mod Hands
 pub mod Shown
+pub mod Table
 pub mod Calm
 pub mod Holding
 pub mod Begun

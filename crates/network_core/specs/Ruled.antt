@@ -40,6 +40,10 @@ abbrev pub IsTurn : {S : Type 0} → Bool → Bool → net.Choice S Point StageF
 IsTurn root reads ch old new t took gave = (cap : ℕ) (rest out : List (Item Point)) → MayHave reads (turned t) cap rest out
     → left new rest (out ++ bodies gave) t ≡ net.turn root cap ch old (bodies took ++ rest) out
 
+-- so it is of a node of the code
+abbrev pub IsRuledRow : {W S : Type 0} (g : Ghosts W S) → Bool → Bool → Node W → Node W → Turned → List code.Item → List code.Item → Type 0
+IsRuledRow g root reads old new t took gave = (ins : List ℕ) → IsTurn root reads (choice g old new) (shown g ins old) (shown g ins new) t took gave
+
 -- an end that takes, before and after a turn
 pub record Takes (old new : InSeen) (t : net.Turned) : Type 0 where
   pub grows : new ≡ in_seen old.queue old.capacity (old.got ++ taken old new)
@@ -87,7 +91,7 @@ Closes inn inn' old new = IsNode old → ended inn.got ≡ false → new.machine
 -- what a turn of a node over ends is, by what was taken and sent: it is the turn, its event is one that may be, its sink holds
 -- what it took, and it keeps the node sound; without an event it carries what was taken to what was given
 pub record RuledTurn {W S : Type 0} (g : Ghosts W S) (root reads : Bool) (old new : Node W) (t : Turned) (took gave : List code.Item) : Type 0 where
-  pub row : (ins : List ℕ) → IsTurn root reads (choice g old new) (shown g ins old) (shown g ins new) t took gave
+  pub row : IsRuledRow g root reads old new t took gave
   pub obeys : Obeys g old new
   pub holds : HoldsMore g old new (all_item_points (bodies took))
   pub sound : (ins : List ℕ) → IsNode (shown g ins old) → IsNode (shown g ins new)

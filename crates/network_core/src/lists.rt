@@ -37,7 +37,8 @@ impl<W> NodeList<W> {
     }
 }
 
-/// For each node of a net the numbers of its children, in the order of its inputs. A clause sees the list of the lists.
+/// For each node of a net the numbers of its children, in the order of its inputs. A clause sees the list of
+/// the lists.
 #[derive(Drop)]
 pub struct InsList {
     pub(crate) lists: Vec<Vec<u32>>,

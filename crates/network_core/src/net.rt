@@ -23,7 +23,8 @@ pub struct Net<W> {
 }
 
 impl<W: Work> Net<W> {
-    ghost use Rattle.std.specs.Prelude.{◌≡◌, ◌≢◌, ◌<◌, ◌≤◌, ◌+◌, ◌-◌, ◌^◌, ℕ, List, Some, IfOk, IfErr, length, slice_get};
+    ghost use Rattle.std.specs.Prelude.{◌≡◌, ◌≢◌, ◌<◌, ◌≤◌, ◌+◌, ◌-◌, ◌^◌, ℕ, List, Some, IfOk, IfErr};
+    ghost use Rattle.std.specs.Prelude.{length, slice_get};
     ghost use Rattle.cloud_points.specs.declared.point.Point.{Point};
     ghost use Rattle.cloud_points.specs.declared.faults.StageFault.{StageFault};
     ghost use Rattle.network_theory.specs.Net as net;
@@ -31,11 +32,12 @@ impl<W: Work> Net<W> {
     ghost use Rattle.network_theory.specs.Opening.{IsFresh};
     ghost use Rattle.network_core.specs.declared.node.Node as code;
     ghost use Rattle.network_core.specs.Shown.{shown, turned};
-    ghost use Rattle.network_core.specs.Nets.{nodes_of, ins_of, capacity_of, root_of, net_of, choice_at, ObeysAt, SameShape, IsNewNet};
+    ghost use Rattle.network_core.specs.Nets.{nodes_of, ins_of, capacity_of, root_of, net_of, choice_at};
+    ghost use Rattle.network_core.specs.Nets.{ObeysAt, SameShape, IsNewNet};
 
-    /// A net of these nodes with nothing on its queues, each of which has room for `capacity` items. `ins` has the numbers
-    /// of each node's children in the order of its inputs, and the last node is the root. Where memory is wanting the nodes
-    /// are handed back.
+    /// A net of these nodes with nothing on its queues, each of which has room for `capacity` items. `ins`
+    /// has the numbers of each node's children in the order of its inputs, and the last node is the root.
+    /// Where memory is wanting the nodes are handed back.
     pub fn new(
         alloc: Global,
         nodes: NodeList<W>,
@@ -61,8 +63,8 @@ impl<W: Work> Net<W> {
         }
     }
 
-    /// A net of these nodes over these queues, one for each node but the root. `ins` has the numbers of each node's children
-    /// in the order of its inputs, and the last node is the root. It takes no memory.
+    /// A net of these nodes over these queues, one for each node but the root. `ins` has the numbers of each
+    /// node's children in the order of its inputs, and the last node is the root. It takes no memory.
     pub fn over(nodes: NodeList<W>, ins: InsList, queues: Queues) -> Net<W>
         requires some { 0 < length nodes }
         requires most { length nodes < 2 ^ 32 }
@@ -70,7 +72,8 @@ impl<W: Work> Net<W> {
             → IsFresh (shown W.Work (children ins k) n) }
         requires forest { IsForest ins (length nodes - 1) }
         requires queues { length queues.edges.items + 1 ≡ length nodes }
-        ensures nodes { (nodes_of result ≡ nodes) × (ins_of result ≡ ins) × (capacity_of result ≡ queues.capacity) }
+        ensures nodes { (nodes_of result ≡ nodes) × (ins_of result ≡ ins)
+            × (capacity_of result ≡ queues.capacity) }
         ensures new { IsNewNet W.Work result }
     {
         let NodeList { nodes } = nodes;
@@ -86,10 +89,12 @@ impl<W: Work> Net<W> {
     /// A turn of node `i`.
     pub fn step(&mut self, i: u32) -> Turned
         requires { i < length (nodes_of self.old) }
-        ensures step { (beyond : net.Node W.State Point StageFault) → net_of W.Work beyond self.new
-            ≡ net.step (net_of W.Work beyond self.old) (root_of self.old) (capacity_of self.old) i (choice_at W.Work self.old self.new i) }
-        ensures turned { (beyond : net.Node W.State Point StageFault) → turned result
-            ≡ (net.turn_at (net_of W.Work beyond self.old) (root_of self.old) (capacity_of self.old) i (choice_at W.Work self.old self.new i)).turned }
+        ensures step { (beyond : net.Node W.State Point StageFault)
+            → net_of W.Work beyond self.new ≡ net.step (net_of W.Work beyond self.old) (root_of self.old)
+            (capacity_of self.old) i (choice_at W.Work self.old self.new i) }
+        ensures turned { (beyond : net.Node W.State Point StageFault)
+            → turned result ≡ (net.turn_at (net_of W.Work beyond self.old) (root_of self.old)
+            (capacity_of self.old) i (choice_at W.Work self.old self.new i)).turned }
         ensures obeys { ObeysAt W.Work self.old self.new i }
         ensures shape { SameShape self.old self.new }
     {

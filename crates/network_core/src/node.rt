@@ -45,7 +45,8 @@ pub struct Node<W> {
 }
 
 impl<W: Work> Node<W> {
-    ghost use Rattle.std.specs.Prelude.{◌≡◌, ◌<◌, ◌≤◌, ◌+◌, ◌↔◌, ℕ, List, [], Bool, true, false, Some, None, Option, is_none, is_some, length};
+    ghost use Rattle.std.specs.Prelude.{◌≡◌, ◌<◌, ◌≤◌, ◌+◌, ◌↔◌, ℕ, List, [], Bool, true, false, Some, None};
+    ghost use Rattle.std.specs.Prelude.{Option, is_none, is_some, length};
     ghost use Rattle.cloud_points.specs.declared.point.Point.{Point};
     ghost use Rattle.cloud_points.specs.declared.faults.StageFault.{StageFault};
     ghost use Rattle.cloud_points.specs.Bodies.{bodies, numbers};
@@ -54,14 +55,17 @@ impl<W: Work> Node<W> {
     ghost use Rattle.network_theory.specs.Opening.{IsFresh};
     ghost use Rattle.network_theory.specs.History.{points_taken};
     ghost use Rattle.network_core.specs.Hands.{kind_item, seen_hand};
-    ghost use Rattle.network_core.specs.Shown.{shown, new_node, work_of, current_of, chosen, choice, made_choice, new_fault, left, turned};
+    ghost use Rattle.network_core.specs.Shown.{shown, new_node, work_of, current_of, chosen, choice};
+    ghost use Rattle.network_core.specs.Shown.{left, turned};
+    ghost use Rattle.network_core.specs.Table.{IsRow};
     ghost use Rattle.network_core.specs.Calm.{Calm, NoEvent, Told, Obeys};
     ghost use Rattle.network_core.specs.Holding.{KeepsHolding, HoldsMore};
     ghost use Rattle.network_core.specs.Ruled.{is_read};
-    ghost use Rattle.network_core.specs.Begun.{Begins, TouchesNone, IsStill, WillMake, made_by};
+    ghost use Rattle.network_core.specs.Begun.{Begins, TouchesNone, WillMake, made_by};
     ghost use Rattle.network_core.specs.Queues.{lent_items, room, room_left, left_items};
 
-    /// A new node, with no inputs exactly for a leaf. A leaf makes at most `chunk` points at once, from 1 to 64.
+    /// A new node, with no inputs exactly for a leaf. A leaf makes at most `chunk` points at once, from 1 to
+    /// 64.
     pub fn new(work: W, inputs: u32, chunk: usize) -> Node<W>
         requires leaf { (W.leaf work ≡ true) ↔ (inputs ≡ 0) }
         requires some { 0 < chunk }
@@ -145,8 +149,10 @@ impl<W: Work> Node<W> {
         ensures begins { Begins W.Work self.old self.new result }
         ensures alone { TouchesNone result }
         ensures calm { Calm W.Work self.old self.new }
-        ensures within { WillMake W.Work self.old → (ins : List ℕ) → net.IsWithin (made_by W.Work self.old self.new) (shown W.Work ins self.old) }
-        ensures part { NoEvent W.Work self.old self.new → Told W.Work self.old → WillMake W.Work self.old → (ins : List ℕ) → net.IsPart (made_by W.Work self.old self.new) (shown W.Work ins self.old) }
+        ensures within { WillMake W.Work self.old → (ins : List ℕ)
+            → net.IsWithin (made_by W.Work self.old self.new) (shown W.Work ins self.old) }
+        ensures part { NoEvent W.Work self.old self.new → Told W.Work self.old → WillMake W.Work self.old
+            → (ins : List ℕ) → net.IsPart (made_by W.Work self.old self.new) (shown W.Work ins self.old) }
         ensures told { NoEvent W.Work self.old self.new → Told W.Work self.old → Told W.Work self.new }
         ensures holds { KeepsHolding W.Work self.old self.new }
     {
@@ -186,10 +192,15 @@ impl<W: Work> Node<W> {
         requires undone { self.old.done ≡ false }
         ensures calm { Calm W.Work self.old self.new }
         ensures holds { KeepsHolding W.Work self.old self.new }
-        ensures within { (ins : List ℕ) → net.IsWithin (made_by W.Work self.old self.new) (shown W.Work ins self.old) }
-        ensures part { NoEvent W.Work self.old self.new → W.tells self.old.work ≡ true → self.old.fault ≡ None → (ins : List ℕ) → net.IsPart (made_by W.Work self.old self.new) (shown W.Work ins self.old) }
-        ensures tells { NoEvent W.Work self.old self.new → W.tells self.old.work ≡ true → net.holds_end (seen_hand self.new.hand self.new.spread.items) ≡ false → (W.tells self.new.work ≡ true) × (self.new.fault ≡ self.old.fault) }
-        ensures made { (ins : List ℕ) → shown W.Work ins self.new ≡ net.makes (made_by W.Work self.old self.new) (shown W.Work ins self.old) }
+        ensures within { (ins : List ℕ) → net.IsWithin (made_by W.Work self.old self.new)
+            (shown W.Work ins self.old) }
+        ensures part { NoEvent W.Work self.old self.new → W.tells self.old.work ≡ true → self.old.fault ≡ None
+            → (ins : List ℕ) → net.IsPart (made_by W.Work self.old self.new) (shown W.Work ins self.old) }
+        ensures tells { NoEvent W.Work self.old self.new → W.tells self.old.work ≡ true
+            → net.holds_end (seen_hand self.new.hand self.new.spread.items) ≡ false
+            → (W.tells self.new.work ≡ true) × (self.new.fault ≡ self.old.fault) }
+        ensures made { (ins : List ℕ) → shown W.Work ins self.new
+            ≡ net.makes (made_by W.Work self.old self.new) (shown W.Work ins self.old) }
     {
         match self.work.make(self.chunk, &mut self.spread) {
             Make::Points => {
@@ -205,21 +216,26 @@ impl<W: Work> Node<W> {
         }
     }
 
-    /// One turn, which does the first of these that applies. An item in the hand is given: the root lays it down,
-    /// another node puts it into `out`, or does nothing where that is full. A done node does nothing. An end that is
-    /// still to come goes into the hand. A leaf makes its next item. Any other node takes the first item of `input`,
-    /// or does nothing where there is none.
+    /// One turn, which does the first of these that applies. An item in the hand is given: the root lays it
+    /// down, another node puts it into `out`, or does nothing where that is full. A done node does nothing.
+    /// An end that is still to come goes into the hand. A leaf makes its next item. Any other node takes the
+    /// first item of `input`, or does nothing where there is none.
     ///
-    /// `input` is the queue of the current input, and None exactly where there is none. `out` is None exactly for the root.
+    /// `input` is the queue of the current input, and None exactly where there is none. `out` is None exactly
+    /// for the root.
     pub fn turn(&mut self, input: Option<&mut PlainQueue>, out: Option<&mut PlainQueue>) -> Turned
         requires { is_none input ≡ is_none (current_of (shown W.Work [] self.old)) }
-        ensures row { (ins : List ℕ) → left (shown W.Work ins self.new) (bodies (left_items input.exit)) (bodies (left_items out.exit)) result
-            ≡ net.turn (is_none out.entry) (room out.entry) (choice W.Work self.old self.new) (shown W.Work ins self.old) (bodies (lent_items input.entry)) (bodies (lent_items out.entry)) }
-        ensures above { numbers (left_items out.exit) ≡ net.numbers_above (is_none out.entry) (turned result) (numbers (lent_items out.entry)) (shown W.Work [] self.old).sent }
-        ensures left { numbers (left_items input.exit) ≡ net.numbers_left (turned result) (numbers (lent_items input.entry)) }
+        ensures row { IsRow W.Work (is_none out.entry) (room out.entry) self.old self.new result
+            (lent_items input.entry) (lent_items out.entry) (left_items input.exit) (left_items out.exit) }
+        ensures above { numbers (left_items out.exit)
+            ≡ net.numbers_above (is_none out.entry) (turned result) (numbers (lent_items out.entry))
+            (shown W.Work [] self.old).sent }
+        ensures left { numbers (left_items input.exit)
+            ≡ net.numbers_left (turned result) (numbers (lent_items input.entry)) }
         ensures rooms { (room_left input.exit ≡ room input.entry) × (room_left out.exit ≡ room out.entry) }
         ensures obeys { Obeys W.Work self.old self.new }
-        ensures holds { HoldsMore W.Work self.old self.new (points_taken (turned result) (bodies (lent_items input.entry))) }
+        ensures holds { HoldsMore W.Work self.old self.new
+            (points_taken (turned result) (bodies (lent_items input.entry))) }
     {
         let Some(out) = out else {
             let Some(input) = input else {
@@ -236,13 +252,15 @@ impl<W: Work> Node<W> {
     /// A turn of a node with an input and a parent.
     pub(crate) fn turn_inner(&mut self, input: &mut PlainQueue, out: &mut PlainQueue) -> Turned
         requires { self.old.ended < self.old.inputs }
-        ensures row { (ins : List ℕ) → left (shown W.Work ins self.new) (bodies input.new.items) (bodies out.new.items) result
-            ≡ net.turn false out.old.capacity (choice W.Work self.old self.new) (shown W.Work ins self.old) (bodies input.old.items) (bodies out.old.items) }
-        ensures above { numbers out.new.items ≡ net.numbers_above false (turned result) (numbers out.old.items) self.old.given }
+        ensures row { IsRow W.Work false out.old.capacity self.old self.new result
+            input.old.items out.old.items input.new.items out.new.items }
+        ensures above { numbers out.new.items
+            ≡ net.numbers_above false (turned result) (numbers out.old.items) self.old.given }
         ensures left { numbers input.new.items ≡ net.numbers_left (turned result) (numbers input.old.items) }
         ensures room { (input.new.capacity ≡ input.old.capacity) × (out.new.capacity ≡ out.old.capacity) }
         ensures obeys { Obeys W.Work self.old self.new }
-        ensures holds { HoldsMore W.Work self.old self.new (points_taken (turned result) (bodies input.old.items)) }
+        ensures holds { HoldsMore W.Work self.old self.new
+            (points_taken (turned result) (bodies input.old.items)) }
     {
         match self.begin() {
             Begun::Give(kind) => self.give_to(kind, out),
@@ -253,9 +271,10 @@ impl<W: Work> Node<W> {
 
     /// A turn of a node with a parent and no input to read.
     pub(crate) fn turn_leaf(&mut self, out: &mut PlainQueue) -> Turned
-        ensures row { (ins : List ℕ) → left (shown W.Work ins self.new) [] (bodies out.new.items) result
-            ≡ net.turn false out.old.capacity (choice W.Work self.old self.new) (shown W.Work ins self.old) [] (bodies out.old.items) }
-        ensures above { numbers out.new.items ≡ net.numbers_above false (turned result) (numbers out.old.items) self.old.given }
+        ensures row { IsRow W.Work false out.old.capacity self.old self.new result
+            [] out.old.items [] out.new.items }
+        ensures above { numbers out.new.items
+            ≡ net.numbers_above false (turned result) (numbers out.old.items) self.old.given }
         ensures left { net.numbers_left (turned result) [] ≡ [] }
         ensures room { out.new.capacity ≡ out.old.capacity }
         ensures obeys { Obeys W.Work self.old self.new }
@@ -271,13 +290,16 @@ impl<W: Work> Node<W> {
     /// A turn of a root with an input.
     pub(crate) fn turn_root(&mut self, input: &mut PlainQueue) -> Turned
         requires { self.old.ended < self.old.inputs }
-        ensures row { (ins : List ℕ) (cap : ℕ) (out : List (Item Point)) → left (shown W.Work ins self.new) (bodies input.new.items) out result
-            ≡ net.turn true cap (choice W.Work self.old self.new) (shown W.Work ins self.old) (bodies input.old.items) out }
+        ensures row { (ins : List ℕ) (cap : ℕ) (out : List (Item Point))
+            → left (shown W.Work ins self.new) (bodies input.new.items) out result
+            ≡ net.turn true cap (choice W.Work self.old self.new) (shown W.Work ins self.old)
+            (bodies input.old.items) out }
         ensures above { (ns : List ℕ) (number : ℕ) → net.numbers_above true (turned result) ns number ≡ ns }
         ensures left { numbers input.new.items ≡ net.numbers_left (turned result) (numbers input.old.items) }
         ensures room { input.new.capacity ≡ input.old.capacity }
         ensures obeys { Obeys W.Work self.old self.new }
-        ensures holds { HoldsMore W.Work self.old self.new (points_taken (turned result) (bodies input.old.items)) }
+        ensures holds { HoldsMore W.Work self.old self.new
+            (points_taken (turned result) (bodies input.old.items)) }
     {
         match self.begin() {
             Begun::Give(kind) => self.lay_down(kind),
@@ -288,7 +310,8 @@ impl<W: Work> Node<W> {
 
     /// A turn of a root with no input to read.
     pub(crate) fn turn_alone(&mut self) -> Turned
-        ensures row { (ins : List ℕ) (cap : ℕ) (out : List (Item Point)) → left (shown W.Work ins self.new) [] out result
+        ensures row { (ins : List ℕ) (cap : ℕ) (out : List (Item Point))
+            → left (shown W.Work ins self.new) [] out result
             ≡ net.turn true cap (choice W.Work self.old self.new) (shown W.Work ins self.old) [] out }
         ensures above { (ns : List ℕ) (number : ℕ) → net.numbers_above true (turned result) ns number ≡ ns }
         ensures left { net.numbers_left (turned result) [] ≡ [] }
@@ -305,8 +328,11 @@ impl<W: Work> Node<W> {
     /// The root lays down what is in the hand.
     fn lay_down(&mut self, kind: ItemKind) -> Turned
         requires { self.old.hand ≡ Some kind }
-        ensures row { (ins : List ℕ) (cap : ℕ) (input out : List (Item Point)) (ch : net.Choice W.State Point StageFault) → left (shown W.Work ins self.new) input out result
-            ≡ net.with_hand true cap ch (shown W.Work ins self.old) input out (Some (kind_item kind self.old.spread.items)) }
+        ensures row { (ins : List ℕ) (cap : ℕ) (input out : List (Item Point))
+            (ch : net.Choice W.State Point StageFault)
+            → left (shown W.Work ins self.new) input out result
+            ≡ net.with_hand true cap ch (shown W.Work ins self.old) input out
+            (Some (kind_item kind self.old.spread.items)) }
         ensures above { (ns : List ℕ) (number : ℕ) → net.numbers_above true (turned result) ns number ≡ ns }
         ensures reads { is_read result ≡ false }
         ensures left { (ns : List ℕ) → net.numbers_left (turned result) ns ≡ ns }
@@ -321,9 +347,12 @@ impl<W: Work> Node<W> {
     /// What is in the hand goes to the queue, where there is room.
     fn give_to(&mut self, kind: ItemKind, out: &mut PlainQueue) -> Turned
         requires { self.old.hand ≡ Some kind }
-        ensures row { (ins : List ℕ) (input : List (Item Point)) (ch : net.Choice W.State Point StageFault) → left (shown W.Work ins self.new) input (bodies out.new.items) result
-            ≡ net.with_hand false out.old.capacity ch (shown W.Work ins self.old) input (bodies out.old.items) (Some (kind_item kind self.old.spread.items)) }
-        ensures numbers { numbers out.new.items ≡ net.numbers_above false (turned result) (numbers out.old.items) self.old.given }
+        ensures row { (ins : List ℕ) (input : List (Item Point)) (ch : net.Choice W.State Point StageFault)
+            → left (shown W.Work ins self.new) input (bodies out.new.items) result
+            ≡ net.with_hand false out.old.capacity ch (shown W.Work ins self.old) input (bodies out.old.items)
+            (Some (kind_item kind self.old.spread.items)) }
+        ensures numbers { numbers out.new.items
+            ≡ net.numbers_above false (turned result) (numbers out.old.items) self.old.given }
         ensures calm { Calm W.Work self.old self.new }
         ensures told { Told W.Work self.old → Told W.Work self.new }
         ensures holds { KeepsHolding W.Work self.old self.new }
@@ -344,7 +373,8 @@ impl<W: Work> Node<W> {
     /// Counts what is given, which leaves the hand.
     fn count_up(&mut self, kind: ItemKind)
         requires { self.old.hand ≡ Some kind }
-        ensures given { (ins : List ℕ) → shown W.Work ins self.new ≡ net.given (shown W.Work ins self.old) (kind_item kind self.old.spread.items) }
+        ensures given { (ins : List ℕ) → shown W.Work ins self.new
+            ≡ net.given (shown W.Work ins self.old) (kind_item kind self.old.spread.items) }
         ensures calm { Calm W.Work self.old self.new }
         ensures told { Told W.Work self.old → Told W.Work self.new }
         ensures holds { KeepsHolding W.Work self.old self.new }
@@ -368,13 +398,18 @@ impl<W: Work> Node<W> {
         requires undone { self.old.done ≡ false }
         requires no_end { self.old.ending ≡ false }
         requires more { self.old.ended < self.old.inputs }
-        ensures row { (ins : List ℕ) (out : List (Item Point)) → left (shown W.Work ins self.new) (bodies input.new.items) out result
-            ≡ net.takes (chosen W.Work self.old self.new) (shown W.Work ins self.old) (bodies input.old.items) out }
-        ensures numbers { numbers input.new.items ≡ net.numbers_left (turned result) (numbers input.old.items) }
-        ensures above { (root : Bool) (ns : List ℕ) (number : ℕ) → net.numbers_above root (turned result) ns number ≡ ns }
+        ensures row { (ins : List ℕ) (out : List (Item Point))
+            → left (shown W.Work ins self.new) (bodies input.new.items) out result
+            ≡ net.takes (chosen W.Work self.old self.new) (shown W.Work ins self.old) (bodies input.old.items)
+            out }
+        ensures numbers { numbers input.new.items
+            ≡ net.numbers_left (turned result) (numbers input.old.items) }
+        ensures above { (root : Bool) (ns : List ℕ) (number : ℕ)
+            → net.numbers_above root (turned result) ns number ≡ ns }
         ensures capacity { input.new.capacity ≡ input.old.capacity }
         ensures calm { Calm W.Work self.old self.new }
-        ensures holds { HoldsMore W.Work self.old self.new (points_taken (turned result) (bodies input.old.items)) }
+        ensures holds { HoldsMore W.Work self.old self.new
+            (points_taken (turned result) (bodies input.old.items)) }
     {
         match input.pop_into(&mut self.spread) {
             None => Turned::Idle(Why::Empty),

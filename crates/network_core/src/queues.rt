@@ -17,7 +17,8 @@ pub struct Queues {
 }
 
 impl Queues {
-    /// So many queues with nothing on them, each of which has room for `capacity` items. Refuses where memory is wanting.
+    /// So many queues with nothing on them, each of which has room for `capacity` items. Refuses where memory
+    /// is wanting.
     pub fn new(alloc: Global, count: usize, capacity: usize) -> Result<Queues, AllocError>
         requires some { 0 < capacity }
         requires most { capacity ≤ 64 }

@@ -7,11 +7,16 @@ use Rattle.cloud_points.specs.Flows.{Flow, points}
 use Rattle.cloud_points.specs.Marks.{Mark, flow_marks}
 use Rattle.cloud_points.specs.Queue.{up_to_limit}
 use Rattle.network_theory.specs.Forest.{children}
+use Rattle.network_theory.specs.Opening.{IsFresh}
 use Rattle.network_theory.specs.Machine.{made_of, fault_on, state_after}
 use Rattle.network_theory.specs.Streaming.{input_of}
 use Rattle.network_core.specs.declared.node.Node.{Node}
 use Rattle.network_core.specs.Shown.{shown, work_of}
 use Rattle.network_core.specs.Calm.{Calm, NoEvent}
+
+-- nodes that had no turn yet, each with as many inputs as there are numbers of children for it
+abbrev pub AreFresh : {W S : Type 0} → Ghosts W S → List (List ℕ) → List (Node W) → Type 0
+AreFresh {W} g ins nodes = (k : ℕ) (n : Node W) → slice_get nodes k ≡ Some n → IsFresh (shown g (children ins k) n)
 
 -- what a work makes of a flow, its fault on that, and its state then
 abbrev pub makes_of : {W S : Type 0} → Ghosts W S → W → Flow Point → List (Mark Point)

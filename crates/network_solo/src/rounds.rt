@@ -1,25 +1,20 @@
 //! Rounds of turns.
 
-ghost use Rattle.std.specs.Prelude.{◌≡◌, ◌+◌, ◌≤◌};
-ghost use Rattle.cloud_points.specs.declared.point.Point.{Point};
-ghost use Rattle.cloud_points.specs.declared.faults.StageFault.{StageFault};
-ghost use Rattle.network_theory.specs.Due.{due};
-ghost use Rattle.network_theory.specs.Net as net_type;
-ghost use Rattle.network_core.specs.Nets.{net_of, root_of, ins_of, nodes_of, IsNewNet};
-ghost use Rattle.network_solo.specs.Runs.{HadCounted, IsRunToEnd, EndsInRest, below_of};
+ghost use Rattle.network_core.specs.Nets.{ins_of, nodes_of, IsNewNet};
+ghost use Rattle.network_solo.specs.Runs.{HadCounted, IsRunToEnd, IsWithinDue, EndsInRest};
 ghost use Rattle.network_solo.specs.Trees.{IsRanTree};
 
 use cloud_points::Work;
 use network_core::{Net, Steps};
 use std::sync::ledger::Ledger;
 
-/// Lets the nodes of a new net take turns, one after the other in the order of their numbers, until all are done.
+/// Lets the nodes of a new net take turns, one after the other in the order of their numbers, until all are
+/// done.
 pub(crate) fn take_rounds<W: Work, L: Ledger>(net: &mut Net<W>, steps: &mut Steps<L>)
     requires new { IsNewNet W.Work net.old }
     ensures done { IsRunToEnd W.Work net.new }
     ensures counted { HadCounted W.Work net.old net.new steps.old steps.new }
-    ensures bounded { (beyond : net_type.Node W.State Point StageFault)
-        → steps.new ≤ steps.old + due (net_of W.Work beyond net.old) (below_of net.old) (root_of net.old + 1) }
+    ensures bounded { IsWithinDue W.Work net.old steps.old steps.new }
     ensures ends { EndsInRest W.Work net.old net.new }
     ensures ran { IsRanTree W.Work (ins_of net.old) (nodes_of net.old) (nodes_of net.new) }
 {

@@ -21,13 +21,9 @@ impl<W> Model for Solo<W> {
 }
 
 impl<W: Work> Solo<W> {
-    ghost use Rattle.std.specs.Prelude.{◌≡◌, ◌+◌, ◌≤◌};
-    ghost use Rattle.cloud_points.specs.declared.point.Point.{Point};
-    ghost use Rattle.cloud_points.specs.declared.faults.StageFault.{StageFault};
-    ghost use Rattle.network_theory.specs.Due.{due};
-    ghost use Rattle.network_theory.specs.Net as net_type;
-    ghost use Rattle.network_core.specs.Nets.{net_of, root_of, ins_of, nodes_of, IsNewNet};
-    ghost use Rattle.network_solo.specs.Runs.{HadCounted, IsRunToEnd, EndsInRest, below_of};
+    ghost use Rattle.std.specs.Prelude.{◌≡◌};
+    ghost use Rattle.network_core.specs.Nets.{ins_of, nodes_of, IsNewNet};
+    ghost use Rattle.network_solo.specs.Runs.{HadCounted, IsRunToEnd, IsWithinDue, EndsInRest};
     ghost use Rattle.network_solo.specs.Trees.{IsRanTree};
 
     /// This net, to be run.
@@ -37,18 +33,18 @@ impl<W: Work> Solo<W> {
         Solo { net }
     }
 
-    /// Lets the nodes of a new net take turns until all are done. The turns that did work are counted in `steps`, and are at
-    /// most as many as are due at the start.
+    /// Lets the nodes of a new net take turns until all are done. The turns that did work are counted in
+    /// `steps`, and are at most as many as are due at the start.
     ///
-    /// Where no node met a device's fault, no memory was wanting and all leaves tell, each node ends as what was to come at
-    /// the start says: over flows of which each leaf tells one and each other node makes one of those of its children, it gave
-    /// on its flow, has the fault that its work has on what it took, and without a fault holds the points of that.
+    /// Where no node met a device's fault, no memory was wanting and all leaves tell, each node ends as what
+    /// was to come at the start says: over flows of which each leaf tells one and each other node makes one
+    /// of those of its children, it gave on its flow, has the fault that its work has on what it took, and
+    /// without a fault holds the points of that.
     pub fn run<L: Ledger>(&mut self, steps: &mut Steps<L>)
         requires new { IsNewNet W.Work self.old }
         ensures done { IsRunToEnd W.Work self.new }
         ensures counted { HadCounted W.Work self.old self.new steps.old steps.new }
-        ensures bounded { (beyond : net_type.Node W.State Point StageFault)
-            → steps.new ≤ steps.old + due (net_of W.Work beyond self.old) (below_of self.old) (root_of self.old + 1) }
+        ensures bounded { IsWithinDue W.Work self.old steps.old steps.new }
         ensures ends { EndsInRest W.Work self.old self.new }
         ensures ran { IsRanTree W.Work (ins_of self.old) (nodes_of self.old) (nodes_of self.new) }
     {

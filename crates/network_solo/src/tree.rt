@@ -1,13 +1,10 @@
 //! Trees of nodes that are run to their end.
 
-ghost use Rattle.std.specs.Prelude.{◌≡◌, ◌<◌, ◌+◌, ◌-◌, ◌^◌, ℕ, Some, length, slice_get};
-ghost use Rattle.network_theory.specs.Forest.{IsForest, children};
-ghost use Rattle.network_theory.specs.Opening.{IsFresh};
-ghost use Rattle.network_core.specs.declared.node.Node as node_type;
+ghost use Rattle.std.specs.Prelude.{◌≡◌, ◌<◌, ◌+◌, ◌-◌, ◌^◌, length};
+ghost use Rattle.network_theory.specs.Forest.{IsForest};
 ghost use Rattle.network_core.specs.Nets.{ins_of, nodes_of, capacity_of, IsNewNet};
-ghost use Rattle.network_core.specs.Shown.{shown};
 ghost use Rattle.network_solo.specs.Runs.{IsRanOver};
-ghost use Rattle.network_solo.specs.Trees.{IsRanTree};
+ghost use Rattle.network_solo.specs.Trees.{AreFresh, IsRanTree};
 
 use crate::solo::Solo;
 use cloud_points::Work;
@@ -30,13 +27,13 @@ fn ran<W: Work, L: Ledger>(net: Net<W>, blank: Blank) -> Net<W>
     solo.into_net()
 }
 
-/// Lets new nodes take turns until all are done, over these queues, one for each node but the root, and hands the nodes back.
-/// `ins` has the numbers of each node's children in the order of its inputs, and the last node is the root. It takes no memory.
+/// Lets new nodes take turns until all are done, over these queues, one for each node but the root, and hands
+/// the nodes back. `ins` has the numbers of each node's children in the order of its inputs, and the last
+/// node is the root. It takes no memory.
 pub fn run_tree<W: Work>(nodes: NodeList<W>, ins: InsList, queues: Queues) -> NodeList<W>
     requires some { 0 < length nodes }
     requires most { length nodes < 2 ^ 32 }
-    requires fresh { (k : ℕ) (n : node_type.Node W) → slice_get nodes k ≡ Some n
-        → IsFresh (shown W.Work (children ins k) n) }
+    requires fresh { AreFresh W.Work ins nodes }
     requires forest { IsForest ins (length nodes - 1) }
     requires queues { length queues.edges.items + 1 ≡ length nodes }
     ensures ran { IsRanTree W.Work ins nodes result }

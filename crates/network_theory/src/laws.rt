@@ -6,12 +6,15 @@ ghost use Rattle.cloud_points.specs.declared.faults.StageFault.{StageFault};
 ghost use Rattle.network_theory.specs.Depth.{depth};
 ghost use Rattle.network_theory.specs.Due.{IsBelow};
 ghost use Rattle.network_theory.specs.Forest.{IsForest, children};
-ghost use Rattle.network_theory.specs.Laws.{QueuesKeepOrder, RestStays, FlightIsBounded, SomeNodeMoves, DueFalls, OpeningOwes, SchedulesAgree, NetsStaySound, PointsComeInOrder, TurnsCarry, FlowsAreStreamed};
+ghost use Rattle.network_theory.specs.Laws.{QueuesKeepOrder, RestStays, FlightIsBounded, SomeNodeMoves};
+ghost use Rattle.network_theory.specs.Laws.{DueFalls, OpeningOwes, SchedulesAgree, NetsStaySound};
+ghost use Rattle.network_theory.specs.Laws.{PointsComeInOrder, TurnsCarry, FlowsAreStreamed};
 ghost use Rattle.network_theory.specs.Shape.{IsTree};
 
 use cloud_points::Work;
 
-/// Whatever the events, each edge keeps the rule of a queue, and a node is done exactly where it gave its End.
+/// Whatever the events, each edge keeps the rule of a queue, and a node is done exactly where it gave its
+/// End.
 pub fn queues_keep_order<W: Work>(_work: &W)
     ensures { QueuesKeepOrder W.State Point StageFault }
 {}
@@ -26,7 +29,8 @@ pub fn points_come_in_order<W: Work>(_work: &W)
     ensures { PointsComeInOrder W.State Point StageFault }
 {}
 
-/// Whatever the events, the points in flight are at most those of full queues of full chunks and one chunk a node.
+/// Whatever the events, the points in flight are at most those of full queues of full chunks and one chunk a
+/// node.
 pub fn flight_is_bounded<W: Work>(_work: &W)
     ensures { FlightIsBounded W.State Point StageFault }
 {}
@@ -61,8 +65,9 @@ pub fn turns_carry<W: Work>(_work: &W)
     ensures { TurnsCarry W.State Point StageFault }
 {}
 
-/// A net at its start whose leaves tell flows, and whose other nodes each make one of the flows of their children, joined in
-/// the order of the inputs, gives these flows, and each node has the fault that its work has on what it takes.
+/// A net at its start whose leaves tell flows, and whose other nodes each make one of the flows of their
+/// children, joined in the order of the inputs, gives these flows, and each node has the fault that its work
+/// has on what it takes.
 pub fn flows_are_streamed<W: Work>(_work: &W)
     ensures { FlowsAreStreamed W.State Point StageFault }
 {}
@@ -74,5 +79,6 @@ pub fn forests_are_trees()
 
 /// Each node of a tree has a depth.
 pub fn trees_have_depths()
-    ensures { (ins : ℕ → List ℕ) (root : ℕ) (tree : IsTree ins root) → IsBelow ins root (depth tree.parent root root) }
+    ensures { (ins : ℕ → List ℕ) (root : ℕ) (tree : IsTree ins root)
+        → IsBelow ins root (depth tree.parent root root) }
 {}

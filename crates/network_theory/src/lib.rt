@@ -1,4 +1,5 @@
-//! The theory of nets of nodes that take turns: what a turn does, what is still to come, and the laws of every schedule.
+//! The theory of nets of nodes that take turns: what a turn does, what is still to come, and the laws of
+//! every schedule.
 #![tactic(auto)]
 
 mod laws;

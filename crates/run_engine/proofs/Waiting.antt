@@ -1,5 +1,5 @@
 -- Runs that wait for an engine.
-use Rattle.std.proofs.Common.{◌≡◌, List, Result, Ok, Err, OnErr, sym, subst}
+use Rattle.std.proofs.Common.{◌≡◌, ℕ, List, Result, Ok, Err, OnErr, sym, subst}
 use Rattle.file_devices.specs.declared.devices.Source as source
 use Rattle.file_devices.specs.declared.devices.Sink as sink
 use Rattle.run_outcome.specs.declared.ended.Ended.{Ended}
@@ -10,18 +10,18 @@ use Rattle.run_engine.specs.declared.job.Step.TheVariants.{Turns, Done, Short}
 use Rattle.run_engine.specs.declared.room.TurnRoom.{TurnRoom}
 use Rattle.run_engine.specs.Jobs.{IsTurnRoom, IsWaiting}
 
-module _ {S K : Type 0} (s : source.Ghosts S) (k : sink.Ghosts K) (stages : List StageSpec) where
+module _ {S K E : Type 0} (s : source.Ghosts S) (k : sink.Ghosts K) (fits : ℕ → ℕ → E → Type 0) (stages : List StageSpec) where
   -- where they wait for turns it is in memory of the shape that this says
-  pub turns-room : (chosen : Engine) (room : TurnRoom S K) → IsWaiting s k chosen stages (Turns room) → IsTurnRoom s k room.shape stages room
-  turns-room (engine.Queues shape) room waits = subst (λ x. IsTurnRoom s k x stages room) (sym waits.cut) waits
+  pub turns-room : (chosen : Engine) (room : TurnRoom S K E) → IsWaiting s k fits chosen stages (Turns room) → IsTurnRoom s k fits room.shape stages room
+  turns-room (engine.Queues shape) room waits = subst (λ x. IsTurnRoom s k fits x stages room) (sym waits.cut) waits
   turns-room engine.Whole room waits = absurd waits
 
   -- those that came to their end don't wait
-  pub not-done : (chosen : Engine) (ended : Ended) → IsWaiting s k chosen stages (Done ended) → ⊥
+  pub not-done : (chosen : Engine) (ended : Ended) → IsWaiting s k fits chosen stages (Done ended) → ⊥
   not-done (engine.Queues shape) ended waits = waits
   not-done engine.Whole ended waits = waits
 
-  pub not-short : (chosen : Engine) → IsWaiting s k chosen stages Short → ⊥
+  pub not-short : (chosen : Engine) → IsWaiting s k fits chosen stages Short → ⊥
   not-short (engine.Queues shape) waits = waits
   not-short engine.Whole waits = waits
 

@@ -36,6 +36,6 @@ pub record FailedLast {S K : Type 0} (rose : Type 0) (found : List (Option Stage
   pub ends : EndsBy work o
 
 -- so the device of stage i is named for this
-abbrev pub IsBlamed : {S K : Type 0} → (StageWork S K → ℕ) → Type 0 → List (StageWork S K) → Step S K → ℕ → Op → Type 0
+abbrev pub IsBlamed : {S K E : Type 0} → (StageWork S K → ℕ) → Type 0 → List (StageWork S K) → Step S K E → ℕ → Op → Type 0
 IsBlamed faults rose works (Done ended) i o = FailedFirst faults ended.faults.items works i o ⊎ FailedLast rose ended.faults.items works i o
 IsBlamed faults rose works step i o = ⊥

@@ -1,5 +1,5 @@
 -- A run between its steps.
-use Rattle.std.specs.Prelude.{◌≡◌, ◌≤◌, [], List, length, vec_capacity, Option, Some, ⊤}
+use Rattle.std.specs.Prelude.{◌≡◌, ◌≤◌, ℕ, [], List, length, vec_capacity, Option, Some, ⊤}
 use Rattle.file_devices.specs.Named.{Names}
 use Rattle.file_devices.specs.declared.devices.Source as source
 use Rattle.file_devices.specs.declared.devices.Sink as sink
@@ -22,24 +22,25 @@ use Rattle.set_engine.specs.Evaluated.{HaveEnded}
 use Rattle.run_opening.specs.Ready.{AreReady}
 
 -- a run whose stages wait to take turns
-abbrev pub TakesTurns : {S K : Type 0} → Step S K → Type 0
+abbrev pub TakesTurns : {S K E : Type 0} → Step S K E → Type 0
 TakesTurns (Turns room) = ⊤
 TakesTurns _ = ⊥
 
 -- a run for which memory was wanting
-abbrev pub IsShort : {S K : Type 0} → Step S K → Type 0
+abbrev pub IsShort : {S K E : Type 0} → Step S K E → Type 0
 IsShort Short = ⊤
 IsShort _ = ⊥
 
 -- a run whose stages came to this refusal
-abbrev pub CameTo : {S K : Type 0} → Refusal → Step S K → Type 0
+abbrev pub CameTo : {S K E : Type 0} → Refusal → Step S K E → Type 0
 CameTo refusal (Done ended) = refusal_for ended.faults.items ≡ Some refusal
 CameTo refusal Short = refusal ≡ Memory
 CameTo refusal _ = ⊥
 
-module _ {S K : Type 0} (s : source.Ghosts S) (k : sink.Ghosts K) where
+-- what fits so many nodes, over queues of this capacity
+module _ {S K E : Type 0} (s : source.Ghosts S) (k : sink.Ghosts K) (fits : ℕ → ℕ → E → Type 0) where
   -- the memory for the turns of these stages, in pieces of this shape
-  pub record IsTurnRoom (shape : Shape) (stages : List StageSpec) (room : TurnRoom S K) : Type 0 where
+  pub record IsTurnRoom (shape : Shape) (stages : List StageSpec) (room : TurnRoom S K E) : Type 0 where
     pub cut : room.shape ≡ shape
     pub chunk : room.stages.sizes.chunk ≡ shape.chunk
     pub queue : room.stages.sizes.queue ≡ shape.queue
@@ -47,27 +48,28 @@ module _ {S K : Type 0} (s : source.Ghosts S) (k : sink.Ghosts K) where
     pub nodes_room : length stages ≤ vec_capacity room.nodes
     pub works_empty : room.works.items ≡ []
     pub works_room : length stages ≤ vec_capacity room.works
-    pub parts : IsStageRoom s k stages room.stages
+    pub parts : IsStageRoom s k fits stages room.stages
 
   -- stages that wait for this engine: to take turns in memory of its shape, or to be evaluated whole
-  abbrev pub IsWaiting : Engine → List StageSpec → Step S K → Type 0
+  abbrev pub IsWaiting : Engine → List StageSpec → Step S K E → Type 0
   IsWaiting (Queues shape) stages (Turns room) = IsTurnRoom shape stages room
   IsWaiting Whole_views stages Whole = ⊤
   IsWaiting engine stages step = ⊥
 
   -- a run that is prepared for this engine
-  pub record IsReady (engine : Engine) (map : Option Names) (stages : List StageSpec) (job : Job S K) : Type 0 where
+  pub record IsReady (engine : Engine) (map : Option Names) (stages : List StageSpec) (job : Job S K E) : Type 0 where
     pub works : AreReady s k map stages job.works.items
     pub waits : IsWaiting engine stages job.step
 
+module _ {S K E : Type 0} (s : source.Ghosts S) (k : sink.Ghosts K) where
   -- what the stages came to, if memory wasn't wanting
-  abbrev pub HaveCome : List StageSpec → List (StageWork S K) → List (StageWork S K) → Step S K → Type 0
+  abbrev pub HaveCome : List StageSpec → List (StageWork S K) → List (StageWork S K) → Step S K E → Type 0
   HaveCome stages old new (Done ended) = HaveEnded s k stages old new ended.faults.items ended.report.items
   HaveCome stages old new Short = ⊤
   HaveCome stages old new _ = ⊥
 
   -- a run that was prepared over these files, and whose stages had their turns
-  pub record HasRun (map : Option Names) (stages : List StageSpec) (job : Job S K) : Type 0 where
+  pub record HasRun (map : Option Names) (stages : List StageSpec) (job : Job S K E) : Type 0 where
     pub before : List (StageWork S K)
     pub ready : AreReady s k map stages before
     pub later : AreLater (faults_of s.faults k.faults) before job.works.items

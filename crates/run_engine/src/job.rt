@@ -26,6 +26,7 @@ use crate::turns::turn_works;
 use crate::whole::whole_works;
 use file_devices::{FileSink, Files, Source};
 use held_devices::release_works;
+use network_solo::Scheduler;
 use run_ending::{Ran, finish, keep_works};
 use run_outcome::{Ended, outcome};
 use run_report::{Refusal, Report};
@@ -34,16 +35,17 @@ use stage_options::StageSpec;
 use std::alloc::{AllocError, Global};
 use std::mem::replace;
 
-/// The run of a tree's stages: their files are open, and they wait for their turns or have come to their end.
-pub struct Job<S, K: FileSink> {
+/// The run of a tree's stages: their files are open, and they wait for their turns, over the edges of a scheduler, or have come to
+/// their end.
+pub struct Job<S, K: FileSink, E> {
     pub(crate) works: Vec<StageWork<S, K>>,
-    pub(crate) step: Step<S, K>,
+    pub(crate) step: Step<S, K, E>,
 }
 
 /// How far a run is.
-pub(crate) enum Step<S, K: FileSink> {
+pub(crate) enum Step<S, K: FileSink, E> {
     /// The stages wait to take turns, in this memory.
-    Turns(TurnRoom<S, K>),
+    Turns(TurnRoom<S, K, E>),
 
     /// They wait to be evaluated, each on all points that it takes.
     Whole,
@@ -56,41 +58,50 @@ pub(crate) enum Step<S, K: FileSink> {
 }
 
 /// Evaluates stages that wait for it, as they wait. It answers what each stage gave on and its fault. Refuses where memory is wanting.
-fn evaluate<S: Source, K: FileSink>(
+fn evaluate<S: Source, K: FileSink, T: Scheduler<StageWork<S, K>>>(
     alloc: Global,
+    scheduler: &T,
     works: Vec<StageWork<S, K>>,
     stages: &[StageSpec],
-    step: Step<S, K>,
+    step: Step<S, K, T::Edges>,
 ) -> Ran<S, K, Result<Ended, AllocError>>
+    requires sound { T.sound scheduler.now }
     requires tree { IsTree (shapes stages.now) }
     requires own { HaveOwnOptions stages.now }
     requires few { length stages.now ≤ 64 }
     requires starts { AreAtStart K.bytes stages.now works.items }
     requires count { length works.items ≡ length stages.now }
-    requires waits { (engine : Chosen) × IsWaiting S.Source K.Sink engine stages.now step }
+    requires waits { (engine : Chosen) × IsWaiting S.Source K.Sink T.fits engine stages.now step }
     ensures later { AreLater (faults_of S.faults K.faults) works.items result.works.items }
     ensures ended { IfOk result.outcome (λ ended. HaveEnded S.Source K.Sink stages.now works.items
         result.works.items ended.faults.items ended.report.items) }
     ensures gathers { OnErr result.outcome (TakesTurns step → SomeGathers stages.now) }
 {
     match step {
-        Step::Turns(room) => turn_works(alloc, works, stages, room),
+        Step::Turns(room) => turn_works(alloc, scheduler, works, stages, room),
         Step::Whole => whole_works(alloc, works, stages),
         Step::Done(_) => unreachable!(),
         Step::Short => unreachable!(),
     }
 }
 
-impl<S: Source, K: FileSink> Job<S, K> {
-    /// Lets the points go through the stages, on the thread of the caller. Each stage comes to its end, and what that is `close` tells.
-    /// Refuses only where memory is wanting; where the stages take turns, and none needs whole views, all memory is there already.
-    pub fn run_solo(&mut self, alloc: Global, stages: &[StageSpec]) -> Result<(), AllocError>
+impl<S: Source, K: FileSink, E> Job<S, K, E> {
+    /// Lets the points go through the stages, as the scheduler has it that it was prepared for: on the thread of the caller, or on
+    /// several. Each stage comes to its end, and what that is `close` tells. Refuses only where memory is wanting; where the stages take
+    /// turns, and none needs whole views, all memory is there already.
+    pub fn run<T: Scheduler<StageWork<S, K>, Edges = E>>(
+        &mut self,
+        alloc: Global,
+        scheduler: &T,
+        stages: &[StageSpec],
+    ) -> Result<(), AllocError>
+        requires sound { T.sound scheduler.now }
         requires tree { IsTree (shapes stages.now) }
         requires own { HaveOwnOptions stages.now }
         requires ready { (engine : Chosen) × (map : Option Names)
-            × IsReady S.Source K.Sink engine map stages.now self.old }
+            × IsReady S.Source K.Sink T.fits engine map stages.now self.old }
         ensures ran { (engine : Chosen) (map : Option Names)
-            → IsReady S.Source K.Sink engine map stages.now self.old
+            → IsReady S.Source K.Sink T.fits engine map stages.now self.old
             → HasRun S.Source K.Sink map stages.now self.new }
         ensures held { all_held self.new.works.items ≡ all_held self.old.works.items }
         ensures enough { OnOk result (IsShort self.new.step → ⊥) }
@@ -99,7 +110,7 @@ impl<S: Source, K: FileSink> Job<S, K> {
     {
         let works = replace(&mut self.works, Vec::new(alloc));
         let step = replace(&mut self.step, Step::Short);
-        let Ran { works, outcome } = evaluate(alloc, works, stages, step);
+        let Ran { works, outcome } = evaluate(alloc, scheduler, works, stages, step);
         let blank = replace(&mut self.works, works);
         blank.destroy_empty();
         let ended = outcome?;

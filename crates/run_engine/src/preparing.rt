@@ -13,41 +13,45 @@ use crate::job::{Job, Step};
 use crate::room::TurnRoom;
 use file_devices::{FileSink, Files, Source};
 use held_devices::release_works;
+use network_solo::Scheduler;
 use run_opening::ready_works;
 use run_report::Refusal;
+use stage_kinds::StageWork;
 use stage_options::StageSpec;
 use std::alloc::{AllocError, Global};
 
 /// How stages wait for an engine. Refuses where memory is wanting.
-fn waiting<S: Source, K: FileSink>(
+fn waiting<S: Source, K: FileSink, T: Scheduler<StageWork<S, K>>>(
     alloc: Global,
+    scheduler: &T,
     stages: &[StageSpec],
     engine: Engine,
-) -> Result<Step<S, K>, AllocError>
+) -> Result<Step<S, K, T::Edges>, AllocError>
     requires tree { IsTree (shapes stages.now) }
-    ensures { IfOk result (IsWaiting S.Source K.Sink engine stages.now) }
+    ensures { IfOk result (IsWaiting S.Source K.Sink T.fits engine stages.now) }
 {
     match engine {
-        Engine::Queues(shape) => Ok(Step::Turns(TurnRoom::new(alloc, stages, shape)?)),
+        Engine::Queues(shape) => Ok(Step::Turns(TurnRoom::new(alloc, scheduler, stages, shape)?)),
         Engine::Whole => Ok(Step::Whole),
     }
 }
 
-/// Prepares the run of a tree's stages by an engine: opens the readers' files, binds the names of dimensions, and creates the files
+/// Prepares the run of a tree's stages by an engine and a scheduler: opens the readers' files, binds the names of dimensions, and creates the files
 /// of the writers, each in the order of the stages; then takes the memory of their turns, which is all that they take unless a stage
 /// needs whole views or the stages are evaluated whole.
 ///
 /// `Pipeline` comes only where a name in the options of a stage isn't bound, `Data` only where the files have that fault, `Device`
 /// only where the device failed or the file to read isn't there, `Memory` where there was none. Then every object that was handed
 /// out is given back. The files are as before.
-pub fn prepare<F: Files>(
+pub fn prepare<F: Files, T: Scheduler<StageWork<F::In, F::Out>>>(
     alloc: Global,
     files: &mut F,
     stages: &[StageSpec],
     engine: Engine,
-) -> Result<Job<F::In, F::Out>, Refusal>
+    scheduler: &T,
+) -> Result<Job<F::In, F::Out, T::Edges>, Refusal>
     requires tree { IsTree (shapes stages.now) }
-    ensures ready { IfOk result (IsReady F.In.Source F.Out.Sink engine (F.map files.old) stages.now) }
+    ensures ready { IfOk result (IsReady F.In.Source F.Out.Sink T.fits engine (F.map files.old) stages.now) }
     ensures err { IfErr result (IsCause (Rose (F.faults files.old) (F.faults files.new))
         (F.map files.old) stages.now) }
     ensures early { IfErr result IsEarly }
@@ -57,7 +61,7 @@ pub fn prepare<F: Files>(
     ensures later { F.faults files.old ≤ F.faults files.new }
 {
     let works = ready_works(alloc, files, stages)?;
-    match waiting(alloc, stages, engine) {
+    match waiting(alloc, scheduler, stages, engine) {
         Ok(step) => Ok(Job { works, step }),
         Err(_) => {
             release_works(files, works);

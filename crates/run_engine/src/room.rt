@@ -8,13 +8,14 @@ ghost use Rattle.run_engine.specs.Jobs.{IsTurnRoom};
 use crate::shape::Shape;
 use file_devices::{FileSink, Source};
 use network_core::Node;
+use network_solo::Scheduler;
 use stage_kinds::StageWork;
 use stage_options::StageSpec;
 use stage_runs::StageRoom;
 use std::alloc::{AllocError, Global};
 
 /// The memory in which the stages of a run take turns, in pieces of this shape.
-pub(crate) struct TurnRoom<S, K: FileSink> {
+pub(crate) struct TurnRoom<S, K: FileSink, E> {
     pub(crate) shape: Shape,
 
     /// Room for the nodes of the stages, and for the works that they leave.
@@ -22,25 +23,26 @@ pub(crate) struct TurnRoom<S, K: FileSink> {
     pub(crate) works: Vec<StageWork<S, K>>,
 
     /// The memory of the nets that the nodes form.
-    pub(crate) stages: StageRoom<S, K>,
+    pub(crate) stages: StageRoom<S, K, E>,
 }
 
-impl<S: Source, K: FileSink> TurnRoom<S, K> {
+impl<S: Source, K: FileSink, E> TurnRoom<S, K, E> {
     /// The memory for the turns of these stages. Refuses where memory is wanting.
-    pub(crate) fn new(
+    pub(crate) fn new<T: Scheduler<StageWork<S, K>, Edges = E>>(
         alloc: Global,
+        scheduler: &T,
         stages: &[StageSpec],
         shape: Shape,
-    ) -> Result<TurnRoom<S, K>, AllocError>
+    ) -> Result<TurnRoom<S, K, E>, AllocError>
         requires tree { IsTree (shapes stages.now) }
-        ensures { IfOk result (IsTurnRoom S.Source K.Sink shape stages.now) }
+        ensures { IfOk result (IsTurnRoom S.Source K.Sink T.fits shape stages.now) }
     {
         let nodes = Vec::with_capacity(alloc, stages.len())?;
         let Ok(works) = Vec::with_capacity(alloc, stages.len()) else {
             nodes.destroy_empty();
             return Err(AllocError);
         };
-        match StageRoom::new(alloc, stages, shape.chunk(), shape.queue()) {
+        match StageRoom::new(alloc, scheduler, stages, shape.chunk(), shape.queue()) {
             Ok(room) => Ok(TurnRoom {
                 shape,
                 nodes,

@@ -12,7 +12,9 @@ ghost use Rattle.run_outcome.specs.Cause.{IsCause, IsRun, IsLeft};
 use crate::engine::Engine;
 use crate::preparing::prepare;
 use file_devices::Files;
+use network_solo::Scheduler;
 use run_report::{Refusal, Report};
+use stage_kinds::StageWork;
 use stage_options::StageSpec;
 use std::alloc::Global;
 
@@ -24,12 +26,14 @@ use std::alloc::Global;
 /// only where the device failed or the file to read isn't there, `Memory` where there was none. After a refusal the files are as
 /// before; only where the keeping of a file failed or found no memory are those of the writers before it kept, and that one may be.
 /// Files that don't tell what they have don't tell it after the run.
-pub fn run_pipeline<F: Files>(
+pub fn run_pipeline<F: Files, T: Scheduler<StageWork<F::In, F::Out>>>(
     alloc: Global,
     files: &mut F,
     stages: &[StageSpec],
     engine: Engine,
+    scheduler: &T,
 ) -> Result<Report, Refusal>
+    requires sound { T.sound scheduler.now }
     requires tree { IsTree (shapes stages.now) }
     requires own { HaveOwnOptions stages.now }
     ensures ok { IfOk result (λ report. (m : Names) → F.map files.old ≡ Some m
@@ -42,7 +46,7 @@ pub fn run_pipeline<F: Files>(
     ensures lent { F.lent files.new ≡ F.lent files.old }
     ensures later { F.faults files.old ≤ F.faults files.new }
 {
-    let mut job = prepare(alloc, files, stages, engine)?;
-    let _enough = job.run_solo(alloc, stages);
+    let mut job = prepare(alloc, files, stages, engine, scheduler)?;
+    let _enough = job.run(alloc, scheduler, stages);
     job.close(files, stages)
 }

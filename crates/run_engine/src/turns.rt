@@ -15,6 +15,7 @@ use crate::counting::ended;
 use crate::nodes::{nodes_over, works_in};
 use crate::room::TurnRoom;
 use file_devices::{FileSink, Source};
+use network_solo::Scheduler;
 use run_ending::Ran;
 use run_outcome::Ended;
 use stage_kinds::StageWork;
@@ -22,20 +23,22 @@ use stage_options::StageSpec;
 use stage_runs::run_stages;
 use std::alloc::{AllocError, Global};
 
-/// Lets the stages of a tree take turns until all are done, part by part, in their memory. It answers what each stage gave on and its
+/// Lets the stages of a tree take turns until all are done, part by part, in their memory, as the scheduler has it. It answers what each stage gave on and its
 /// fault. Refuses only where a stage needs whole views and memory is wanting.
-pub(crate) fn turn_works<S: Source, K: FileSink>(
+pub(crate) fn turn_works<S: Source, K: FileSink, T: Scheduler<StageWork<S, K>>>(
     alloc: Global,
+    scheduler: &T,
     works: Vec<StageWork<S, K>>,
     stages: &[StageSpec],
-    room: TurnRoom<S, K>,
+    room: TurnRoom<S, K, T::Edges>,
 ) -> Ran<S, K, Result<Ended, AllocError>>
+    requires sound { T.sound scheduler.now }
     requires tree { IsTree (shapes stages.now) }
     requires own { HaveOwnOptions stages.now }
     requires few { length stages.now ≤ 64 }
     requires starts { AreAtStart K.bytes stages.now works.items }
     requires count { length works.items ≡ length stages.now }
-    requires room { IsTurnRoom S.Source K.Sink room.shape stages.now room }
+    requires room { IsTurnRoom S.Source K.Sink T.fits room.shape stages.now room }
     ensures later { AreLater (faults_of S.faults K.faults) works.items result.works.items }
     ensures ended { IfOk result.outcome (λ ended. HaveEnded S.Source K.Sink stages.now works.items
         result.works.items ended.faults.items ended.report.items) }
@@ -48,7 +51,7 @@ pub(crate) fn turn_works<S: Source, K: FileSink>(
         stages: room,
     } = room;
     let mut nodes = nodes_over(works, stages, shape.chunk(), nodes);
-    let ran = run_stages(alloc, nodes.as_mut_slice(), stages, room);
+    let ran = run_stages(alloc, scheduler, nodes.as_mut_slice(), stages, room);
     let outcome = match ran {
         Ok(()) => Ok(ended(stages, &nodes)),
         Err(error) => Err(error),

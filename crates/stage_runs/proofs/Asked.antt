@@ -23,7 +23,7 @@ use Rattle.stage_parts.specs.Parts.{AreHomes, home_at, is_of, strangers, part_in
 use Rattle.stage_parts.proofs.Trees.{at_root, at_inner, at_gathering}
 use Rattle.answer_model.specs.Values.{IsDown, role_at, stage_at}
 use Rattle.stage_runs.specs.Works.{as_works, ins_of, AreNewStages}
-use Rattle.stage_runs.specs.Parts.{gathers_of, IsNewLeaf, IsPartRun, AreRunBefore}
+use Rattle.stage_runs.specs.Parts.{gathers_of, IsNewLeaf, IsPartRun, AreRunBefore, Besides}
 use Rattle.stage_forms.specs.Starts.{IsCollecting}
 use Rattle.stage_forms.proofs.AtStart.{somehow}
 use Rattle.stage_runs.proofs.Forests.{children-are}
@@ -53,7 +53,7 @@ keeps-collecting c (Writer v) e = true≢false (sym (ap (λ m. (m.at_view (state
 
 module _ {S K : Type 0} (s : source.Ghosts S) (k : sink.Ghosts K) (stages : List StageSpec) (old : List (Node (StageWork S K))) (new : AreNewStages s k stages old) (down : IsDown stages)
     (forest : IsForest (ins_of stages) (length (ins_of stages) - 1)) (size : length (ins_of stages) ≡ length stages)
-    (homes : List ℕ) (are : AreHomes (gathers_of stages) (ins_of stages) homes) (queue : ℕ) where
+    (homes : List ℕ) (are : AreHomes (gathers_of stages) (ins_of stages) homes) (besides : Besides S K) where
   -- a stage that gathers begins as a collector
   collects-first : (i : ℕ) (n : Node (StageWork S K)) → slice_get old i ≡ Some n → is_gathering (role_at stages i) ≡ true → (c : Collecting) × (n.work ≡ Collector c)
   collects-first i n e g =
@@ -72,12 +72,12 @@ module _ {S K : Type 0} (s : source.Ghosts S) (k : sink.Ghosts K) (stages : List
       where
         by_role : (b : Bool) → is_gathering (role_at stages i) ≡ b → IsFresh (shown (as_works s k) (children part i) n)
         by_role true g = subst (λ xs. IsFresh (shown (as_works s k) xs n)) (sym (at_gathering (gathers_of stages) (ins_of stages) homes home root i l (gathers-are stages i ∙ g)))
-            (held-here s k stages old new down forest size homes are queue home root is_root now count inside below done i n l h g e).fresh
+            (held-here s k stages old new down forest size homes are besides home root is_root now count inside below done i n l h g e).fresh
         by_role false g = subst (λ xs. IsFresh (shown (as_works s k) xs n)) (sym (at_inner (gathers_of stages) (ins_of stages) homes home root i l h (gathers-are stages i ∙ g) ∙ children-are stages i))
-            (new.fresh i n (waits s k stages old new down forest size homes are queue home root is_root now count inside below done i n l h g e))
+            (new.fresh i n (waits s k stages old new down forest size homes are besides home root is_root now count inside below done i n l h g e))
 
     root-old : (n : Node (StageWork S K)) → slice_get now root ≡ Some n → slice_get old root ≡ Some n
-    root-old n e = root-waits s k stages old new down forest size homes are queue home root is_root now count inside below done n e
+    root-old n e = root-waits s k stages old new down forest size homes are besides home root is_root now count inside below done n e
 
     -- a last stage without inputs is alone
     alone : root + 1 ≡ length stages → (stage_at stages root).ins ≡ [] → root ≡ 0
@@ -123,10 +123,10 @@ module _ {S K : Type 0} (s : source.Ghosts S) (k : sink.Ghosts K) (stages : List
             by_leaf false l = let some = fresh.inner l in let many = fresh.inputs in let none = ins-none in absurd (omega (arith, some, many, none))
 
     -- a root that gathers is still a collector when its part was run
-    pub root-collects : (after : List (Node (StageWork S K))) → IsPartRun s k queue part homes home root now after → is_gathering (role_at stages root) ≡ true
+    pub root-collects : (after : List (Node (StageWork S K))) → IsPartRun s k besides part homes home root now after → is_gathering (role_at stages root) ≡ true
         → (m : Node (StageWork S K)) → slice_get after root ≡ Some m → IsCollecting m.work
     root-collects after run g m e =
-        let ended = sym (at-root s k stages old new down forest size homes are queue home root is_root now count inside below done after run) ∙ e in
+        let ended = sym (at-root s k stages old new down forest size homes are besides home root is_root now count inside below done after run) ∙ e in
         let n = some_at run.net root (let a = slice_get_within run.ended root m ended in let b = run.ran.count in omega (arith, a, b)) in
         let o = some_at now root (omega (arith, inside, count)) in
         let c = collects-first root o.0 (root-old o.0 o.1) g in

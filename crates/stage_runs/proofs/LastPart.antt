@@ -27,19 +27,19 @@ use Rattle.stage_parts.proofs.Tops.{near, near_root, homes-above}
 use Rattle.answer_model.specs.Values.{IsDown, role_at, stage_value}
 use Rattle.stage_runs.specs.Works.{as_works, ins_of, AreNewStages}
 use Rattle.stage_runs.specs.Ran.{EndsAsStage, AreRanStages}
-use Rattle.stage_runs.specs.Parts.{gathers_of, IsNewLeaf, Gives, IsPartRun, IsLeafRun, is_past, NoneFailedBefore, AreRunBefore}
+use Rattle.stage_runs.specs.Parts.{gathers_of, IsNewLeaf, Gives, IsPartRun, IsLeafRun, is_past, NoneFailedBefore, AreRunBefore, Besides}
 use Rattle.stage_runs.proofs.Part.{IsRoot, gathers-are, same-number}
 use Rattle.stage_runs.proofs.Ran.{held-ends}
 use Rattle.stage_runs.proofs.Steps.{lt-true, lt-false, true-lt, stays, home-end, root-end}
 
 module _ {S K : Type 0} (s : source.Ghosts S) (k : sink.Ghosts K) (stages : List StageSpec) (old : List (Node (StageWork S K))) (new : AreNewStages s k stages old) (down : IsDown stages)
     (forest : IsForest (ins_of stages) (length (ins_of stages) - 1)) (size : length (ins_of stages) ≡ length stages)
-    (homes : List ℕ) (are : AreHomes (gathers_of stages) (ins_of stages) homes) (queue : ℕ) where
+    (homes : List ℕ) (are : AreHomes (gathers_of stages) (ins_of stages) homes) (besides : Besides S K) where
   abbrev Done : ℕ → List (Node (StageWork S K)) → Type 0
   Done done now = AreRunBefore s k stages homes old done now
 
   abbrev Part : ℕ → ℕ → List (Node (StageWork S K)) → List (Node (StageWork S K)) → Type 0
-  Part home root now after = IsPartRun s k queue (part_ins (gathers_of stages) (ins_of stages) homes home root) homes home root now after
+  Part home root now after = IsPartRun s k besides (part_ins (gathers_of stages) (ins_of stages) homes home root) homes home root now after
 
   abbrev Sound : ℕ → List (Node (StageWork S K)) → Type 0
   Sound done now = NoneFailedBefore s k stages homes old done now
@@ -86,7 +86,7 @@ module _ {S K : Type 0} (s : source.Ghosts S) (k : sink.Ghosts K) (stages : List
       kept-past : (j : ℕ) → past (length stages) j ≡ true → slice_get after j ≡ slice_get now j
       kept-past j p =
           let l = true-lt (home_at homes j) (length stages) p in
-          stays s k stages old new down forest size homes are queue (length stages) root is-root now count inside lower done after part j
+          stays s k stages old new down forest size homes are besides (length stages) root is-root now count inside lower done after part j
           (λ q. let r = root-home ∙ refl in let same = ap (home_at homes) q in omega (arith, l, r, same)) (λ q. omega (arith, l, q))
 
       sound-now : Sound (length stages) now
@@ -97,10 +97,10 @@ module _ {S K : Type 0} (s : source.Ghosts S) (k : sink.Ghosts K) (stages : List
 
       at-last : home_at homes i ≡ length stages → ((i == root) ≡ true) × (i ≡ root) ⊎ ((i == root) ≡ false) × (i ≢ root) → EndsAsStage s k stages opened i m
       at-last h (inl q) = subst (λ j. EndsAsStage s k stages opened j m) (sym q.1)
-          (root-end s k stages old new down forest size homes are queue (length stages) root is-root now count inside lower done after part opened tell sound-now quiet m (ap (slice_get after) (sym q.1) ∙ e) streams)
+          (root-end s k stages old new down forest size homes are besides (length stages) root is-root now count inside lower done after part opened tell sound-now quiet m (ap (slice_get after) (sym q.1) ∙ e) streams)
       at-last h (inr q) = (
           let n = q.1 in
-          home-end s k stages old new down forest size homes are queue (length stages) root is-root now count inside lower done after part opened tell sound-now quiet i m (omega (arith, n, within))
+          home-end s k stages old new down forest size homes are besides (length stages) root is-root now count inside lower done after part opened tell sound-now quiet i m (omega (arith, n, within))
           (ap (λ x. x == length stages) h ∙ same-number (length stages)) e)
 
   -- below a last stage that gathers each has a home among the stages
@@ -125,7 +125,7 @@ module _ {S K : Type 0} (s : source.Ghosts S) (k : sink.Ghosts K) (stages : List
 
   -- the last stage gathers
   pub last-gathers : (now after : List (Node (StageWork S K))) → length now ≡ length stages → 0 < length stages → is_gathering (role_at stages (length stages - 1)) ≡ true
-      → Done (length stages) now → IsLeafRun s k queue (length stages - 1) now after → AreRanStages s k stages old after
+      → Done (length stages) now → IsLeafRun s k besides (length stages - 1) now after → AreRanStages s k stages old after
   last-gathers now after count some gathers done run sound opened tell i m e = elim (eqb_tells i root) [
     | inl q ↦ subst (λ j. EndsAsStage s k stages opened j m) (sym q.1) (root-ends-so (ap (slice_get after) (sym q.1) ∙ e))
     | inr q ↦ elim (past-or-last i within) [

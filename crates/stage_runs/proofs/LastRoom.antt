@@ -21,7 +21,7 @@ use Rattle.stage_runs.specs.declared.rooms.PartRoom.{PartRoom}
 use Rattle.stage_runs.specs.declared.rooms.StageRoom.{StageRoom}
 use Rattle.stage_runs.specs.Works.{as_works, ins_of, AreNewStages}
 use Rattle.stage_runs.specs.Ran.{AreRanStages}
-use Rattle.stage_runs.specs.Parts.{gathers_of, AreLater, IsNewLeaf, IsPartRun, IsLeafRun, AreRunBefore, AreTurned, ByParts}
+use Rattle.stage_runs.specs.Parts.{gathers_of, AreLater, Besides, IsNewLeaf, IsPartRun, IsLeafRun, AreRunBefore, AreTurned, ByParts}
 use Rattle.stage_runs.specs.Rooms.{IsRoom, IsLastRoom, IsStageRoom}
 use Rattle.stage_runs.specs.Short.{RanShort, SomeGathers}
 use Rattle.stage_runs.proofs.Asked.{fresh-before, root-inputs, last-leaf}
@@ -30,32 +30,32 @@ use Rattle.stage_runs.proofs.Part.{IsRoot, gathers-are}
 use Rattle.stage_runs.proofs.Short.{short-gathers}
 use Rattle.stage_runs.proofs.Turns.{some-stages, few-stages, ins-size, homes-size, all-forest, planned-part}
 
-module _ {S K : Type 0} (s : source.Ghosts S) (k : sink.Ghosts K) (part : List (List ℕ)) (root queue : ℕ) where
-  without : (gathers : Bool) → IsLastRoom s k part root queue gathers None → gathers ≡ true
+module _ {S K E : Type 0} (s : source.Ghosts S) (k : sink.Ghosts K) (fits : ℕ → ℕ → E → Type 0) (part : List (List ℕ)) (root queue : ℕ) where
+  without : (gathers : Bool) → IsLastRoom s k fits part root queue gathers None → gathers ≡ true
   without true is = refl
   without false is = absurd is
 
-  within : (gathers : Bool) (room : PartRoom S K) → IsLastRoom s k part root queue gathers (Some room) → (gathers ≡ false) × IsRoom s k part root queue room
+  within : (gathers : Bool) (room : PartRoom S K E) → IsLastRoom s k fits part root queue gathers (Some room) → (gathers ≡ false) × IsRoom s k fits part root queue room
   within true room is = absurd is
   within false room is = (refl, is)
 
-module _ {S K : Type 0} (s : source.Ghosts S) (k : sink.Ghosts K) (stages : List StageSpec) (room : StageRoom S K) (is : IsStageRoom s k stages room) where
+module _ {S K E : Type 0} (s : source.Ghosts S) (k : sink.Ghosts K) (fits : ℕ → ℕ → E → Type 0) (stages : List StageSpec) (room : StageRoom S K E) (is : IsStageRoom s k fits stages room) where
   abbrev root : ℕ
   root = length stages - 1
 
   -- a last stage without a room gathers
   roomless : room.last ≡ None → is_gathering (role_at stages root) ≡ true
-  roomless none = sym (gathers-are stages root) ∙ without s k _ _ _ _ (subst (IsLastRoom s k _ _ _ _) none is.last)
+  roomless none = sym (gathers-are stages root) ∙ without s k fits _ _ _ _ (subst (IsLastRoom s k fits _ _ _ _) none is.last)
 
-  roomy : (held : PartRoom S K) → room.last ≡ Some held
-      → (gathers_at (gathers_of stages) root ≡ false) × IsRoom s k (part_ins (gathers_of stages) (ins_of stages) room.plan.homes.items (length stages) root) root room.sizes.queue held
-  roomy held e = within s k _ _ _ _ held (subst (IsLastRoom s k _ _ _ _) e is.last)
+  roomy : (held : PartRoom S K E) → room.last ≡ Some held
+      → (gathers_at (gathers_of stages) root ≡ false) × IsRoom s k fits (part_ins (gathers_of stages) (ins_of stages) room.plan.homes.items (length stages) root) root room.sizes.queue held
+  roomy held e = within s k fits _ _ _ _ held (subst (IsLastRoom s k fits _ _ _ _) e is.last)
 
-  pub last-room : {held : PartRoom S K} → room.last ≡ Some held → (part : List (List ℕ)) × (root : ℕ) × (queue : ℕ) × IsRoom s k part root queue held
+  pub last-room : {held : PartRoom S K E} → room.last ≡ Some held → (part : List (List ℕ)) × (root : ℕ) × (queue : ℕ) × IsRoom s k fits part root queue held
   last-room {held} e = (_, _, _, (roomy held e).1)
 
   module _ (tree : IsTree (shapes stages)) {old now : List (Node (StageWork S K))} (new : AreNewStages s k stages old) (later : AreLater s k old now)
-      (done : AreRunBefore s k stages room.plan.homes.items old (length stages) now) where
+      (done : AreRunBefore s k stages room.plan.homes.items old (length stages) now) (besides : Besides S K) where
     abbrev homes : List ℕ
     homes = room.plan.homes.items
 
@@ -92,7 +92,7 @@ module _ {S K : Type 0} (s : source.Ghosts S) (k : sink.Ghosts K) (stages : List
 
     -- where memory is wanting, a stage gathers
     pub wanting : {after : List (Node (StageWork S K))} → RanShort now after → SomeGathers stages
-    wanting {after} short = short-gathers s k stages old new down forest (ins-size stages) homes is.homes queue now after count done short
+    wanting {after} short = short-gathers s k stages old new down forest (ins-size stages) homes is.homes besides now after count done short
 
     -- ---- where the last stage gathers
 
@@ -104,13 +104,13 @@ module _ {S K : Type 0} (s : source.Ghosts S) (k : sink.Ghosts K) (stages : List
       last-one = (root, (let a = some in omega (arith, a)), gathers)
 
       pub last-waits : (n : Node (StageWork S K)) → slice_get now root ≡ Some n → IsNewLeaf s k n
-      last-waits n e = last-leaf s k stages old new down forest (ins-size stages) homes is.homes queue now some gathers done n e
+      last-waits n e = last-leaf s k stages old new down forest (ins-size stages) homes is.homes besides now some gathers done n e
 
-      module _ {after : List (Node (StageWork S K))} (run : IsLeafRun s k queue root now after) where
+      module _ {after : List (Node (StageWork S K))} (run : IsLeafRun s k besides root now after) where
         pub leaf-ran : AreRanStages s k stages old after
-        leaf-ran = last-gathers s k stages old new down forest (ins-size stages) homes is.homes queue now after count some gathers done run
+        leaf-ran = last-gathers s k stages old new down forest (ins-size stages) homes is.homes besides now after count some gathers done run
 
-        pub by-leaf : AreTurned s k stages homes old queue (length stages) now → ByParts s k stages queue old after
+        pub by-leaf : AreTurned s k stages homes old besides (length stages) now → ByParts s k stages besides old after
         by-leaf turned = record {
           homes = homes;
           are = is.homes;
@@ -119,12 +119,12 @@ module _ {S K : Type 0} (s : source.Ghosts S) (k : sink.Ghosts K) (stages : List
 
     -- ---- where it doesn't
 
-    module _ {held : PartRoom S K} (e : room.last ≡ Some held) where
+    module _ {held : PartRoom S K E} (e : room.last ≡ Some held) where
       streams : is_gathering (role_at stages root) ≡ false
       streams = sym (gathers-are stages root) ∙ (roomy held e).0
 
-      pub its-room : IsRoom s k part root queue held
-      its-room = subst (λ xss. IsRoom s k xss root queue held) (sym same-part) (roomy held e).1
+      pub its-room : IsRoom s k fits part root queue held
+      its-room = subst (λ xss. IsRoom s k fits xss root queue held) (sym same-part) (roomy held e).1
 
       inside : root < length stages
       inside = let m = some in omega (arith, m)
@@ -145,21 +145,21 @@ module _ {S K : Type 0} (s : source.Ghosts S) (k : sink.Ghosts K) (stages : List
 
       pub last-fresh : (i : ℕ) (n : Node (StageWork S K)) → i < root → is_of homes (length stages) i ≡ true → slice_get now i ≡ Some n → IsFresh (shown (as_works s k) (children part i) n)
       last-fresh i n l h f = subst (λ xss. IsFresh (shown (as_works s k) (children xss i) n)) (sym same-part)
-          (fresh-before s k stages old new down forest (ins-size stages) homes is.homes queue (length stages) root at-last now count inside lower done i n l h f)
+          (fresh-before s k stages old new down forest (ins-size stages) homes is.homes besides (length stages) root at-last now count inside lower done i n l h f)
 
       pub last-inputs : (n : Node (StageWork S K)) → slice_get now root ≡ Some n → (is_leaf n.work ≡ true) ↔ (length (children part root) ≡ 0)
       last-inputs n f = subst (λ xss. (is_leaf n.work ≡ true) ↔ (length (children xss root) ≡ 0)) (sym same-part)
-          (root-inputs s k stages old new down forest (ins-size stages) homes is.homes queue (length stages) root at-last now count inside lower done
+          (root-inputs s k stages old new down forest (ins-size stages) homes is.homes besides (length stages) root at-last now count inside lower done
           (λ q. let m = some in omega (arith, m)) n f)
 
-      module _ {after : List (Node (StageWork S K))} (run : IsPartRun s k queue part homes (length stages) root now after) where
-        ran : IsPartRun s k queue (part_ins (gathers_of stages) (ins_of stages) homes (length stages) root) homes (length stages) root now after
-        ran = subst (λ xss. IsPartRun s k queue xss homes (length stages) root now after) same-part run
+      module _ {after : List (Node (StageWork S K))} (run : IsPartRun s k besides part homes (length stages) root now after) where
+        ran : IsPartRun s k besides (part_ins (gathers_of stages) (ins_of stages) homes (length stages) root) homes (length stages) root now after
+        ran = subst (λ xss. IsPartRun s k besides xss homes (length stages) root now after) same-part run
 
         pub part-ran : AreRanStages s k stages old after
-        part-ran = last-streams s k stages old new down forest (ins-size stages) homes is.homes queue now after count some streams done ran
+        part-ran = last-streams s k stages old new down forest (ins-size stages) homes is.homes besides now after count some streams done ran
 
-        pub by-part : AreTurned s k stages homes old queue (length stages) now → ByParts s k stages queue old after
+        pub by-part : AreTurned s k stages homes old besides (length stages) now → ByParts s k stages besides old after
         by-part turned = record {
           homes = homes;
           are = is.homes;

@@ -9,7 +9,6 @@ use Rattle.network_theory.specs.Opening.{IsFresh}
 use Rattle.network_core.specs.declared.node.Node.{Node}
 use Rattle.network_core.specs.Shown.{shown}
 use Rattle.network_core.proofs.Opened.{some_at}
-use Rattle.network_solo.specs.Runs.{IsRanOver}
 use Rattle.network_solo.specs.Trees.{IsRanTree}
 use Rattle.stage_kinds.specs.declared.stage_work.StageWork.{StageWork}
 use Rattle.stage_kinds.specs.declared.stage_work.StageWork.TheVariants.{Collector}
@@ -23,9 +22,9 @@ use Rattle.stage_runs.specs.declared.plan.Plan.{Plan}
 use Rattle.stage_runs.specs.declared.rooms.PartRoom.{PartRoom}
 use Rattle.stage_runs.specs.Works.{as_works}
 use Rattle.stage_forms.specs.Starts.{IsCollecting}
-use Rattle.stage_runs.specs.Parts.{IsExchanged, IsRenewed, IsNewLeaf, IsLater, AreLater, AreSameOrLater, is_own, IsNet, IsPartRun}
+use Rattle.stage_runs.specs.Parts.{IsExchanged, IsRenewed, IsNewLeaf, IsLater, AreLater, AreSameOrLater, is_own, IsNet, IsPartRun, Besides}
 use Rattle.stage_runs.specs.Rooms.{IsRoom}
-use Rattle.stage_runs.specs.Short.{RanShort}
+use Rattle.stage_runs.specs.Short.{RanShort, NoneShort}
 use Rattle.stage_runs.proofs.Part.{same-number, other-number}
 
 -- what a slice holds, its list does
@@ -56,8 +55,8 @@ module _ {S K : Type 0} (s : source.Ghosts S) (k : sink.Ghosts K) where
   }
 
   -- the nodes of a part are lent to the net of its memory, and its root is made new
-  module _ (plan : Plan) (room : PartRoom S K) (home root queue : ℕ) (nodes : List (Node (StageWork S K)))
-      (is : IsRoom s k (part_ins plan.gathers.items plan.ins plan.homes.items home root) root queue room) (inside : root < length nodes)
+  module _ {E : Type 0} (fits : ℕ → ℕ → E → Type 0) (plan : Plan) (room : PartRoom S K E) (home root queue : ℕ) (nodes : List (Node (StageWork S K)))
+      (is : IsRoom s k fits (part_ins plan.gathers.items plan.ins plan.homes.items home root) root queue room) (inside : root < length nodes)
       (fresh : (i : ℕ) (n : Node (StageWork S K)) → i < root → is_of plan.homes.items home i ≡ true → slice_get nodes i ≡ Some n
       → IsFresh (shown (as_works s k) (children (part_ins plan.gathers.items plan.ins plan.homes.items home root) i) n))
       {given : List ℕ} (same : given ≡ plan.homes.items) {left net : List (Node (StageWork S K))}
@@ -91,6 +90,9 @@ module _ {S K : Type 0} (s : source.Ghosts S) (k : sink.Ghosts K) where
     module _ {renewed : List (Node (StageWork S K))} (new : IsRenewed (as_works s k) (length takes) net renewed) where
       pub renewed-size : length renewed ≡ root + 1
       renewed-size = new.count ∙ net-size
+
+      pub net-edges : fits (length renewed) queue room.edges
+      net-edges = subst (λ n. fits n queue room.edges) (sym renewed-size) is.edges
 
       last-is : length net - 1 ≡ root
       last-is = let a = net-size in omega (arith, a)
@@ -251,14 +253,14 @@ module _ {S K : Type 0} (s : source.Ghosts S) (k : sink.Ghosts K) where
                 }
             by_own false o = absurd (no-leaf short.before.work short.collects (stranger short.place short.before less o short.was).leaf)
 
-        pub part-run : IsRanTree (as_works s k) room.ins renewed ended → IsRanOver (as_works s k) room.ins room.queues.capacity renewed ended
-            → ((i : ℕ) (m : Node (StageWork S K)) → slice_get ended i ≡ Some m → is_short m.work ≡ false) → IsPartRun s k queue part homes home root nodes after
-        part-run ran over enough = record {
+        pub part-run : (besides : Besides S K) → IsRanTree (as_works s k) room.ins renewed ended → besides room.ins renewed ended → NoneShort ended
+            → IsPartRun s k besides part homes home root nodes after
+        part-run besides ran over enough = record {
           net = renewed;
           ended = ended;
           is_net = is-net;
           ran = subst (λ xss. IsRanTree (as_works s k) xss renewed ended) is.ins ran;
-          over = subst (λ n. IsRanOver (as_works s k) part n renewed ended) is.capacity (subst (λ xss. IsRanOver (as_works s k) xss room.queues.capacity renewed ended) is.ins over);
+          over = subst (λ xss. besides xss renewed ended) is.ins over;
           enough = enough;
           count = after-count;
           back = back;

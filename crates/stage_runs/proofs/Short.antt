@@ -17,7 +17,7 @@ use Rattle.stage_options.specs.declared.stage.StageSpec.{StageSpec}
 use Rattle.stage_parts.specs.Parts.{AreHomes, home_at}
 use Rattle.answer_model.specs.Values.{IsDown, role_at}
 use Rattle.stage_runs.specs.Works.{as_works, ins_of, AreNewStages}
-use Rattle.stage_runs.specs.Parts.{gathers_of, is_past, AreRunBefore}
+use Rattle.stage_runs.specs.Parts.{gathers_of, is_past, AreRunBefore, Besides}
 use Rattle.stage_forms.specs.Starts.{IsCollecting}
 use Rattle.stage_runs.specs.Short.{RanShort, SomeGathers}
 use Rattle.stage_runs.proofs.Asked.{keeps-collecting}
@@ -56,7 +56,7 @@ module _ {S K : Type 0} (s : source.Ghosts S) (k : sink.Ghosts K) where
 
 module _ {S K : Type 0} (s : source.Ghosts S) (k : sink.Ghosts K) (stages : List StageSpec) (old : List (Node (StageWork S K))) (new : AreNewStages s k stages old) (down : IsDown stages)
     (forest : IsForest (ins_of stages) (length (ins_of stages) - 1)) (size : length (ins_of stages) ≡ length stages)
-    (homes : List ℕ) (are : AreHomes (gathers_of stages) (ins_of stages) homes) (queue : ℕ) where
+    (homes : List ℕ) (are : AreHomes (gathers_of stages) (ins_of stages) homes) (besides : Besides S K) where
   -- a stage whose work takes whole views at its start needs them
   starts-gathering : (i : ℕ) (n : Node (StageWork S K)) → slice_get old i ≡ Some n → IsCollecting n.work → is_gathering (role_at stages i) ≡ true
   starts-gathering i n e collects =
@@ -82,5 +82,5 @@ module _ {S K : Type 0} (s : source.Ghosts S) (k : sink.Ghosts K) (stages : List
       by_home true p =
           let home = home_at homes short.place in
           let less = true-lt home (length stages) p in
-          (home, less, home-gathers s k stages old new down forest size homes are queue short.place inside home less refl)
+          (home, less, home-gathers s k stages old new down forest size homes are besides short.place inside home less refl)
       by_home false p = by_role p (is_gathering (role_at stages short.place)) refl

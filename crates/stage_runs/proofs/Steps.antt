@@ -29,7 +29,7 @@ use Rattle.answer_model.specs.Rows as rows
 use Rattle.answer_model.specs.Values.{Opened, IsDown, role_at, row_at, stage_value, stage_input}
 use Rattle.stage_runs.specs.Works.{ins_of, AreNewStages, ReadersTell}
 use Rattle.stage_runs.specs.Ran.{EndsAsStage}
-use Rattle.stage_runs.specs.Parts.{gathers_of, IsNewLeaf, Gives, IsPartRun, IsGatheredAt, is_past, NoneFailedBefore, AreRunBefore}
+use Rattle.stage_runs.specs.Parts.{gathers_of, IsNewLeaf, Gives, IsPartRun, IsGatheredAt, is_past, NoneFailedBefore, AreRunBefore, Besides}
 use Rattle.stage_runs.proofs.Part.{IsRoot, gathers-are, same-number, other-number, home-ends, root-holds, root-ends}
 use Rattle.stage_runs.proofs.Ran.{gathers-value}
 
@@ -81,12 +81,12 @@ module _ {S K : Type 0} (bytes : S → Option (List ℕ)) where
 
 module _ {S K : Type 0} (s : source.Ghosts S) (k : sink.Ghosts K) (stages : List StageSpec) (old : List (Node (StageWork S K))) (new : AreNewStages s k stages old) (down : IsDown stages)
     (forest : IsForest (ins_of stages) (length (ins_of stages) - 1)) (size : length (ins_of stages) ≡ length stages)
-    (homes : List ℕ) (are : AreHomes (gathers_of stages) (ins_of stages) homes) (queue : ℕ) where
+    (homes : List ℕ) (are : AreHomes (gathers_of stages) (ins_of stages) homes) (besides : Besides S K) where
   abbrev Done : ℕ → List (Node (StageWork S K)) → Type 0
   Done done now = AreRunBefore s k stages homes old done now
 
   abbrev Part : ℕ → ℕ → List (Node (StageWork S K)) → List (Node (StageWork S K)) → Type 0
-  Part home root now after = IsPartRun s k queue (part_ins (gathers_of stages) (ins_of stages) homes home root) homes home root now after
+  Part home root now after = IsPartRun s k besides (part_ins (gathers_of stages) (ins_of stages) homes home root) homes home root now after
 
   abbrev Sound : ℕ → List (Node (StageWork S K)) → Type 0
   Sound done now = NoneFailedBefore s k stages homes old done now

@@ -19,7 +19,7 @@ use Rattle.answer_model.specs.Values.{IsDown, role_at}
 use Rattle.answer_model.proofs.Values.{tree-down}
 use Rattle.stage_runs.specs.Works.{as_works, ins_of, AreNewStages}
 use Rattle.stage_runs.specs.declared.plan.Plan.{Plan}
-use Rattle.stage_runs.specs.Parts.{gathers_of, AreLater, IsPartRun, IsGatheredAt, AreRunBefore, AreTurned}
+use Rattle.stage_runs.specs.Parts.{gathers_of, AreLater, IsPartRun, IsGatheredAt, AreRunBefore, AreTurned, Besides}
 use Rattle.stage_forms.specs.Starts.{IsCollecting}
 use Rattle.stage_runs.specs.Short.{SomeGathers}
 use Rattle.stage_runs.proofs.Asked.{fresh-before, root-inputs, root-collects}
@@ -69,7 +69,7 @@ planned-part stages plan gathers_is ins_is home root =
 
 module _ {S K : Type 0} (s : source.Ghosts S) (k : sink.Ghosts K) (stages : List StageSpec) (tree : IsTree (shapes stages)) {old : List (Node (StageWork S K))} (new : AreNewStages s k stages old)
     (plan : Plan) (gathers_is : plan.gathers.items ≡ gathers_of stages) (ins_is : plan.ins ≡ ins_of stages)
-    (are : AreHomes (gathers_of stages) (ins_of stages) plan.homes.items) (queue : ℕ) where
+    (are : AreHomes (gathers_of stages) (ins_of stages) plan.homes.items) (besides : Besides S K) where
   abbrev homes : List ℕ
   homes = plan.homes.items
 
@@ -89,12 +89,12 @@ module _ {S K : Type 0} (s : source.Ghosts S) (k : sink.Ghosts K) (stages : List
   same-part home root = planned-part stages plan gathers_is ins_is home root
 
   pub at-first : Done 0 old
-  at-first = none-run s k stages old new down forest (ins-size stages) homes are queue
+  at-first = none-run s k stages old new down forest (ins-size stages) homes are besides
 
   -- ---- all turns
 
   abbrev Turned : ℕ → List (Node (StageWork S K)) → Type 0
-  Turned done now = AreTurned s k stages homes old queue done now
+  Turned done now = AreTurned s k stages homes old besides done now
 
   one-more : (w : ℕ) (now : List (Node (StageWork S K))) → Turned (suc w) now → Turned (w + 1) now
   one-more w now t = subst (λ n. Turned n now) (let same : suc w ≡ w + 1 = omega arith in same) t
@@ -112,7 +112,7 @@ module _ {S K : Type 0} (s : source.Ghosts S) (k : sink.Ghosts K) (stages : List
       streams_w = gathers-read stages plan.gathers.items gathers_is w read false inside reads no
 
       pub skipped : Done (w + 1) now
-      skipped = none-here s k stages old new down forest (ins-size stages) homes are queue w now count inside streams_w done
+      skipped = none-here s k stages old new down forest (ins-size stages) homes are besides w now count inside streams_w done
 
       pub turned-over : Turned w now → Turned (w + 1) now
       turned-over before = one-more w now (now, before, inr (streams_w, refl))
@@ -134,23 +134,23 @@ module _ {S K : Type 0} (s : source.Ghosts S) (k : sink.Ghosts K) (stages : List
 
       pub part-fresh : (i : ℕ) (n : Node (StageWork S K)) → i < w → is_of homes w i ≡ true → slice_get now i ≡ Some n → IsFresh (shown (as_works s k) (children (part w w) i) n)
       part-fresh i n l h e = subst (λ xss. IsFresh (shown (as_works s k) (children xss i) n)) (sym (same-part w w))
-          (fresh-before s k stages old new down forest (ins-size stages) homes are queue w w at-w now count inside (λ j m. m) done i n l h e)
+          (fresh-before s k stages old new down forest (ins-size stages) homes are besides w w at-w now count inside (λ j m. m) done i n l h e)
 
       pub part-inputs : (n : Node (StageWork S K)) → slice_get now w ≡ Some n → (is_leaf n.work ≡ true) ↔ (length (children (part w w) w) ≡ 0)
       part-inputs n e = subst (λ xss. (is_leaf n.work ≡ true) ↔ (length (children xss w) ≡ 0)) (sym (same-part w w))
-          (root-inputs s k stages old new down forest (ins-size stages) homes are queue w w at-w now count inside (λ j m. m) done
+          (root-inputs s k stages old new down forest (ins-size stages) homes are besides w w at-w now count inside (λ j m. m) done
           (λ streams. absurd (true≢false (sym gathers_w ∙ streams))) n e)
 
-      module _ {after : List (Node (StageWork S K))} (run : IsPartRun s k queue (part w w) homes w w now after) where
-        ran : IsPartRun s k queue (part_ins (gathers_of stages) (ins_of stages) homes w w) homes w w now after
-        ran = subst (λ xss. IsPartRun s k queue xss homes w w now after) (same-part w w) run
+      module _ {after : List (Node (StageWork S K))} (run : IsPartRun s k besides (part w w) homes w w now after) where
+        ran : IsPartRun s k besides (part_ins (gathers_of stages) (ins_of stages) homes w w) homes w w now after
+        ran = subst (λ xss. IsPartRun s k besides xss homes w w now after) (same-part w w) run
 
         pub collects : (m : Node (StageWork S K)) → slice_get after w ≡ Some m → IsCollecting m.work
-        collects = root-collects s k stages old new down forest (ins-size stages) homes are queue w w at-w now count inside (λ j m. m) done after ran gathers_w
+        collects = root-collects s k stages old new down forest (ins-size stages) homes are besides w w at-w now count inside (λ j m. m) done after ran gathers_w
 
         module _ {last : List (Node (StageWork S K))} (made : IsGatheredAt s k w after last) where
           pub taken-turn : Done (w + 1) last
-          taken-turn = gathered-here s k stages old new down forest (ins-size stages) homes are queue w now after last count inside gathers_w done ran made
+          taken-turn = gathered-here s k stages old new down forest (ins-size stages) homes are besides w now after last count inside gathers_w done ran made
 
           pub turned-on : Turned w now → Turned (w + 1) last
           turned-on before = one-more w last (now, before, inl (record { gathers = gathers_w; after = after; ran = ran; made = made }))

@@ -1,5 +1,5 @@
 -- The nodes of a tree's stages while its parts are run, one after the other.
-use Rattle.std.specs.Prelude.{◌≡◌, ◌≢◌, ◌⊎◌, ℕ, zero, suc, ◌+◌, ◌-◌, ◌<◌, ◌≤◌, ◌==◌, ◌||◌, nat_lt, Bool, true, false, List, [], ◌∷◌, length, map, slice_get, Some, None}
+use Rattle.std.specs.Prelude.{◌≡◌, ◌≢◌, ◌⊎◌, ◌↔◌, ℕ, zero, suc, ◌+◌, ◌-◌, ◌<◌, ◌≤◌, ◌==◌, ◌||◌, nat_lt, Bool, true, false, List, [], ◌∷◌, length, map, slice_get, Some, None}
 use Rattle.file_devices.specs.Counts.{Rose}
 use Rattle.file_devices.specs.declared.devices.Source as source
 use Rattle.file_devices.specs.declared.devices.Sink as sink
@@ -12,7 +12,6 @@ use Rattle.network_theory.specs.Forest.{children}
 use Rattle.network_theory.specs.Opening.{IsFresh}
 use Rattle.network_core.specs.declared.node.Node.{Node}
 use Rattle.network_core.specs.Shown.{shown}
-use Rattle.network_solo.specs.Runs.{IsRanOver}
 use Rattle.network_solo.specs.Trees.{IsRanTree}
 use Rattle.stage_kinds.specs.declared.stage_work.StageWork.{StageWork}
 use Rattle.stage_kinds.specs.Gathers.{IsGathered}
@@ -23,8 +22,10 @@ use Rattle.stage_options.specs.Roles.{is_gathering, role_of}
 use Rattle.stage_options.specs.declared.stage.StageSpec.{StageSpec}
 use Rattle.stage_parts.specs.Parts.{AreHomes, home_at, is_of, part_ins}
 use Rattle.answer_model.specs.Values.{Opened, role_at, stage_value}
+use Rattle.stage_forms.specs.Starts.{IsCollecting}
 use Rattle.stage_runs.specs.Ran.{EndsAsStage}
 use Rattle.stage_runs.specs.Works.{as_works, ins_of, ReadersTell}
+use Rattle.stage_runs.specs.Short.{NoneShort}
 
 -- whether each stage needs whole views
 abbrev pub gathers_of : List StageSpec → List Bool
@@ -47,6 +48,10 @@ pub record IsRenewed {W G : Type 0} (g : Ghosts W G) (inputs : ℕ) (net after :
 -- whether a node of the part of a home, or its root, stands at a place
 abbrev pub is_own : List ℕ → ℕ → ℕ → ℕ → Bool
 is_own homes home root i = (i == root) || is_of homes home i
+
+-- what the nodes of a net come to besides, by the numbers of their children
+abbrev pub Besides : Type 0 → Type 0 → Type 1
+Besides S K = List (List ℕ) → List (Node (StageWork S K)) → List (Node (StageWork S K)) → Type 0
 
 -- ---- nodes
 
@@ -84,7 +89,29 @@ module _ {S K : Type 0} (s : source.Ghosts S) (k : sink.Ghosts K) where
     pub count : length nodes ≡ size
     pub each : (i : ℕ) (n : Node (StageWork S K)) → slice_get nodes i ≡ Some n → IsNewLeaf n × Gives empty_flow n
 
+  -- no node holds a device
+  abbrev pub HoldNoDevice : List (Node (StageWork S K)) → Type 0
+  HoldNoDevice nodes = (i : ℕ) (n : Node (StageWork S K)) → slice_get nodes i ≡ Some n → op_of n.work ≡ None
+
+  -- the node at this place is such a leaf
+  abbrev pub IsNewLeafAt : ℕ → List (Node (StageWork S K)) → Type 0
+  IsNewLeafAt at nodes = (n : Node (StageWork S K)) → slice_get nodes at ≡ Some n → IsNewLeaf n
+
+  -- the node at this place takes whole views
+  abbrev pub CollectsAt : ℕ → List (Node (StageWork S K)) → Type 0
+  CollectsAt at nodes = (n : Node (StageWork S K)) → slice_get nodes at ≡ Some n → IsCollecting n.work
+
   -- ---- the net of a part
+
+  -- the nodes of a part before its root had no turn yet
+  abbrev pub AreFreshBefore : List (List ℕ) → List ℕ → ℕ → ℕ → List (Node (StageWork S K)) → Type 0
+  AreFreshBefore part homes home root nodes = (i : ℕ) (n : Node (StageWork S K)) → i < root → is_of homes home i ≡ true
+      → slice_get nodes i ≡ Some n → IsFresh (shown (as_works s k) (children part i) n)
+
+  -- the root of a part has inputs exactly where it is no leaf
+  abbrev pub HasInputs : List (List ℕ) → ℕ → List (Node (StageWork S K)) → Type 0
+  HasInputs part root nodes = (n : Node (StageWork S K)) → slice_get nodes root ≡ Some n
+      → (is_leaf n.work ≡ true) ↔ (length (children part root) ≡ 0)
 
   -- the nodes of a part, each at the place of its stage: the root is new over its work, and the others of the home are as they are; in
   -- the place of each stranger stands a leaf that gives nothing
@@ -95,27 +122,26 @@ module _ {S K : Type 0} (s : source.Ghosts S) (k : sink.Ghosts K) where
     pub own : (i : ℕ) (n : Node (StageWork S K)) → i < root → is_of homes home i ≡ true → slice_get net i ≡ Some n → slice_get nodes i ≡ Some n
     pub strange : (i : ℕ) (n : Node (StageWork S K)) → i < root → is_of homes home i ≡ false → slice_get net i ≡ Some n → IsNewLeaf n × Gives empty_flow n
 
-  -- the nodes of a part took turns until all were done, over queues of this capacity, and memory was wanting at none; each is back at its
-  -- place
-  pub record IsPartRun (queue : ℕ) (part : List (List ℕ)) (homes : List ℕ) (home root : ℕ) (nodes after : List (Node (StageWork S K))) : Type 0 where
+  -- the nodes of a part took turns until all were done, and memory was wanting at none; each is back at its place
+  pub record IsPartRun (besides : Besides S K) (part : List (List ℕ)) (homes : List ℕ) (home root : ℕ) (nodes after : List (Node (StageWork S K))) : Type 0 where
     pub net : List (Node (StageWork S K))
     pub ended : List (Node (StageWork S K))
     pub is_net : IsNet part homes home root nodes net
     pub ran : IsRanTree (as_works s k) part net ended
-    pub over : IsRanOver (as_works s k) part queue net ended
-    pub enough : (i : ℕ) (m : Node (StageWork S K)) → slice_get ended i ≡ Some m → is_short m.work ≡ false
+    pub over : besides part net ended
+    pub enough : NoneShort ended
     pub count : length after ≡ length nodes
     pub back : (i : ℕ) → i ≤ root → is_own homes home root i ≡ true → slice_get after i ≡ slice_get ended i
     pub other : (i : ℕ) → i ≤ root → is_own homes home root i ≡ false → slice_get after i ≡ slice_get nodes i
     pub beyond : (i : ℕ) → root < i → slice_get after i ≡ slice_get nodes i
 
   -- the node at a place, a leaf, gave all it had, alone
-  pub record IsLeafRun (queue at : ℕ) (nodes after : List (Node (StageWork S K))) : Type 0 where
+  pub record IsLeafRun (besides : Besides S K) (at : ℕ) (nodes after : List (Node (StageWork S K))) : Type 0 where
     pub was : Node (StageWork S K)
     pub is : Node (StageWork S K)
     pub before : slice_get nodes at ≡ Some was
     pub ran : IsRanTree (as_works s k) ([] ∷ []) (was ∷ []) (is ∷ [])
-    pub over : IsRanOver (as_works s k) ([] ∷ []) queue (was ∷ []) (is ∷ [])
+    pub over : besides ([] ∷ []) (was ∷ []) (is ∷ [])
     pub enough : is_short is.work ≡ false
     pub count : length after ≡ length nodes
     pub back : slice_get after at ≡ Some is
@@ -152,10 +178,10 @@ module _ {S K : Type 0} (s : source.Ghosts S) (k : sink.Ghosts K) where
 
     -- ---- one part after the other
 
-    module _ (queue : ℕ) where
-      -- the part of this home and root was run, over queues of this capacity
+    module _ (besides : Besides S K) where
+      -- the part of this home and root was run
       abbrev pub PartRan : ℕ → ℕ → List (Node (StageWork S K)) → List (Node (StageWork S K)) → Type 0
-      PartRan home root now after = IsPartRun queue (part_ins (gathers_of stages) (ins_of stages) homes home root) homes home root now after
+      PartRan home root now after = IsPartRun besides (part_ins (gathers_of stages) (ins_of stages) homes home root) homes home root now after
 
       -- stage w needs whole views: its part was run, and it made of them what it is to make
       pub record IsTurn (w : ℕ) (now last : List (Node (StageWork S K))) : Type 0 where
@@ -175,10 +201,10 @@ module _ {S K : Type 0} (s : source.Ghosts S) (k : sink.Ghosts K) where
         pub now : List (Node (StageWork S K))
         pub turned : AreTurned (length stages) now
         pub streams : is_gathering (role_at stages (length stages - 1)) ≡ false → PartRan (length stages) (length stages - 1) now new
-        pub gathers : is_gathering (role_at stages (length stages - 1)) ≡ true → IsLeafRun queue (length stages - 1) now new
+        pub gathers : is_gathering (role_at stages (length stages - 1)) ≡ true → IsLeafRun besides (length stages - 1) now new
 
-  -- the parts of a tree of stages were run one after the other, over queues of this capacity
-  pub record ByParts (stages : List StageSpec) (queue : ℕ) (old new : List (Node (StageWork S K))) : Type 0 where
+  -- the parts of a tree of stages were run one after the other
+  pub record ByParts (stages : List StageSpec) (besides : Besides S K) (old new : List (Node (StageWork S K))) : Type 0 where
     pub homes : List ℕ
     pub are : AreHomes (gathers_of stages) (ins_of stages) homes
-    pub ran : AreRunInTurn stages homes old queue new
+    pub ran : AreRunInTurn stages homes old besides new

@@ -1,5 +1,5 @@
 -- Where memory was wanting.
-use Rattle.std.specs.Prelude.{◌≡◌, ℕ, ◌<◌, true, List, length, slice_get, Some}
+use Rattle.std.specs.Prelude.{◌≡◌, ℕ, ◌<◌, true, false, List, length, slice_get, Some}
 use Rattle.network_core.specs.declared.node.Node.{Node}
 use Rattle.stage_kinds.specs.declared.stage_work.StageWork.{StageWork}
 use Rattle.stage_kinds.specs.Stages.{is_short}
@@ -7,6 +7,13 @@ use Rattle.stage_options.specs.Roles.{is_gathering}
 use Rattle.stage_options.specs.declared.stage.StageSpec.{StageSpec}
 use Rattle.answer_model.specs.Values.{role_at}
 use Rattle.stage_forms.specs.Starts.{IsCollecting}
+
+-- memory was wanting at one of these nodes, and at none
+abbrev pub SomeShort : {S K : Type 0} → List (Node (StageWork S K)) → Type 0
+SomeShort {S} {K} nodes = (i : ℕ) × (n : Node (StageWork S K)) × (slice_get nodes i ≡ Some n) × (is_short n.work ≡ true)
+
+abbrev pub NoneShort : {S K : Type 0} → List (Node (StageWork S K)) → Type 0
+NoneShort {S} {K} nodes = (i : ℕ) (n : Node (StageWork S K)) → slice_get nodes i ≡ Some n → is_short n.work ≡ false
 
 -- memory was wanting at one of these nodes, which takes whole views
 pub record RanShort {S K : Type 0} (old new : List (Node (StageWork S K))) : Type 0 where

@@ -1,23 +1,17 @@
 //! Nets of nodes that take turns until all are done.
 
-ghost use Rattle.std.specs.Prelude.{◌≡◌, [], ◌∷◌, ◌+◌, ◌-◌, ◌<◌, ◌≤◌, ◌^◌, ℕ, true, false, length, slice_get, Some, None, IfOk};
+ghost use Rattle.std.specs.Prelude.{◌≡◌, [], ◌∷◌, ◌-◌, ◌<◌, ◌≤◌, ℕ, true, false, length, IfOk};
 ghost use Rattle.cloud_points.specs.Flows.{empty_flow};
-ghost use Rattle.network_core.specs.declared.node.Node as node_type;
-ghost use Rattle.network_core.specs.Shown.{shown};
-ghost use Rattle.network_theory.specs.Forest.{IsForest, children};
-ghost use Rattle.network_theory.specs.Opening.{IsFresh};
-ghost use Rattle.network_solo.specs.Runs.{IsRanOver};
-ghost use Rattle.network_solo.specs.Trees.{IsRanTree};
-ghost use Rattle.stage_kinds.specs.Held.{op_of};
+ghost use Rattle.network_theory.specs.Forest.{IsForest};
+ghost use Rattle.network_solo.specs.Trees.{AreFresh, IsRanTree};
 ghost use Rattle.stage_kinds.specs.Stages.{is_short};
-ghost use Rattle.stage_kinds.specs.declared.stage_work.StageWork as work_type;
 ghost use Rattle.stage_runs.specs.Works.{as_works};
-ghost use Rattle.stage_runs.specs.Parts.{AreLater, AreStandIns, Gives, IsLater, IsNewLeaf};
-ghost use Rattle.stage_runs.specs.Short.{RanShort};
+ghost use Rattle.stage_runs.specs.Parts.{AreLater, AreStandIns, Gives, HoldNoDevice, IsLater, IsNewLeaf};
+ghost use Rattle.stage_runs.specs.Short.{NoneShort, RanShort, SomeShort};
 
 use file_devices::{FileSink, Source};
-use network_core::{InsList, Node, NodeList, Queues};
-use network_solo::run_tree;
+use network_core::{InsList, Node, NodeList};
+use network_solo::Scheduler;
 use stage_kinds::StageWork;
 use std::alloc::{AllocError, Global};
 use view_works::HeldViews;
@@ -53,9 +47,8 @@ pub(crate) fn stand_ins<S: Source, K: FileSink>(
 
 /// Whether memory was wanting at one of these nodes.
 fn any_short<S: Source, K: FileSink>(nodes: &[Node<StageWork<S, K>>]) -> bool
-    ensures short { result ≡ true
-        → (i : ℕ) × (n : node_type.Node (work_type.StageWork S K)) × (slice_get nodes.now i ≡ Some n) × (is_short n.work ≡ true) }
-    ensures enough { result ≡ false → (i : ℕ) (n : node_type.Node (work_type.StageWork S K)) → slice_get nodes.now i ≡ Some n → is_short n.work ≡ false }
+    ensures short { result ≡ true → SomeShort nodes.now }
+    ensures enough { result ≡ false → NoneShort nodes.now }
 {
     for i in 0..nodes.len() {
         if nodes[i].work().is_short() {
@@ -73,7 +66,7 @@ pub(crate) struct Ran<S, K: FileSink> {
 
 /// Ends nodes that hold no device.
 pub(crate) fn let_go<S: Source, K: FileSink>(nodes: Vec<Node<StageWork<S, K>>>)
-    requires { (i : ℕ) (n : node_type.Node (work_type.StageWork S K)) → slice_get nodes.items i ≡ Some n → op_of n.work ≡ None }
+    requires { HoldNoDevice S.Source K.Sink nodes.items }
 {
     let mut nodes = nodes;
     while let Some(node) = nodes.pop() {
@@ -82,24 +75,27 @@ pub(crate) fn let_go<S: Source, K: FileSink>(nodes: Vec<Node<StageWork<S, K>>>)
     nodes.destroy_empty();
 }
 
-/// Lets the new nodes of a net take turns until all are done, over these queues. The last one is the root.
-pub(crate) fn run_net<S: Source, K: FileSink>(
+/// Lets the new nodes of a net take turns until all are done, over these edges. The last one is the root.
+pub(crate) fn run_net<S: Source, K: FileSink, T: Scheduler<StageWork<S, K>>>(
+    scheduler: &T,
     nodes: Vec<Node<StageWork<S, K>>>,
     ins: InsList,
-    queues: Queues,
+    edges: T::Edges,
 ) -> Ran<S, K>
+    requires sound { T.sound scheduler.now }
     requires some { 0 < length nodes.items }
-    requires most { length nodes.items < 2 ^ 32 }
-    requires fresh { (i : ℕ) (n : node_type.Node (work_type.StageWork S K)) → slice_get nodes.items i ≡ Some n → IsFresh (shown (as_works S.Source K.Sink) (children ins i) n) }
+    requires few { length nodes.items ≤ 64 }
+    requires fresh { AreFresh (as_works S.Source K.Sink) ins nodes.items }
     requires forest { IsForest ins (length nodes.items - 1) }
-    requires queues { length queues.edges.items + 1 ≡ length nodes.items }
+    requires edges { (queue : ℕ) × T.fits (length nodes.items) queue edges }
     ensures later { AreLater S.Source K.Sink nodes.items result.nodes.items }
     ensures ran { IsRanTree (as_works S.Source K.Sink) ins nodes.items result.nodes.items }
-    ensures over { IsRanOver (as_works S.Source K.Sink) ins queues.capacity nodes.items result.nodes.items }
-    ensures enough { result.enough ≡ true → (i : ℕ) (n : node_type.Node (work_type.StageWork S K)) → slice_get result.nodes.items i ≡ Some n → is_short n.work ≡ false }
+    ensures over { (queue : ℕ) → T.fits (length nodes.items) queue edges
+        → T.besides queue ins nodes.items result.nodes.items }
+    ensures enough { result.enough ≡ true → NoneShort result.nodes.items }
     ensures short { result.enough ≡ false → RanShort nodes.items result.nodes.items }
 {
-    let nodes = run_tree(NodeList::new(nodes), ins, queues).into_vec();
+    let nodes = scheduler.run(NodeList::new(nodes), ins, edges).into_vec();
     let enough = !any_short(&nodes);
     Ran { nodes, enough }
 }
@@ -111,17 +107,20 @@ pub(crate) struct Alone<S, K: FileSink> {
 }
 
 /// Lets a leaf give all that it has, to no one.
-pub(crate) fn run_alone<S: Source, K: FileSink>(
+pub(crate) fn run_alone<S: Source, K: FileSink, T: Scheduler<StageWork<S, K>>>(
     alloc: Global,
+    scheduler: &T,
     node: Node<StageWork<S, K>>,
     queue: usize,
 ) -> Alone<S, K>
+    requires sound { T.sound scheduler.now }
     requires leaf { IsNewLeaf S.Source K.Sink node }
     requires room { 0 < queue }
     requires small { queue ≤ 64 }
     ensures later { IsLater S.Source K.Sink node result.node }
-    ensures ran { result.enough ≡ true → IsRanTree (as_works S.Source K.Sink) ([] ∷ []) (node ∷ []) (result.node ∷ []) }
-    ensures over { result.enough ≡ true → IsRanOver (as_works S.Source K.Sink) ([] ∷ []) queue (node ∷ []) (result.node ∷ []) }
+    ensures ran { result.enough ≡ true
+        → IsRanTree (as_works S.Source K.Sink) ([] ∷ []) (node ∷ []) (result.node ∷ []) }
+    ensures over { result.enough ≡ true → T.besides queue ([] ∷ []) (node ∷ []) (result.node ∷ []) }
     ensures enough { result.enough ≡ true → is_short result.node.work ≡ false }
 {
     let enough = false;
@@ -132,12 +131,12 @@ pub(crate) fn run_alone<S: Source, K: FileSink>(
     let Ok(mut nodes) = Vec::with_capacity(alloc, 1) else {
         return Alone { node, enough };
     };
-    let Ok(queues) = Queues::new(alloc, 0, queue) else {
+    let Ok(edges) = scheduler.edges(alloc, 1, queue) else {
         nodes.destroy_empty();
         return Alone { node, enough };
     };
     nodes.push_reserved(node);
-    let Ran { mut nodes, enough } = run_net(nodes, InsList::new(ins), queues);
+    let Ran { mut nodes, enough } = run_net(scheduler, nodes, InsList::new(ins), edges);
     let Some(node) = nodes.pop() else {
         unreachable!()
     };

@@ -1,17 +1,11 @@
 //! The parts of a tree of stages take turns, each as a net of its own.
 
-ghost use Rattle.std.specs.Prelude.{◌≡◌, ◌-◌, ◌<◌, ◌≤◌, ◌↔◌, ℕ, true, false, length, slice_get, Some, OnErr, OnOk};
+ghost use Rattle.std.specs.Prelude.{◌≡◌, ◌-◌, ◌<◌, ◌≤◌, ◌↔◌, true, false, length, slice_get, Some, OnErr, OnOk};
 ghost use Rattle.network_core.specs.declared.node.Node as node_type;
-ghost use Rattle.network_core.specs.Shown.{shown};
-ghost use Rattle.network_theory.specs.Forest.{IsForest, children};
-ghost use Rattle.network_theory.specs.Opening.{IsFresh};
-ghost use Rattle.stage_kinds.specs.Stages.{is_leaf};
-ghost use Rattle.stage_kinds.specs.declared.stage_work.StageWork as work_type;
-ghost use Rattle.stage_parts.specs.Parts.{is_of, part_ins};
-ghost use Rattle.stage_runs.specs.Works.{as_works};
-ghost use Rattle.stage_runs.specs.Parts.{IsExchanged, is_own, IsNewLeaf, IsRenewed, IsPartRun, IsLeafRun, IsGatheredAt, AreSameOrLater};
-ghost use Rattle.stage_forms.specs.Starts.{IsCollecting};
-ghost use Rattle.stage_runs.specs.Rooms.{IsRoom};
+ghost use Rattle.network_theory.specs.Forest.{IsForest};
+ghost use Rattle.stage_runs.specs.Parts.{AreFreshBefore, AreSameOrLater, CollectsAt, HasInputs};
+ghost use Rattle.stage_runs.specs.Parts.{is_own, IsExchanged, IsGatheredAt, IsLeafRun, IsNewLeafAt, IsPartRun, IsRenewed};
+ghost use Rattle.stage_runs.specs.Rooms.{IsRoom, part_of};
 ghost use Rattle.stage_runs.specs.Short.{RanShort};
 
 use crate::nets::{Alone, Ran, let_go, run_alone, run_net, stand_in};
@@ -21,6 +15,7 @@ use crate::sizes::Sizes;
 use cloud_points::Work;
 use file_devices::{FileSink, Source};
 use network_core::Node;
+use network_solo::Scheduler;
 use stage_kinds::StageWork;
 use std::alloc::{AllocError, Global};
 use std::mem;
@@ -29,7 +24,8 @@ use std::mem;
 fn exchange<T>(nodes: &mut [T], net: &mut [T], homes: &[u32], home: u32)
     requires net { length net.old ≤ length nodes.old }
     requires homes { length homes.now ≡ length nodes.old }
-    ensures { IsExchanged (is_own homes.now home (length net.old - 1)) (length net.old) nodes.old net.old nodes.new net.new }
+    ensures { IsExchanged (is_own homes.now home (length net.old - 1)) (length net.old)
+        nodes.old net.old nodes.new net.new }
 {
     let count = net.len();
     for k in 0..count {
@@ -43,14 +39,16 @@ fn exchange<T>(nodes: &mut [T], net: &mut [T], homes: &[u32], home: u32)
 fn lend<T>(nodes: &mut [T], net: &mut Vec<T>, homes: &[u32], home: u32)
     requires net { length net.old.items ≤ length nodes.old }
     requires homes { length homes.now ≡ length nodes.old }
-    ensures { IsExchanged (is_own homes.now home (length net.old.items - 1)) (length net.old.items) nodes.old net.old.items nodes.new net.new.items }
+    ensures { IsExchanged (is_own homes.now home (length net.old.items - 1)) (length net.old.items)
+        nodes.old net.old.items nodes.new net.new.items }
 {
     exchange(nodes, net.as_mut_slice(), homes, home);
 }
 
 /// Makes the root of a net new over its work, with so many inputs.
 fn renew_root<W: Work>(net: &mut Vec<Node<W>>, inputs: u32, chunk: usize)
-    requires leaf { (n : node_type.Node W) → slice_get net.old.items (length net.old.items - 1) ≡ Some n → (W.leaf n.work ≡ true) ↔ (inputs ≡ 0) }
+    requires leaf { (n : node_type.Node W) → slice_get net.old.items (length net.old.items - 1) ≡ Some n
+        → (W.leaf n.work ≡ true) ↔ (inputs ≡ 0) }
     requires some { 0 < chunk }
     requires most { chunk ≤ 64 }
     ensures { IsRenewed W.Work inputs net.old.items net.new.items }
@@ -70,31 +68,33 @@ fn refuse_unless(enough: bool) -> Result<(), AllocError>
 
 /// Lets the nodes of the part of a home take turns until all are done, in its memory. Each node stays at its place. Refuses only where
 /// memory is wanting at a node that takes whole views.
-pub(crate) fn run_part<S: Source, K: FileSink>(
+pub(crate) fn run_part<S: Source, K: FileSink, T: Scheduler<StageWork<S, K>>>(
+    scheduler: &T,
     nodes: &mut [Node<StageWork<S, K>>],
     plan: &Plan,
-    room: PartRoom<S, K>,
+    room: PartRoom<S, K, T::Edges>,
     home: u32,
     root: usize,
     sizes: Sizes,
 ) -> Result<(), AllocError>
+    requires sound { T.sound scheduler.now }
     requires root { root < length nodes.old }
     requires few { length nodes.old ≤ 64 }
     requires homes { length plan.now.homes.items ≡ length nodes.old }
-    requires room { IsRoom S.Source K.Sink (part_ins plan.now.gathers.items plan.now.ins plan.now.homes.items home root) root sizes.queue room }
-    requires forest { IsForest (part_ins plan.now.gathers.items plan.now.ins plan.now.homes.items home root) root }
-    requires fresh { (i : ℕ) (n : node_type.Node (work_type.StageWork S K)) → i < root → is_of plan.now.homes.items home i ≡ true → slice_get nodes.old i ≡ Some n
-        → IsFresh (shown (as_works S.Source K.Sink) (children (part_ins plan.now.gathers.items plan.now.ins plan.now.homes.items home root) i) n) }
-    requires inputs { (n : node_type.Node (work_type.StageWork S K)) → slice_get nodes.old root ≡ Some n
-        → (is_leaf n.work ≡ true) ↔ (length (children (part_ins plan.now.gathers.items plan.now.ins plan.now.homes.items home root) root) ≡ 0) }
+    requires room { IsRoom S.Source K.Sink T.fits (part_of plan.now home root) root sizes.queue room }
+    requires forest { IsForest (part_of plan.now home root) root }
+    requires fresh { AreFreshBefore S.Source K.Sink (part_of plan.now home root) plan.now.homes.items
+        home root nodes.old }
+    requires inputs { HasInputs S.Source K.Sink (part_of plan.now home root) root nodes.old }
     ensures later { AreSameOrLater S.Source K.Sink nodes.old nodes.new }
-    ensures run { OnOk result (IsPartRun S.Source K.Sink sizes.queue (part_ins plan.now.gathers.items plan.now.ins plan.now.homes.items home root) plan.now.homes.items home root nodes.old nodes.new) }
+    ensures run { OnOk result (IsPartRun S.Source K.Sink (T.besides sizes.queue) (part_of plan.now home root)
+        plan.now.homes.items home root nodes.old nodes.new) }
     ensures short { OnErr result (RanShort nodes.old nodes.new) }
 {
     let PartRoom {
         ins,
         mut net,
-        queues,
+        edges,
     } = room;
     let homes = plan.homes.as_slice();
     lend(nodes, &mut net, homes, home);
@@ -102,27 +102,29 @@ pub(crate) fn run_part<S: Source, K: FileSink>(
     let Ran {
         nodes: mut net,
         enough,
-    } = run_net(net, ins, queues);
+    } = run_net(scheduler, net, ins, edges);
     lend(nodes, &mut net, homes, home);
     let_go(net);
     refuse_unless(enough)
 }
 
-/// Lets a leaf give all that it has, to no one.
-pub(crate) fn run_leaf<S: Source, K: FileSink>(
+/// Lets a leaf give all that it has, to no one. Refuses only where memory is wanting.
+pub(crate) fn run_leaf<S: Source, K: FileSink, T: Scheduler<StageWork<S, K>>>(
     alloc: Global,
+    scheduler: &T,
     nodes: &mut [Node<StageWork<S, K>>],
     at: usize,
     sizes: Sizes,
 ) -> Result<(), AllocError>
+    requires sound { T.sound scheduler.now }
     requires inside { at < length nodes.old }
-    requires leaf { (n : node_type.Node (work_type.StageWork S K)) → slice_get nodes.old at ≡ Some n → IsNewLeaf S.Source K.Sink n }
+    requires leaf { IsNewLeafAt S.Source K.Sink at nodes.old }
     ensures later { AreSameOrLater S.Source K.Sink nodes.old nodes.new }
-    ensures run { OnOk result (IsLeafRun S.Source K.Sink sizes.queue at nodes.old nodes.new) }
+    ensures run { OnOk result (IsLeafRun S.Source K.Sink (T.besides sizes.queue) at nodes.old nodes.new) }
 {
     let empty = stand_in(alloc, sizes.chunk);
     let node = mem::replace(&mut nodes[at], empty);
-    let Alone { node, enough } = run_alone(alloc, node, sizes.queue);
+    let Alone { node, enough } = run_alone(alloc, scheduler, node, sizes.queue);
     mem::replace(&mut nodes[at], node).into_work().let_go();
     refuse_unless(enough)
 }
@@ -136,7 +138,7 @@ pub(crate) fn gather_at<S: Source, K: FileSink>(
     sizes: Sizes,
 ) -> Result<(), AllocError>
     requires inside { at < length nodes.old }
-    requires collects { (n : node_type.Node (work_type.StageWork S K)) → slice_get nodes.old at ≡ Some n → IsCollecting n.work }
+    requires collects { CollectsAt S.Source K.Sink at nodes.old }
     ensures later { AreSameOrLater S.Source K.Sink nodes.old nodes.new }
     ensures gathered { OnOk result (IsGatheredAt S.Source K.Sink at nodes.old nodes.new) }
 {

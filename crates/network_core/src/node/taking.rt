@@ -6,13 +6,12 @@ use chunk_queue::ItemKind;
 use cloud_points::Work;
 
 impl<W: Work> Node<W> {
-    ghost use Rattle.std.specs.Prelude.{◌≡◌, ◌<◌, ℕ, List, true, false, None, length};
+    ghost use Rattle.std.specs.Prelude.{◌≡◌, ◌<◌, true, false, None, length};
     ghost use Rattle.cloud_points.specs.Marks as marks;
     ghost use Rattle.chunk_queue.specs.Slots.{brings_points};
-    ghost use Rattle.network_theory.specs.Net as net;
     ghost use Rattle.network_theory.specs.History.{item_points};
     ghost use Rattle.network_core.specs.Hands.{kind_item};
-    ghost use Rattle.network_core.specs.Shown.{shown, chosen};
+    ghost use Rattle.network_core.specs.Table.{HasTaken};
     ghost use Rattle.network_core.specs.Calm.{Calm};
     ghost use Rattle.network_core.specs.Holding.{KeepsHolding, HoldsMore};
 
@@ -24,9 +23,10 @@ impl<W: Work> Node<W> {
         requires no_end { self.old.ending ≡ false }
         requires more { self.old.ended < self.old.inputs }
         requires some { brings_points kind ≡ true → 0 < length self.old.spread.items }
-        ensures taken { (ins : List ℕ) → shown W.Work ins self.new ≡ net.taken (chosen W.Work self.old self.new) (shown W.Work ins self.old) (kind_item kind self.old.spread.items) }
+        ensures taken { HasTaken W.Work self.old self.new (kind_item kind self.old.spread.items) }
         ensures calm { Calm W.Work self.old self.new }
-        ensures holds { HoldsMore W.Work self.old self.new (item_points (kind_item kind self.old.spread.items)) }
+        ensures holds { HoldsMore W.Work self.old self.new
+            (item_points (kind_item kind self.old.spread.items)) }
     {
         match kind {
             ItemKind::Points => self.take_points(),
@@ -42,7 +42,7 @@ impl<W: Work> Node<W> {
         requires undone { self.old.done ≡ false }
         requires no_end { self.old.ending ≡ false }
         requires some { 0 < length self.old.spread.items }
-        ensures taken { (ins : List ℕ) → shown W.Work ins self.new ≡ net.taken (chosen W.Work self.old self.new) (shown W.Work ins self.old) (marks.Points self.old.spread.items) }
+        ensures taken { HasTaken W.Work self.old self.new (marks.Points self.old.spread.items) }
         ensures calm { Calm W.Work self.old self.new }
         ensures holds { HoldsMore W.Work self.old self.new self.old.spread.items }
     {
@@ -59,7 +59,7 @@ impl<W: Work> Node<W> {
         requires hand { self.old.hand ≡ None }
         requires undone { self.old.done ≡ false }
         requires no_end { self.old.ending ≡ false }
-        ensures taken { (ins : List ℕ) → shown W.Work ins self.new ≡ net.taken (chosen W.Work self.old self.new) (shown W.Work ins self.old) marks.End_view }
+        ensures taken { HasTaken W.Work self.old self.new marks.End_view }
         ensures calm { Calm W.Work self.old self.new }
         ensures holds { KeepsHolding W.Work self.old self.new }
     {
@@ -78,7 +78,7 @@ impl<W: Work> Node<W> {
         requires undone { self.old.done ≡ false }
         requires no_end { self.old.ending ≡ false }
         requires more { self.old.ended < self.old.inputs }
-        ensures taken { (ins : List ℕ) → shown W.Work ins self.new ≡ net.taken (chosen W.Work self.old self.new) (shown W.Work ins self.old) (marks.End_all cut) }
+        ensures taken { HasTaken W.Work self.old self.new (marks.End_all cut) }
         ensures calm { Calm W.Work self.old self.new }
         ensures holds { KeepsHolding W.Work self.old self.new }
     {

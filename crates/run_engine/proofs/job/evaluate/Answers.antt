@@ -7,17 +7,17 @@ use Rattle.run_engine.proofs.job.evaluate.Goals as goal
 pub turn_works-requires-clause-room : goal.turn_works-requires-clause-room
 turn_works-requires-clause-room g c =
     let waits = c.requires.waits in
-    turns-room g.S.Source g.K.Sink c.args.stages.now waits.0 c.in-Turns.room (subst (IsWaiting g.S.Source g.K.Sink waits.0 c.args.stages.now) c.in-Turns.is waits.1)
+    turns-room g.S.Source g.K.Sink g.T.Scheduler.fits c.args.stages.now waits.0 c.in-Turns.room (subst (IsWaiting g.S.Source g.K.Sink g.T.Scheduler.fits waits.0 c.args.stages.now) c.in-Turns.is waits.1)
 
 pub unreachable-requires : goal.unreachable-requires
 unreachable-requires g c =
     let waits = c.requires.waits in
-    not-done g.S.Source g.K.Sink c.args.stages.now waits.0 c.in-Done.field-0 (subst (IsWaiting g.S.Source g.K.Sink waits.0 c.args.stages.now) c.in-Done.is waits.1)
+    not-done g.S.Source g.K.Sink g.T.Scheduler.fits c.args.stages.now waits.0 c.in-Done.field-0 (subst (IsWaiting g.S.Source g.K.Sink g.T.Scheduler.fits waits.0 c.args.stages.now) c.in-Done.is waits.1)
 
 pub unreachable-requires-in-Short : goal.unreachable-requires-in-Short
 unreachable-requires-in-Short g c =
     let waits = c.requires.waits in
-    not-short g.S.Source g.K.Sink c.args.stages.now waits.0 (subst (IsWaiting g.S.Source g.K.Sink waits.0 c.args.stages.now) c.in-Short.is waits.1)
+    not-short g.S.Source g.K.Sink g.T.Scheduler.fits c.args.stages.now waits.0 (subst (IsWaiting g.S.Source g.K.Sink g.T.Scheduler.fits waits.0 c.args.stages.now) c.in-Short.is waits.1)
 
 pub returns-in-Turns-clause-gathers : goal.returns-in-Turns-clause-gathers
 returns-in-Turns-clause-gathers g c = if-on-err c.turn_works.result.outcome c.turn_works.ensures.gathers (λ gathers turns. gathers)

@@ -1,7 +1,6 @@
 use Rattle.std.proofs.Common.{◌≡◌, ℕ, ◌-◌, ◌++◌, List, [], ◌∷◌, map, length, Some, slice_get, refl, ap, sym, subst, ◌∙◌}
 use Rattle.network_core.specs.declared.node.Node.{Node}
 use Rattle.network_core.specs.Shown.{shown}
-use Rattle.network_solo.specs.Runs.{IsRanOver}
 use Rattle.network_solo.specs.Trees.{IsRanTree}
 use Rattle.network_theory.specs.Forest.{IsForest, children}
 use Rattle.network_theory.specs.Opening.{IsFresh}
@@ -13,7 +12,7 @@ use Rattle.stage_runs.proofs.nets.run_alone.Goals as goal
 pub run_net-nodes-requires-clause-fresh : goal.run_net-nodes-requires-clause-fresh
 run_net-nodes-requires-clause-fresh g c =
     let one : c.push_reserved-2.new.self.items ≡ c.args.node ∷ [] = c.push_reserved-2.ensures.items ∙ ap (λ (xs : List (Node _)). xs ++ c.args.node ∷ []) c.in-Ok-with_capacity.ensures.items in
-    let ins : c.new-3.result ≡ [] ∷ [] = c.new-3.ensures ∙ ap (map (λ v. v.items)) (c.push_reserved.ensures.items ∙ ap (λ xs. xs ++ c.new.result ∷ []) c.in-Ok.ensures.items) ∙ ap (λ xs. xs ∷ []) c.new.ensures.items in
+    let ins : c.new-2.result ≡ [] ∷ [] = c.new-2.ensures ∙ ap (map (λ v. v.items)) (c.push_reserved.ensures.items ∙ ap (λ xs. xs ++ c.new.result ∷ []) c.in-Ok.ensures.items) ∙ ap (λ xs. xs ∷ []) c.new.ensures.items in
     subst (λ xss. (i : ℕ) (n : Node _) → slice_get c.push_reserved-2.new.self.items i ≡ Some n → IsFresh (shown (as_works g.S.Source g.K.Sink) (children xss i) n)) (sym ins)
     (subst (λ (ns : List (Node _)). (i : ℕ) (n : Node _) → slice_get ns i ≡ Some n → IsFresh (shown (as_works g.S.Source g.K.Sink) (children ([] ∷ []) i) n)) (sym one)
     (alone-fresh g.S.Source g.K.Sink c.args.node c.requires.leaf))
@@ -21,8 +20,13 @@ run_net-nodes-requires-clause-fresh g c =
 pub run_net-nodes-requires-clause-forest : goal.run_net-nodes-requires-clause-forest
 run_net-nodes-requires-clause-forest g c =
     let one : c.push_reserved-2.new.self.items ≡ c.args.node ∷ [] = c.push_reserved-2.ensures.items ∙ ap (λ (xs : List (Node _)). xs ++ c.args.node ∷ []) c.in-Ok-with_capacity.ensures.items in
-    let ins : c.new-3.result ≡ [] ∷ [] = c.new-3.ensures ∙ ap (map (λ v. v.items)) (c.push_reserved.ensures.items ∙ ap (λ xs. xs ++ c.new.result ∷ []) c.in-Ok.ensures.items) ∙ ap (λ xs. xs ∷ []) c.new.ensures.items in
+    let ins : c.new-2.result ≡ [] ∷ [] = c.new-2.ensures ∙ ap (map (λ v. v.items)) (c.push_reserved.ensures.items ∙ ap (λ xs. xs ++ c.new.result ∷ []) c.in-Ok.ensures.items) ∙ ap (λ xs. xs ∷ []) c.new.ensures.items in
     subst (λ xss. IsForest xss (length c.push_reserved-2.new.self.items - 1)) (sym ins) (subst (λ (ns : List (Node _)). IsForest ([] ∷ []) (length ns - 1)) (sym one) alone-forest)
+
+pub run_net-nodes-requires-clause-edges : goal.run_net-nodes-requires-clause-edges
+run_net-nodes-requires-clause-edges g c =
+    let one : c.push_reserved-2.new.self.items ≡ c.args.node ∷ [] = c.push_reserved-2.ensures.items ∙ ap (λ (xs : List (Node _)). xs ++ c.args.node ∷ []) c.in-Ok-with_capacity.ensures.items in
+    (c.args.queue, subst (λ n. g.T.Scheduler.fits n c.args.queue c.in-Ok-edges.edges) (sym (ap (λ (ns : List (Node _)). length ns) one)) c.in-Ok-edges.ensures)
 
 pub returns-clause-later : goal.returns-clause-later
 returns-clause-later g c =
@@ -35,7 +39,7 @@ returns-clause-later g c =
 pub returns-clause-ran : goal.returns-clause-ran
 returns-clause-ran g c = λ enough.
     let one : c.push_reserved-2.new.self.items ≡ c.args.node ∷ [] = c.push_reserved-2.ensures.items ∙ ap (λ (xs : List (Node _)). xs ++ c.args.node ∷ []) c.in-Ok-with_capacity.ensures.items in
-    let ins : c.new-3.result ≡ [] ∷ [] = c.new-3.ensures ∙ ap (map (λ v. v.items)) (c.push_reserved.ensures.items ∙ ap (λ xs. xs ++ c.new.result ∷ []) c.in-Ok.ensures.items) ∙ ap (λ xs. xs ∷ []) c.new.ensures.items in
+    let ins : c.new-2.result ≡ [] ∷ [] = c.new-2.ensures ∙ ap (map (λ v. v.items)) (c.push_reserved.ensures.items ∙ ap (λ xs. xs ++ c.new.result ∷ []) c.in-Ok.ensures.items) ∙ ap (λ xs. xs ∷ []) c.new.ensures.items in
     let size = ap (λ (ns : List (Node _)). length ns) one in
     let back : c.run_net-nodes.result.nodes.items ≡ c.in-Some.node ∷ [] = only-one c.pop.new.self.items c.run_net-nodes.result.nodes.items c.in-Some.node c.in-Some.ensures.items (c.run_net-nodes.ensures.later.count ∙ size) in
     subst (λ (ns : List (Node _)). IsRanTree (as_works g.S.Source g.K.Sink) ([] ∷ []) (c.args.node ∷ []) ns) back
@@ -45,13 +49,13 @@ returns-clause-ran g c = λ enough.
 pub returns-clause-over : goal.returns-clause-over
 returns-clause-over g c = λ enough.
     let one : c.push_reserved-2.new.self.items ≡ c.args.node ∷ [] = c.push_reserved-2.ensures.items ∙ ap (λ (xs : List (Node _)). xs ++ c.args.node ∷ []) c.in-Ok-with_capacity.ensures.items in
-    let ins : c.new-3.result ≡ [] ∷ [] = c.new-3.ensures ∙ ap (map (λ v. v.items)) (c.push_reserved.ensures.items ∙ ap (λ xs. xs ++ c.new.result ∷ []) c.in-Ok.ensures.items) ∙ ap (λ xs. xs ∷ []) c.new.ensures.items in
+    let ins : c.new-2.result ≡ [] ∷ [] = c.new-2.ensures ∙ ap (map (λ v. v.items)) (c.push_reserved.ensures.items ∙ ap (λ xs. xs ++ c.new.result ∷ []) c.in-Ok.ensures.items) ∙ ap (λ xs. xs ∷ []) c.new.ensures.items in
     let size = ap (λ (ns : List (Node _)). length ns) one in
     let back : c.run_net-nodes.result.nodes.items ≡ c.in-Some.node ∷ [] = only-one c.pop.new.self.items c.run_net-nodes.result.nodes.items c.in-Some.node c.in-Some.ensures.items (c.run_net-nodes.ensures.later.count ∙ size) in
-    subst (λ n. IsRanOver (as_works g.S.Source g.K.Sink) ([] ∷ []) n (c.args.node ∷ []) (c.in-Some.node ∷ [])) c.in-Ok-new.ensures.room
-    (subst (λ (ns : List (Node _)). IsRanOver (as_works g.S.Source g.K.Sink) ([] ∷ []) c.in-Ok-new.queues.capacity (c.args.node ∷ []) ns) back
-    (subst (λ (ns : List (Node _)). IsRanOver (as_works g.S.Source g.K.Sink) ([] ∷ []) c.in-Ok-new.queues.capacity ns c.run_net-nodes.result.nodes.items) one
-    (subst (λ xss. IsRanOver (as_works g.S.Source g.K.Sink) xss c.in-Ok-new.queues.capacity c.push_reserved-2.new.self.items c.run_net-nodes.result.nodes.items) ins c.run_net-nodes.ensures.over)))
+    subst (λ (ns : List (Node _)). g.T.Scheduler.besides c.args.queue ([] ∷ []) (c.args.node ∷ []) ns) back
+    (subst (λ (ns : List (Node _)). g.T.Scheduler.besides c.args.queue ([] ∷ []) ns c.run_net-nodes.result.nodes.items) one
+    (subst (λ xss. g.T.Scheduler.besides c.args.queue xss c.push_reserved-2.new.self.items c.run_net-nodes.result.nodes.items) ins
+    (c.run_net-nodes.ensures.over c.args.queue (subst (λ n. g.T.Scheduler.fits n c.args.queue c.in-Ok-edges.edges) (sym size) c.in-Ok-edges.ensures))))
 
 pub returns-clause-enough : goal.returns-clause-enough
 returns-clause-enough g c = λ enough.

@@ -1,6 +1,5 @@
 use Rattle.std.proofs.Common.{[], ◌∷◌, get_or, slice_set, ap, sym, subst, ◌∙◌}
 use Rattle.network_core.specs.declared.node.Node.{Node}
-use Rattle.network_solo.specs.Runs.{IsRanOver}
 use Rattle.network_solo.specs.Trees.{IsRanTree}
 use Rattle.stage_kinds.specs.Held.{op_of}
 use Rattle.stage_runs.specs.Works.{as_works}
@@ -37,9 +36,9 @@ returns-clause-run g c =
     let now = c.run_alone-node.result.node in
     let same = c.replace-node.ensures.value ∙ sym c.index-nodes-at.is in
     on-ok c.refuse_unless.result _ _ (λ enough.
-    subst (λ x. IsLeafRun g.S.Source g.K.Sink c.args.sizes.queue c.args.at nodes (slice_set (slice_set nodes c.args.at x) c.args.at c.replace.new.dest)) (sym c.replace-node.ensures.after)
-    (subst (λ x. IsLeafRun g.S.Source g.K.Sink c.args.sizes.queue c.args.at nodes (slice_set (slice_set nodes c.args.at c.stand_in-empty.result) c.args.at x)) (sym c.replace.ensures.after)
-    (lent-run g.S.Source g.K.Sink nodes c.args.at c.requires.inside n c.index-nodes-at.is c.stand_in-empty.result c.stand_in-empty.ensures.leaf now c.args.sizes.queue
+    subst (λ x. IsLeafRun g.S.Source g.K.Sink (g.T.Scheduler.besides c.args.sizes.queue) c.args.at nodes (slice_set (slice_set nodes c.args.at x) c.args.at c.replace.new.dest)) (sym c.replace-node.ensures.after)
+    (subst (λ x. IsLeafRun g.S.Source g.K.Sink (g.T.Scheduler.besides c.args.sizes.queue) c.args.at nodes (slice_set (slice_set nodes c.args.at c.stand_in-empty.result) c.args.at x)) (sym c.replace.ensures.after)
+    (lent-run g.S.Source g.K.Sink nodes c.args.at c.requires.inside n c.index-nodes-at.is c.stand_in-empty.result c.stand_in-empty.ensures.leaf now (g.T.Scheduler.besides c.args.sizes.queue)
     (subst (λ (x : Node _). IsRanTree (as_works g.S.Source g.K.Sink) ([] ∷ []) (x ∷ []) (now ∷ [])) same (c.run_alone-node.ensures.ran enough))
-    (subst (λ (x : Node _). IsRanOver (as_works g.S.Source g.K.Sink) ([] ∷ []) c.args.sizes.queue (x ∷ []) (now ∷ [])) same (c.run_alone-node.ensures.over enough))
+    (subst (λ (x : Node _). g.T.Scheduler.besides c.args.sizes.queue ([] ∷ []) (x ∷ []) (now ∷ [])) same (c.run_alone-node.ensures.over enough))
     (c.run_alone-node.ensures.enough enough)))) c.refuse_unless.ensures.enough

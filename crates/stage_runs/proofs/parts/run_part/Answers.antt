@@ -2,7 +2,7 @@ use Rattle.std.proofs.Common.{◌≡◌, length, ap, sym, ◌∙◌, arith}
 use Rattle.network_theory.specs.Forest.{children}
 use Rattle.stage_parts.specs.Parts.{part_ins}
 use Rattle.stage_runs.proofs.Answered.{on-err, on-ok}
-use Rattle.stage_runs.proofs.Lending.{left-size, root-leaf, renewed-size, net-fresh, net-forest, part-later, part-short, rest-op, part-run}
+use Rattle.stage_runs.proofs.Lending.{left-size, root-leaf, renewed-size, net-fresh, net-forest, part-later, part-short, rest-op, part-run, net-edges}
 use Rattle.stage_runs.proofs.Widths.{few-children}
 use Rattle.stage_runs.proofs.parts.run_part.Goals as goal
 
@@ -37,59 +37,57 @@ overflow_cast-children g c =
 
 pub renew_root-requires-clause-leaf : goal.renew_root-requires-clause-leaf
 renew_root-requires-clause-leaf g c =
-    root-leaf g.S.Source g.K.Sink c.args.plan.now c.args.room c.args.home c.args.root c.args.sizes.queue c.args.nodes.now c.requires.room c.requires.root c.requires.fresh c.as_slice-homes.ensures.value c.lend.ensures c.children.ensures c.requires.inputs
+    root-leaf g.S.Source g.K.Sink g.T.Scheduler.fits c.args.plan.now c.args.room c.args.home c.args.root c.args.sizes.queue c.args.nodes.now c.requires.room c.requires.root c.requires.fresh c.as_slice-homes.ensures.value c.lend.ensures c.children.ensures c.requires.inputs
 
 pub run_net-net-requires-clause-some : goal.run_net-net-requires-clause-some
 run_net-net-requires-clause-some g c =
-    let size = renewed-size g.S.Source g.K.Sink c.args.plan.now c.args.room c.args.home c.args.root c.args.sizes.queue c.args.nodes.now c.requires.room c.requires.root c.requires.fresh c.as_slice-homes.ensures.value c.lend.ensures c.children.ensures c.renew_root.ensures in
+    let size = renewed-size g.S.Source g.K.Sink g.T.Scheduler.fits c.args.plan.now c.args.room c.args.home c.args.root c.args.sizes.queue c.args.nodes.now c.requires.room c.requires.root c.requires.fresh c.as_slice-homes.ensures.value c.lend.ensures c.children.ensures c.renew_root.ensures in
     omega (arith, size)
 
-pub run_net-net-requires-clause-most : goal.run_net-net-requires-clause-most
-run_net-net-requires-clause-most g c =
-    let size = renewed-size g.S.Source g.K.Sink c.args.plan.now c.args.room c.args.home c.args.root c.args.sizes.queue c.args.nodes.now c.requires.room c.requires.root c.requires.fresh c.as_slice-homes.ensures.value c.lend.ensures c.children.ensures c.renew_root.ensures in
+pub run_net-net-requires-clause-few : goal.run_net-net-requires-clause-few
+run_net-net-requires-clause-few g c =
+    let size = renewed-size g.S.Source g.K.Sink g.T.Scheduler.fits c.args.plan.now c.args.room c.args.home c.args.root c.args.sizes.queue c.args.nodes.now c.requires.room c.requires.root c.requires.fresh c.as_slice-homes.ensures.value c.lend.ensures c.children.ensures c.renew_root.ensures in
     let inside = c.requires.root in
     let most = c.requires.few in
     omega (arith, size, inside, most)
 
 pub run_net-net-requires-clause-fresh : goal.run_net-net-requires-clause-fresh
 run_net-net-requires-clause-fresh g c =
-    net-fresh g.S.Source g.K.Sink c.args.plan.now c.args.room c.args.home c.args.root c.args.sizes.queue c.args.nodes.now c.requires.room c.requires.root c.requires.fresh c.as_slice-homes.ensures.value c.lend.ensures c.children.ensures c.renew_root.ensures
+    net-fresh g.S.Source g.K.Sink g.T.Scheduler.fits c.args.plan.now c.args.room c.args.home c.args.root c.args.sizes.queue c.args.nodes.now c.requires.room c.requires.root c.requires.fresh c.as_slice-homes.ensures.value c.lend.ensures c.children.ensures c.renew_root.ensures
 
 pub run_net-net-requires-clause-forest : goal.run_net-net-requires-clause-forest
 run_net-net-requires-clause-forest g c =
-    net-forest g.S.Source g.K.Sink c.args.plan.now c.args.room c.args.home c.args.root c.args.sizes.queue c.args.nodes.now c.requires.room c.requires.root c.requires.fresh c.as_slice-homes.ensures.value c.lend.ensures c.children.ensures c.renew_root.ensures c.requires.forest
+    net-forest g.S.Source g.K.Sink g.T.Scheduler.fits c.args.plan.now c.args.room c.args.home c.args.root c.args.sizes.queue c.args.nodes.now c.requires.room c.requires.root c.requires.fresh c.as_slice-homes.ensures.value c.lend.ensures c.children.ensures c.renew_root.ensures c.requires.forest
 
-pub run_net-net-requires-clause-queues : goal.run_net-net-requires-clause-queues
-run_net-net-requires-clause-queues g c =
-    let size = renewed-size g.S.Source g.K.Sink c.args.plan.now c.args.room c.args.home c.args.root c.args.sizes.queue c.args.nodes.now c.requires.room c.requires.root c.requires.fresh c.as_slice-homes.ensures.value c.lend.ensures c.children.ensures c.renew_root.ensures in
-    let below = c.requires.room.queues in
-    omega (arith, size, below)
+pub run_net-net-requires-clause-edges : goal.run_net-net-requires-clause-edges
+run_net-net-requires-clause-edges g c =
+    (c.args.sizes.queue, net-edges g.S.Source g.K.Sink g.T.Scheduler.fits c.args.plan.now c.args.room c.args.home c.args.root c.args.sizes.queue c.args.nodes.now c.requires.room c.requires.root c.requires.fresh c.as_slice-homes.ensures.value c.lend.ensures c.children.ensures c.renew_root.ensures)
 
 pub lend-requires-2-clause-net : goal.lend-requires-2-clause-net
 lend-requires-2-clause-net g c =
-    let size = renewed-size g.S.Source g.K.Sink c.args.plan.now c.args.room c.args.home c.args.root c.args.sizes.queue c.args.nodes.now c.requires.room c.requires.root c.requires.fresh c.as_slice-homes.ensures.value c.lend.ensures c.children.ensures c.renew_root.ensures in
-    let same = left-size g.S.Source g.K.Sink c.args.plan.now c.args.room c.args.home c.args.root c.args.sizes.queue c.args.nodes.now c.requires.room c.requires.root c.requires.fresh c.as_slice-homes.ensures.value c.lend.ensures c.children.ensures in
+    let size = renewed-size g.S.Source g.K.Sink g.T.Scheduler.fits c.args.plan.now c.args.room c.args.home c.args.root c.args.sizes.queue c.args.nodes.now c.requires.room c.requires.root c.requires.fresh c.as_slice-homes.ensures.value c.lend.ensures c.children.ensures c.renew_root.ensures in
+    let same = left-size g.S.Source g.K.Sink g.T.Scheduler.fits c.args.plan.now c.args.room c.args.home c.args.root c.args.sizes.queue c.args.nodes.now c.requires.room c.requires.root c.requires.fresh c.as_slice-homes.ensures.value c.lend.ensures c.children.ensures in
     let many = c.run_net-net.ensures.later.count in
     let inside = c.requires.root in
     omega (arith, size, many, same, inside)
 
 pub lend-requires-2-clause-homes : goal.lend-requires-2-clause-homes
 lend-requires-2-clause-homes g c =
-    ap (λ hs. length hs) c.as_slice-homes.ensures.value ∙ c.requires.homes ∙ sym (left-size g.S.Source g.K.Sink c.args.plan.now c.args.room c.args.home c.args.root c.args.sizes.queue c.args.nodes.now c.requires.room c.requires.root c.requires.fresh c.as_slice-homes.ensures.value c.lend.ensures c.children.ensures)
+    ap (λ hs. length hs) c.as_slice-homes.ensures.value ∙ c.requires.homes ∙ sym (left-size g.S.Source g.K.Sink g.T.Scheduler.fits c.args.plan.now c.args.room c.args.home c.args.root c.args.sizes.queue c.args.nodes.now c.requires.room c.requires.root c.requires.fresh c.as_slice-homes.ensures.value c.lend.ensures c.children.ensures)
 
 pub let_go-requires : goal.let_go-requires
 let_go-requires g c =
-    rest-op g.S.Source g.K.Sink c.args.plan.now c.args.room c.args.home c.args.root c.args.sizes.queue c.args.nodes.now c.requires.room c.requires.root c.requires.fresh c.as_slice-homes.ensures.value c.lend.ensures c.children.ensures c.renew_root.ensures c.run_net-net.ensures.later c.lend-2.ensures
+    rest-op g.S.Source g.K.Sink g.T.Scheduler.fits c.args.plan.now c.args.room c.args.home c.args.root c.args.sizes.queue c.args.nodes.now c.requires.room c.requires.root c.requires.fresh c.as_slice-homes.ensures.value c.lend.ensures c.children.ensures c.renew_root.ensures c.run_net-net.ensures.later c.lend-2.ensures
 
 pub returns-clause-later : goal.returns-clause-later
 returns-clause-later g c =
-    part-later g.S.Source g.K.Sink c.args.plan.now c.args.room c.args.home c.args.root c.args.sizes.queue c.args.nodes.now c.requires.room c.requires.root c.requires.fresh c.as_slice-homes.ensures.value c.lend.ensures c.children.ensures c.renew_root.ensures c.run_net-net.ensures.later c.lend-2.ensures
+    part-later g.S.Source g.K.Sink g.T.Scheduler.fits c.args.plan.now c.args.room c.args.home c.args.root c.args.sizes.queue c.args.nodes.now c.requires.room c.requires.root c.requires.fresh c.as_slice-homes.ensures.value c.lend.ensures c.children.ensures c.renew_root.ensures c.run_net-net.ensures.later c.lend-2.ensures
 
 pub returns-clause-run : goal.returns-clause-run
 returns-clause-run g c =
-    on-ok c.refuse_unless.result _ _ (λ enough. part-run g.S.Source g.K.Sink c.args.plan.now c.args.room c.args.home c.args.root c.args.sizes.queue c.args.nodes.now c.requires.room c.requires.root c.requires.fresh c.as_slice-homes.ensures.value c.lend.ensures c.children.ensures c.renew_root.ensures c.run_net-net.ensures.later c.lend-2.ensures
-    c.run_net-net.ensures.ran c.run_net-net.ensures.over (c.run_net-net.ensures.enough enough)) c.refuse_unless.ensures.enough
+    on-ok c.refuse_unless.result _ _ (λ enough. part-run g.S.Source g.K.Sink g.T.Scheduler.fits c.args.plan.now c.args.room c.args.home c.args.root c.args.sizes.queue c.args.nodes.now c.requires.room c.requires.root c.requires.fresh c.as_slice-homes.ensures.value c.lend.ensures c.children.ensures c.renew_root.ensures c.run_net-net.ensures.later c.lend-2.ensures
+    (g.T.Scheduler.besides c.args.sizes.queue) c.run_net-net.ensures.ran (c.run_net-net.ensures.over c.args.sizes.queue (net-edges g.S.Source g.K.Sink g.T.Scheduler.fits c.args.plan.now c.args.room c.args.home c.args.root c.args.sizes.queue c.args.nodes.now c.requires.room c.requires.root c.requires.fresh c.as_slice-homes.ensures.value c.lend.ensures c.children.ensures c.renew_root.ensures)) (c.run_net-net.ensures.enough enough)) c.refuse_unless.ensures.enough
 
 pub returns-clause-short : goal.returns-clause-short
 returns-clause-short g c =
-    on-err c.refuse_unless.result _ _ (λ short. part-short g.S.Source g.K.Sink c.args.plan.now c.args.room c.args.home c.args.root c.args.sizes.queue c.args.nodes.now c.requires.room c.requires.root c.requires.fresh c.as_slice-homes.ensures.value c.lend.ensures c.children.ensures c.renew_root.ensures c.run_net-net.ensures.later c.lend-2.ensures (c.run_net-net.ensures.short short)) c.refuse_unless.ensures.short
+    on-err c.refuse_unless.result _ _ (λ short. part-short g.S.Source g.K.Sink g.T.Scheduler.fits c.args.plan.now c.args.room c.args.home c.args.root c.args.sizes.queue c.args.nodes.now c.requires.room c.requires.root c.requires.fresh c.as_slice-homes.ensures.value c.lend.ensures c.children.ensures c.renew_root.ensures c.run_net-net.ensures.later c.lend-2.ensures (c.run_net-net.ensures.short short)) c.refuse_unless.ensures.short

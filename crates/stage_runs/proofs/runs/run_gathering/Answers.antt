@@ -15,7 +15,7 @@ loop-at-init g c =
     let new = c.requires.new in
     record {
       later = same-later g.S.Source g.K.Sink (ins_of c.args.stages.now) c.args.nodes.now (λ i n e. subst (λ xs. IsFresh (shown (as_works g.S.Source g.K.Sink) xs n)) (sym (children-are c.args.stages.now i)) (new.fresh i n e));
-      done = at-first g.S.Source g.K.Sink c.args.stages.now c.requires.tree c.requires.new c.args.plan.now c.requires.gathers c.requires.ins c.requires.homes c.args.sizes.queue;
+      done = at-first g.S.Source g.K.Sink c.args.stages.now c.requires.tree c.requires.new c.args.plan.now c.requires.gathers c.requires.ins c.requires.homes (g.T.Scheduler.besides c.args.sizes.queue);
       turned = refl;
     }
 
@@ -67,7 +67,7 @@ new-requires-clause-homes g c =
     homes-size stages plan.homes.items is.homes ∙ sym many
 
 pub returns-in_err-room-clause-gathers : goal.returns-in_err-room-clause-gathers
-returns-in_err-room-clause-gathers g c = always-on-err c.from_residual.result _ (gathers-one g.S.Source g.K.Sink c.args.stages.now c.requires.tree c.requires.new c.args.plan.now c.requires.gathers c.requires.ins c.requires.homes c.args.sizes.queue c.loop-at.at c.loop-at.invariant.later c.loop-at.invariant.done c.loop-at-test.true c.index.ensures c.if-index.true)
+returns-in_err-room-clause-gathers g c = always-on-err c.from_residual.result _ (gathers-one g.S.Source g.K.Sink c.args.stages.now c.requires.tree c.requires.new c.args.plan.now c.requires.gathers c.requires.ins c.requires.homes (g.T.Scheduler.besides c.args.sizes.queue) c.loop-at.at c.loop-at.invariant.later c.loop-at.invariant.done c.loop-at-test.true c.index.ensures c.if-index.true)
 
 pub run_part-requires-clause-room : goal.run_part-requires-clause-room
 run_part-requires-clause-room g c = c.in_ok-room.ensures
@@ -91,13 +91,13 @@ run_part-requires-clause-homes g c =
     homes-size stages plan.homes.items is.homes ∙ sym count
 
 pub run_part-requires-clause-forest : goal.run_part-requires-clause-forest
-run_part-requires-clause-forest g c = part-forest g.S.Source g.K.Sink c.args.stages.now c.requires.tree c.requires.new c.args.plan.now c.requires.gathers c.requires.ins c.requires.homes c.args.sizes.queue c.loop-at.at c.loop-at.invariant.later c.loop-at.invariant.done c.loop-at-test.true c.index.ensures c.if-index.true
+run_part-requires-clause-forest g c = part-forest g.S.Source g.K.Sink c.args.stages.now c.requires.tree c.requires.new c.args.plan.now c.requires.gathers c.requires.ins c.requires.homes (g.T.Scheduler.besides c.args.sizes.queue) c.loop-at.at c.loop-at.invariant.later c.loop-at.invariant.done c.loop-at-test.true c.index.ensures c.if-index.true
 
 pub run_part-requires-clause-fresh : goal.run_part-requires-clause-fresh
-run_part-requires-clause-fresh g c = part-fresh g.S.Source g.K.Sink c.args.stages.now c.requires.tree c.requires.new c.args.plan.now c.requires.gathers c.requires.ins c.requires.homes c.args.sizes.queue c.loop-at.at c.loop-at.invariant.later c.loop-at.invariant.done c.loop-at-test.true c.index.ensures c.if-index.true
+run_part-requires-clause-fresh g c = part-fresh g.S.Source g.K.Sink c.args.stages.now c.requires.tree c.requires.new c.args.plan.now c.requires.gathers c.requires.ins c.requires.homes (g.T.Scheduler.besides c.args.sizes.queue) c.loop-at.at c.loop-at.invariant.later c.loop-at.invariant.done c.loop-at-test.true c.index.ensures c.if-index.true
 
 pub run_part-requires-clause-inputs : goal.run_part-requires-clause-inputs
-run_part-requires-clause-inputs g c = part-inputs g.S.Source g.K.Sink c.args.stages.now c.requires.tree c.requires.new c.args.plan.now c.requires.gathers c.requires.ins c.requires.homes c.args.sizes.queue c.loop-at.at c.loop-at.invariant.later c.loop-at.invariant.done c.loop-at-test.true c.index.ensures c.if-index.true
+run_part-requires-clause-inputs g c = part-inputs g.S.Source g.K.Sink c.args.stages.now c.requires.tree c.requires.new c.args.plan.now c.requires.gathers c.requires.ins c.requires.homes (g.T.Scheduler.besides c.args.sizes.queue) c.loop-at.at c.loop-at.invariant.later c.loop-at.invariant.done c.loop-at-test.true c.index.ensures c.if-index.true
 
 pub returns-in_err-run_part-clause-later : goal.returns-in_err-run_part-clause-later
 returns-in_err-run_part-clause-later g c =
@@ -106,10 +106,10 @@ returns-in_err-run_part-clause-later g c =
     step-later s k c.args.nodes.now c.loop-at.nodes c.run_part.new.nodes c.loop-at.invariant.later c.run_part.ensures.later
 
 pub returns-in_err-run_part-clause-gathers : goal.returns-in_err-run_part-clause-gathers
-returns-in_err-run_part-clause-gathers g c = always-on-err c.from_residual-in_err-run_part.result _ (gathers-one g.S.Source g.K.Sink c.args.stages.now c.requires.tree c.requires.new c.args.plan.now c.requires.gathers c.requires.ins c.requires.homes c.args.sizes.queue c.loop-at.at c.loop-at.invariant.later c.loop-at.invariant.done c.loop-at-test.true c.index.ensures c.if-index.true)
+returns-in_err-run_part-clause-gathers g c = always-on-err c.from_residual-in_err-run_part.result _ (gathers-one g.S.Source g.K.Sink c.args.stages.now c.requires.tree c.requires.new c.args.plan.now c.requires.gathers c.requires.ins c.requires.homes (g.T.Scheduler.besides c.args.sizes.queue) c.loop-at.at c.loop-at.invariant.later c.loop-at.invariant.done c.loop-at-test.true c.index.ensures c.if-index.true)
 
 pub gather_at-requires-clause-collects : goal.gather_at-requires-clause-collects
-gather_at-requires-clause-collects g c = collects g.S.Source g.K.Sink c.args.stages.now c.requires.tree c.requires.new c.args.plan.now c.requires.gathers c.requires.ins c.requires.homes c.args.sizes.queue c.loop-at.at c.loop-at.invariant.later c.loop-at.invariant.done c.loop-at-test.true c.index.ensures c.if-index.true c.in_ok-run_part.ensures.run
+gather_at-requires-clause-collects g c = collects g.S.Source g.K.Sink c.args.stages.now c.requires.tree c.requires.new c.args.plan.now c.requires.gathers c.requires.ins c.requires.homes (g.T.Scheduler.besides c.args.sizes.queue) c.loop-at.at c.loop-at.invariant.later c.loop-at.invariant.done c.loop-at-test.true c.index.ensures c.if-index.true c.in_ok-run_part.ensures.run
 
 pub returns-in_err-gather_at-clause-later : goal.returns-in_err-gather_at-clause-later
 returns-in_err-gather_at-clause-later g c =
@@ -118,7 +118,7 @@ returns-in_err-gather_at-clause-later g c =
     step-later s k c.args.nodes.now c.run_part.new.nodes c.gather_at.new.nodes (step-later s k c.args.nodes.now c.loop-at.nodes c.run_part.new.nodes c.loop-at.invariant.later c.run_part.ensures.later) c.gather_at.ensures.later
 
 pub returns-in_err-gather_at-clause-gathers : goal.returns-in_err-gather_at-clause-gathers
-returns-in_err-gather_at-clause-gathers g c = always-on-err c.from_residual-in_err-gather_at.result _ (gathers-one g.S.Source g.K.Sink c.args.stages.now c.requires.tree c.requires.new c.args.plan.now c.requires.gathers c.requires.ins c.requires.homes c.args.sizes.queue c.loop-at.at c.loop-at.invariant.later c.loop-at.invariant.done c.loop-at-test.true c.index.ensures c.if-index.true)
+returns-in_err-gather_at-clause-gathers g c = always-on-err c.from_residual-in_err-gather_at.result _ (gathers-one g.S.Source g.K.Sink c.args.stages.now c.requires.tree c.requires.new c.args.plan.now c.requires.gathers c.requires.ins c.requires.homes (g.T.Scheduler.besides c.args.sizes.queue) c.loop-at.at c.loop-at.invariant.later c.loop-at.invariant.done c.loop-at-test.true c.index.ensures c.if-index.true)
 
 pub loop-at-preserved : goal.loop-at-preserved
 loop-at-preserved g c =
@@ -127,19 +127,19 @@ loop-at-preserved g c =
     let stages = c.args.stages.now in
     let homes = c.args.plan.now.homes.items in
     let old = c.args.nodes.now in
-    let queue = c.args.sizes.queue in
+    let besides = g.T.Scheduler.besides c.args.sizes.queue in
     let now = c.loop-at.nodes in
     let at = c.loop-at.at in
     elim c.if-index.branch [
-      | then-index+in_ok-room+in_ok-run_part+in_ok-gather_at w ↦ subst (λ ns. record { later : AreLater s k old ns; done : AreRunBefore s k stages homes old (at + 1) ns; turned : AreTurned s k stages homes old queue (at + 1) ns }) (sym w.nodes-is) (record {
+      | then-index+in_ok-room+in_ok-run_part+in_ok-gather_at w ↦ subst (λ ns. record { later : AreLater s k old ns; done : AreRunBefore s k stages homes old (at + 1) ns; turned : AreTurned s k stages homes old besides (at + 1) ns }) (sym w.nodes-is) (record {
         later = step-later s k old w.run_part.new.nodes w.gather_at.new.nodes (step-later s k old now w.run_part.new.nodes c.loop-at.invariant.later w.run_part.ensures.later) w.gather_at.ensures.later;
-        done = taken-turn g.S.Source g.K.Sink c.args.stages.now c.requires.tree c.requires.new c.args.plan.now c.requires.gathers c.requires.ins c.requires.homes c.args.sizes.queue c.loop-at.at c.loop-at.invariant.later c.loop-at.invariant.done c.loop-at-test.true c.index.ensures w.if-index.true w.in_ok-run_part.ensures.run w.in_ok-gather_at.ensures.gathered;
-        turned = turned-on g.S.Source g.K.Sink c.args.stages.now c.requires.tree c.requires.new c.args.plan.now c.requires.gathers c.requires.ins c.requires.homes c.args.sizes.queue c.loop-at.at c.loop-at.invariant.later c.loop-at.invariant.done c.loop-at-test.true c.index.ensures w.if-index.true w.in_ok-run_part.ensures.run w.in_ok-gather_at.ensures.gathered c.loop-at.invariant.turned;
+        done = taken-turn g.S.Source g.K.Sink c.args.stages.now c.requires.tree c.requires.new c.args.plan.now c.requires.gathers c.requires.ins c.requires.homes (g.T.Scheduler.besides c.args.sizes.queue) c.loop-at.at c.loop-at.invariant.later c.loop-at.invariant.done c.loop-at-test.true c.index.ensures w.if-index.true w.in_ok-run_part.ensures.run w.in_ok-gather_at.ensures.gathered;
+        turned = turned-on g.S.Source g.K.Sink c.args.stages.now c.requires.tree c.requires.new c.args.plan.now c.requires.gathers c.requires.ins c.requires.homes (g.T.Scheduler.besides c.args.sizes.queue) c.loop-at.at c.loop-at.invariant.later c.loop-at.invariant.done c.loop-at-test.true c.index.ensures w.if-index.true w.in_ok-run_part.ensures.run w.in_ok-gather_at.ensures.gathered c.loop-at.invariant.turned;
       })
-      | else-index w ↦ subst (λ ns. record { later : AreLater s k old ns; done : AreRunBefore s k stages homes old (at + 1) ns; turned : AreTurned s k stages homes old queue (at + 1) ns }) (sym w.nodes-is) (record {
+      | else-index w ↦ subst (λ ns. record { later : AreLater s k old ns; done : AreRunBefore s k stages homes old (at + 1) ns; turned : AreTurned s k stages homes old besides (at + 1) ns }) (sym w.nodes-is) (record {
         later = c.loop-at.invariant.later;
-        done = skipped g.S.Source g.K.Sink c.args.stages.now c.requires.tree c.requires.new c.args.plan.now c.requires.gathers c.requires.ins c.requires.homes c.args.sizes.queue c.loop-at.at c.loop-at.invariant.later c.loop-at.invariant.done c.loop-at-test.true c.index.ensures w.if-index.false;
-        turned = turned-over g.S.Source g.K.Sink c.args.stages.now c.requires.tree c.requires.new c.args.plan.now c.requires.gathers c.requires.ins c.requires.homes c.args.sizes.queue c.loop-at.at c.loop-at.invariant.later c.loop-at.invariant.done c.loop-at-test.true c.index.ensures w.if-index.false c.loop-at.invariant.turned;
+        done = skipped g.S.Source g.K.Sink c.args.stages.now c.requires.tree c.requires.new c.args.plan.now c.requires.gathers c.requires.ins c.requires.homes (g.T.Scheduler.besides c.args.sizes.queue) c.loop-at.at c.loop-at.invariant.later c.loop-at.invariant.done c.loop-at-test.true c.index.ensures w.if-index.false;
+        turned = turned-over g.S.Source g.K.Sink c.args.stages.now c.requires.tree c.requires.new c.args.plan.now c.requires.gathers c.requires.ins c.requires.homes (g.T.Scheduler.besides c.args.sizes.queue) c.loop-at.at c.loop-at.invariant.later c.loop-at.invariant.done c.loop-at-test.true c.index.ensures w.if-index.false c.loop-at.invariant.turned;
       })
     ]
 
@@ -151,4 +151,4 @@ returns-clause-done g c =
 pub returns-clause-turned : goal.returns-clause-turned
 returns-clause-turned g c =
     let at-end : c.loop-at.at ≡ length c.args.stages.now = (let a = c.loop-at.auto.at-end in let b = c.loop-at-test.false in omega (arith, a, b)) in
-    subst (λ n. AreTurned g.S.Source g.K.Sink c.args.stages.now c.args.plan.now.homes.items c.args.nodes.now c.args.sizes.queue n c.loop-at.nodes) at-end c.loop-at.invariant.turned
+    subst (λ n. AreTurned g.S.Source g.K.Sink c.args.stages.now c.args.plan.now.homes.items c.args.nodes.now (g.T.Scheduler.besides c.args.sizes.queue) n c.loop-at.nodes) at-end c.loop-at.invariant.turned

@@ -5,5 +5,5 @@ abbrev pub invariant-loop-at : goal.invariant-loop-at
 invariant-loop-at g l = record {
   later : AreLater g.S.Source g.K.Sink l.initial.nodes l.nodes;
   done : AreRunBefore g.S.Source g.K.Sink l.stages l.plan.homes.items l.initial.nodes l.at l.nodes;
-  turned : AreTurned g.S.Source g.K.Sink l.stages l.plan.homes.items l.initial.nodes l.sizes.queue l.at l.nodes;
+  turned : AreTurned g.S.Source g.K.Sink l.stages l.plan.homes.items l.initial.nodes (g.T.Scheduler.besides l.sizes.queue) l.at l.nodes;
 }

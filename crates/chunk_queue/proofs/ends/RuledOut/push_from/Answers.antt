@@ -1,6 +1,8 @@
 use Rattle.std.proofs.Common.{List, ap, sym, ◌∙◌, length}
 use Rattle.cloud_points.specs.declared.item.Item.{Item}
 use Rattle.cloud_points.specs.Queue.{up_to_limit}
+use Rattle.crossbeam_queue.specs.Passes.{ruled_capacity}
+use Rattle.chunk_queue.specs.declared.ends.Channel.{Channel}
 use Rattle.chunk_queue.specs.declared.known.Known.{Known}
 use Rattle.chunk_queue.specs.Rule.{item_number, item_ends}
 use Rattle.chunk_queue.specs.Ends.{OutSeen, ended}
@@ -11,8 +13,9 @@ pub push_as-requires-clause-rule : goal.push_as-requires-clause-rule
 push_as-requires-clause-rule g c =
     let same = c.is_full_as.ensures.queue.1 in
     let role = ap (λ (v : Known Item). v.sends) same ∙ c.self.invariant.role in
+    let line = ap (λ (ch : Channel). ruled_capacity ch.line) (sym c.deref-3.ensures) in
     let sent = ap (λ (v : Known Item). v.sent) same ∙ ap (λ (o : OutSeen). o.sent) c.self.view_is in (
-      sends item_number item_ends _ _ _ _ role (ap (λ (v : Known Item). v.room) same ∙ c.self.invariant.room) (ap ended sent ∙ c.requires.goes_on)
+      sends item_number item_ends _ _ _ _ role (ap (λ (v : Known Item). v.room) same ∙ c.self.invariant.room ∙ line) (ap ended sent ∙ c.requires.goes_on)
           (ap item_number c.new-parcel.ensures ∙ c.requires.number ∙ sym (ap (λ (l : List Item). up_to_limit (length l)) sent)),
       looks-sent item_number item_ends _ _ role,
     )

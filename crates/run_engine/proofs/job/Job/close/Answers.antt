@@ -49,7 +49,7 @@ returns-in-Err-clause-left g c = λ m ran.
 
 pub returns-in-Err-clause-refused : goal.returns-in-Err-clause-refused
 returns-in-Err-clause-refused g c = λ refusal came.
-    let met : refusal_for c.in-Done.ended.faults.items ≡ Some refusal = subst (CameTo {S = g.row.S.Denot} {K = g.row.K.Denot} refusal) c.in-Done.is came in
+    let met : refusal_for c.in-Done.ended.faults.items ≡ Some refusal = subst (CameTo {S = g.row.S.Denot} {K = g.row.K.Denot} {E = g.row.E.Denot} refusal) c.in-Done.is came in
     let found : refusal_for c.in-Done.ended.faults.items ≡ Some c.in-Err.refusal = subst (λ fs. refusal_for fs ≡ Some c.in-Err.refusal) c.as_slice.ensures.value c.in-Err.ensures.err in
     let both : Some c.in-Err.refusal ≡ Some refusal = sym found ∙ met in
     let same : c.in-Err.refusal ≡ refusal = cc in
@@ -94,7 +94,7 @@ returns-in-Err-outcome-clause-lent g c =
 
 pub returns-in-Err-outcome-clause-refused : goal.returns-in-Err-outcome-clause-refused
 returns-in-Err-outcome-clause-refused g c = λ refusal came.
-    let met : refusal_for c.in-Done.ended.faults.items ≡ Some refusal = subst (CameTo {S = g.row.S.Denot} {K = g.row.K.Denot} refusal) c.in-Done.is came in
+    let met : refusal_for c.in-Done.ended.faults.items ≡ Some refusal = subst (CameTo {S = g.row.S.Denot} {K = g.row.K.Denot} {E = g.row.E.Denot} refusal) c.in-Done.is came in
     let none : refusal_for c.in-Done.ended.faults.items ≡ None = subst (λ fs. refusal_for fs ≡ None) c.as_slice.ensures.value c.in_default.ensures.ok in
     let no : None ≡ Some refusal = sym none ∙ met in
     absurd cc
@@ -155,7 +155,7 @@ returns-in-Err-keep_works-clause-left g c = λ m ran.
 
 pub returns-in-Err-keep_works-clause-refused : goal.returns-in-Err-keep_works-clause-refused
 returns-in-Err-keep_works-clause-refused g c = λ refusal came.
-    let met : refusal_for c.in-Done.ended.faults.items ≡ Some refusal = subst (CameTo {S = g.row.S.Denot} {K = g.row.K.Denot} refusal) c.in-Done.is came in
+    let met : refusal_for c.in-Done.ended.faults.items ≡ Some refusal = subst (CameTo {S = g.row.S.Denot} {K = g.row.K.Denot} {E = g.row.E.Denot} refusal) c.in-Done.is came in
     let none : refusal_for c.in-Done.ended.faults.items ≡ None = subst (λ fs. refusal_for fs ≡ None) c.as_slice.ensures.value c.in_default.ensures.ok in
     let no : None ≡ Some refusal = sym none ∙ met in
     absurd cc
@@ -199,7 +199,7 @@ returns-in-Ok-clause-ok g c = λ m ran.
 
 pub returns-in-Ok-clause-refused : goal.returns-in-Ok-clause-refused
 returns-in-Ok-clause-refused g c = λ refusal came.
-    let met : refusal_for c.in-Done.ended.faults.items ≡ Some refusal = subst (CameTo {S = g.row.S.Denot} {K = g.row.K.Denot} refusal) c.in-Done.is came in
+    let met : refusal_for c.in-Done.ended.faults.items ≡ Some refusal = subst (CameTo {S = g.row.S.Denot} {K = g.row.K.Denot} {E = g.row.E.Denot} refusal) c.in-Done.is came in
     let none : refusal_for c.in-Done.ended.faults.items ≡ None = subst (λ fs. refusal_for fs ≡ None) c.as_slice.ensures.value c.in_default.ensures.ok in
     let no : None ≡ Some refusal = sym none ∙ met in
     absurd cc

@@ -2,14 +2,16 @@ use Rattle.std.proofs.Common.{ap, ◌∙◌}
 use Rattle.stage_parts.specs.Parts.{part_ins}
 use Rattle.stage_runs.proofs.rooms.PartRoom.new.Goals as goal
 
-pub returns : goal.returns
-returns g c =
+pub returns-in-Ok : goal.returns-in-Ok
+returns-in-Ok g c =
     let plan = c.args.plan.now in
     record {
       ins = c.in_ok-ins.ensures
           ∙ ap (λ gs. part_ins gs plan.ins c.as_slice-homes.result.now c.args.home c.args.root) c.as_slice-gathers.ensures.value
           ∙ ap (λ hs. part_ins plan.gathers.items plan.ins hs c.args.home c.args.root) c.as_slice-homes.ensures.value;
       net = c.in_ok-net.ensures;
-      queues = c.in_ok-queues.ensures.count;
-      capacity = c.in_ok-queues.ensures.room;
+      edges = c.in-Ok.ensures;
     }
+
+pub let_go-requires : goal.let_go-requires
+let_go-requires g c = λ i n e. (c.in_ok-net.ensures.each i n e).0.op

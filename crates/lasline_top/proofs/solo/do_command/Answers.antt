@@ -1,6 +1,6 @@
 use Rattle.std.proofs.Common.{Err, refl, ap}
 use Rattle.lasline_top.proofs.Called.{done_answered, refused_answered}
-use Rattle.lasline_top.proofs.solo.lasline_solo.Goals as goal
+use Rattle.lasline_top.proofs.solo.do_command.Goals as goal
 
 pub returns-in-Ok : goal.returns-in-Ok
 returns-in-Ok g c = record {

@@ -10,7 +10,7 @@ use Rattle.run_engine.specs.Jobs.{HaveCome, IsShort, IsWaiting, TakesTurns}
 use Rattle.run_engine.proofs.Answers.{same-held}
 use Rattle.run_engine.proofs.Inputs.{few-stages}
 use Rattle.run_engine.proofs.Waiting.{on-err}
-use Rattle.run_engine.proofs.job.Job.run_solo.Goals as goal
+use Rattle.run_engine.proofs.job.Job.run.Goals as goal
 
 pub evaluate-works-requires-clause-few : goal.evaluate-works-requires-clause-few
 evaluate-works-requires-clause-few g c = few-stages c.args.stages.now c.requires.tree
@@ -25,7 +25,7 @@ evaluate-works-requires-clause-count g c = ap (λ works. length works.items) c.r
 pub evaluate-works-requires-clause-waits : goal.evaluate-works-requires-clause-waits
 evaluate-works-requires-clause-waits g c =
     let engine = c.requires.ready.0 in
-    (engine, subst (IsWaiting g.S.Source g.K.Sink engine c.args.stages.now) (sym c.replace-step.ensures.value) c.requires.ready.2.waits)
+    (engine, subst (IsWaiting g.S.Source g.K.Sink g.T.Scheduler.fits engine c.args.stages.now) (sym c.replace-step.ensures.value) c.requires.ready.2.waits)
 
 pub returns-in_err-ended-clause-ran : goal.returns-in_err-ended-clause-ran
 returns-in_err-ended-clause-ran g c = λ engine map ready.
@@ -51,7 +51,7 @@ returns-in_err-ended-clause-held g c =
 
 pub returns-in_err-ended-clause-short : goal.returns-in_err-ended-clause-short
 returns-in_err-ended-clause-short g c =
-    let short : IsShort c.replace-step.new.dest = subst (IsShort {S = g.row.S.Denot} {K = g.row.K.Denot}) (sym c.replace-step.ensures.after) tt in
+    let short : IsShort c.replace-step.new.dest = subst (IsShort {S = g.row.S.Denot} {K = g.row.K.Denot} {E = g.row.E.Denot}) (sym c.replace-step.ensures.after) tt in
     let refused : c.from_residual.result ≡ Err c.in_err-ended.field-0.0 = search rules in
     subst (λ r. OnErr r (IsShort c.replace-step.new.dest)) (sym refused) short
 
@@ -61,7 +61,7 @@ returns-in_err-ended-clause-gathers g c =
     let came : c.evaluate-works.result.outcome ≡ Err c.in_err-ended.field-0.0 = search rules in
     let gathers = on-err c.evaluate-works.result.outcome c.in_err-ended.field-0.0 came c.evaluate-works.ensures.gathers in
     subst (λ r. OnErr r (TakesTurns c.args.self.now.step → SomeGathers c.args.stages.now)) (sym refused)
-    (λ turns. gathers (subst (TakesTurns {S = g.row.S.Denot} {K = g.row.K.Denot}) (sym c.replace-step.ensures.value) turns))
+    (λ turns. gathers (subst (TakesTurns {S = g.row.S.Denot} {K = g.row.K.Denot} {E = g.row.E.Denot}) (sym c.replace-step.ensures.value) turns))
 
 pub returns-clause-ran : goal.returns-clause-ran
 returns-clause-ran g c = λ engine map ready.

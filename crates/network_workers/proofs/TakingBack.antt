@@ -1,0 +1,484 @@
+-- A node is taken back from its worker, and the queues to its children are settled.
+use Rattle.std.proofs.Common.{◌≡◌, ◌≢◌, ℕ, zero, suc, ◌+◌, ◌-◌, ◌%◌, ◌<◌, ◌≤◌, inl, inr, true, cond, List, [], ◌∷◌, ◌++◌, length, take, drop, Option, Some, None, is_none, get_or, set, map, replicate, refl, ap, subst, sym, ◌∙◌, arith, length-append, drop-cons}
+use Rattle.std.proofs.Math.Path.{fun_ext}
+use Rattle.std.specs.Prelude.{◌==◌, vec_len, slice_get}
+use Rattle.std.proofs.lemmas.Bool.Decides.{eqb_tells}
+use Rattle.std.proofs.lemmas.Bool.{eq-eqb, cases_lt}
+use Rattle.std.proofs.lemmas.List.{drop_all, get_or-replicate, length-map, get_or-map, length-set, length_push, get_or_append_left, get_or_push, take_at, same_from_push, get_or-append-add}
+use Rattle.std.proofs.lemmas.Option.{slice_get_within, get_or_from_slice_get}
+use Rattle.cloud_points.specs.declared.point.Point.{Point}
+use Rattle.cloud_points.specs.declared.work.Work.{Ghosts}
+use Rattle.cloud_points.specs.Bodies.{bodies}
+use Rattle.cloud_points.specs.Marks.{Mark, all_marks}
+use Rattle.chunk_queue.specs.Ends.{InSeen, OutSeen, ended}
+use Rattle.network_theory.specs.Shape as shape
+use Rattle.network_theory.specs.Forest.{children, count_all, IsForest}
+use Rattle.network_theory.proofs.JoinTree.{of_child}
+use Rattle.network_core.specs.declared.node.Node.{Node}
+use Rattle.network_core.proofs.Opened.{some_at}
+use Rattle.network_solo.specs.Trees.{AreFresh}
+use Rattle.network_workers.specs.declared.seats.Seat.{Seat}
+use Rattle.network_workers.specs.declared.seats.SeatIn.{SeatIn}
+use Rattle.network_workers.specs.declared.seats.Deal.{Deal}
+use Rattle.network_workers.specs.Dealt.{Place, Hand, hand_of, empty_hand, seat_of, entries, with_place, dealt, places, picked, AreOpened, HandsCarry}
+use Rattle.network_workers.specs.Ends.{end_of, got_on, got_of, sent_on, EntryGrew, InGrew, OutGrew}
+use Rattle.network_workers.specs.Lists.{Each}
+use Rattle.network_workers.specs.Gathered.{marks_of, child_sent, NodeCarries, AreCarried, Opened, IsStart, IsKept, AreTakenBack, AreOver, IsSettled, EdgesFrom, without, AreOnce}
+use Rattle.network_workers.specs.Seats.{node_of, IsFit, SeatsCarry, DealFits, DealsFit, DealsCarry, AreDone, DealsDone}
+use Rattle.network_workers.proofs.Carrying.{fit-still}
+use Rattle.network_workers.proofs.Children.{counted-more, IsOnlyChild, only-child}
+use Rattle.network_workers.proofs.Counted.{dealt-length}
+use Rattle.network_workers.proofs.Dealing.{TakenBack, append-none, entries-other, grew-none}
+use Rattle.network_workers.proofs.EndsOf.{end-grew, ne-eqb}
+use Rattle.network_workers.proofs.Fits.{append-second}
+use Rattle.network_workers.proofs.HandsBack.{each-at, each-from, picked-unread, entries-unread, picked-length, picked-at, grew-length, grew-at, end-here, end-past, dealt-own, last-back, rest-back}
+use Rattle.network_workers.proofs.Joining.{all-closed, seat-joins}
+use Rattle.network_workers.proofs.Lists.{each-one}
+use Rattle.network_workers.proofs.LastEnds.{without-other, length-without}
+
+-- lists with one element more
+get-before : {X : Type 0} (xs : List X) (y : X) (k : ℕ) → k < length xs → slice_get (xs ++ y ∷ []) k ≡ slice_get xs k
+get-before [] y k l = absurd (omega (arith, l))
+get-before (x ∷ xs) y zero l = refl
+get-before (x ∷ xs) y (suc k) l = get-before xs y k (omega (arith, l))
+
+get-behind : {X : Type 0} (xs : List X) (y : X) → slice_get (xs ++ y ∷ []) (length xs) ≡ Some y
+get-behind [] y = refl
+get-behind (x ∷ xs) y = get-behind xs y
+
+not-both : {X : Type 0} {B : Type 0} (o : Option X) (x : X) → o ≡ None → o ≡ Some x → B
+not-both None x e f = cc
+not-both (Some y) x e f = cc
+
+one_thing : {X : Type 0} {a b : X} → Some a ≡ Some b → a ≡ b
+one_thing e = cc
+
+-- what the child at an input sent
+child-same : (a b : ℕ → List (Mark Point)) (cs : List ℕ) (i : ℕ) → ((c : ℕ) → slice_get cs i ≡ Some c → a c ≡ b c) → child_sent a cs i ≡ child_sent b cs i
+child-same a b cs i h = by_child (slice_get cs i) refl
+  where
+    by_child : (o : Option ℕ) → slice_get cs i ≡ o → marks_of a o ≡ marks_of b o
+    by_child None e = refl
+    by_child (Some c) e = h c e
+
+child-of : (sent : ℕ → List (Mark Point)) (cs : List ℕ) (i : ℕ) → child_sent sent cs i ≡ of_child sent cs i
+child-of sent [] i = refl
+child-of sent (c ∷ cs) zero = refl
+child-of sent (c ∷ cs) (suc i) = child-of sent cs i
+
+pub all-children : (sent : ℕ → List (Mark Point)) (cs : List ℕ) → child_sent sent cs ≡ of_child sent cs
+all-children sent cs = fun_ext (λ i. child-of sent cs i)
+
+-- the two ends of a queue since its start
+over-grew : (o : OutSeen) (i : InSeen) (out : Option OutSeen) (inn : InSeen) → OutGrew (Some o) out → InGrew i inn → o.queue ≡ i.queue → ended inn.got ≡ true → AreOver out inn
+over-grew o i None inn h j q e = absurd h
+over-grew o i (Some out) inn h j q e = (ap (λ (z : OutSeen). z.queue) h ∙ q ∙ sym (ap (λ (z : InSeen). z.queue) j), e)
+
+module _ {W S : Type 0} (g : Ghosts W S) (start : Opened W) (ins : List (List ℕ)) (root place : ℕ) (opened : AreOpened root start.outs start.inns) (size : length start.nodes ≡ root + 1)
+    (fresh : AreFresh g ins start.nodes) (forest : IsForest ins root) (deals : List (Deal W)) (workers : 0 < length deals) (nodes : List (Node W)) (outs : List (Option OutSeen))
+    (h : AreTakenBack g start ins place deals nodes outs) (n : Node W) (node : slice_get start.nodes place ≡ Some n) (d : Deal W) where
+  abbrev cs : List ℕ
+  cs = children ins place
+
+  abbrev w : ℕ
+  w = place % length deals
+
+  abbrev x : Place W
+  x = record { stage = place; node = n; out = slice_get start.outs place; ins = picked start.inns (children ins place) }
+
+  abbrev hands : List (Hand W)
+  hands = dealt (length deals) (suc place) (places (suc place) (drop (suc place) start.nodes) ins start.outs start.inns)
+
+  abbrev hand : Hand W
+  hand = get_or hands w empty_hand
+
+  abbrev deal : Deal W
+  deal = get_or deals w d
+
+  within : place ≤ root
+  within = let l = slice_get_within start.nodes place n node in omega (arith, l, size)
+
+  rest-is : drop place start.nodes ≡ n ∷ drop (suc place) start.nodes
+  rest-is =
+      drop-cons start.nodes place n (slice_get_within start.nodes place n node)
+      ∙ ap (λ (z : Node W). z ∷ drop (suc place) start.nodes) (get_or_from_slice_get start.nodes place n n node)
+
+  carried-hands : HandsCarry g (set hands w (with_place x hand)) deals
+  carried-hands = subst (λ ns. HandsCarry g (dealt (length deals) place (places place ns ins start.outs start.inns)) deals) rest-is h.hands
+
+  in-hands : w < length hands
+  in-hands = let l = dealt-length (length deals) (suc place) (places (suc place) (drop (suc place) start.nodes) ins start.outs start.inns) in omega (arith, l, workers)
+
+  in-deals : w < length deals
+  in-deals = omega (arith, workers)
+
+  back : TakenBack g x hand (hand_of deal)
+  back = last-back g hands w x deals in-hands carried-hands d
+
+  -- the children and the ends above them
+  child-at : (k : ℕ) → k < length cs → IsOnlyChild ins root place (get_or cs k 0)
+  child-at = only-child ins root place forest within
+
+  children-in : shape.Each (λ c. c < length start.inns) cs
+  children-in = each-from (λ c. c < length start.inns) cs (λ k l. let b = (child-at k l).inside in let e = opened.count.1 in omega (arith, b, e))
+
+  count-ins : length (picked start.inns cs) ≡ length cs
+  count-ins = picked-length start.inns cs children-in
+
+  count-ends : length back.ends ≡ length cs
+  count-ends = grew-length (length hand.seats) 0 (picked start.inns cs) back.ends back.grew ∙ count-ins
+
+  first-is : length deal.ins.items - length cs ≡ length back.rest.ins
+  first-is =
+      let all : length deal.ins.items ≡ length (back.rest.ins ++ back.ends) = ap (λ (ys : List SeatIn). length ys) back.ins_are in
+      let two = length-append back.rest.ins back.ends in let c = count-ends in omega (arith, all, two, c)
+
+  pub room : length cs ≤ length deal.ins.items
+  room =
+      let all : length deal.ins.items ≡ length (back.rest.ins ++ back.ends) = ap (λ (ys : List SeatIn). length ys) back.ins_are in
+      let two = length-append back.rest.ins back.ends in let c = count-ends in omega (arith, all, two, c)
+
+  pub some-seat : 0 < length deal.seats.items
+  some-seat =
+      let all : length deal.seats.items ≡ length (back.rest.seats ++ back.seat ∷ []) = ap (λ (ys : List (Seat W)). length ys) back.seats_are in
+      let two = length_push back.rest.seats back.seat in omega (arith, all, two)
+
+  end-is : (k : ℕ) (e : SeatIn) → get_or deal.ins.items (length deal.ins.items - length cs + k) e ≡ get_or back.ends k e
+  end-is k e =
+      ap (λ i. get_or deal.ins.items (i + k) e) first-is ∙ ap (λ ys. get_or ys (length back.rest.ins + k) e) back.ins_are
+      ∙ get_or-append-add back.rest.ins back.ends k e
+
+  own-hand : (k : ℕ) → end_of hand.ins (length hand.seats) k ≡ None
+  own-hand k = dealt-own (length deals) (suc place) (places (suc place) (drop (suc place) start.nodes) ins start.outs start.inns) workers w empty_hand in-deals (length hand.seats) k (omega arith)
+
+  own-front : (k : ℕ) → end_of back.rest.ins (length hand.seats) k ≡ None
+  own-front k = grew-none (end_of hand.ins (length hand.seats) k) (end_of back.rest.ins (length hand.seats) k) (end-grew hand.ins back.rest.ins (length hand.seats) k back.others.ends) (own-hand k)
+
+  end-of-input : (k : ℕ) (e : SeatIn) → k < length cs → end_of deal.ins.items (length hand.seats) k ≡ Some (get_or back.ends k e).end
+  end-of-input k e l =
+      ap (λ ys. end_of ys (length hand.seats) k) back.ins_are ∙ append-second back.rest.ins back.ends (length hand.seats) k (own-front k)
+      ∙ ap (end_of back.ends (length hand.seats)) {x = k} {y = 0 + k} (omega arith)
+      ∙ end-here (length hand.seats) 0 (picked start.inns cs) back.ends back.grew k e (let c = count-ins in omega (arith, l, c))
+
+  end-of-past : (k : ℕ) → length cs ≤ k → end_of deal.ins.items (length hand.seats) k ≡ None
+  end-of-past k l =
+      ap (λ ys. end_of ys (length hand.seats) k) back.ins_are ∙ append-second back.rest.ins back.ends (length hand.seats) k (own-front k)
+      ∙ ap (end_of back.ends (length hand.seats)) {x = k} {y = 0 + k} (omega arith)
+      ∙ end-past (length hand.seats) 0 (picked start.inns cs) back.ends back.grew k (let c = count-ins in omega (arith, l, c))
+
+  -- the seat
+  count-rest : length back.rest.seats ≡ length hand.seats
+  count-rest = back.others.seats.len
+
+  seat-is : (s : Seat W) → get_or deal.seats.items (length hand.seats) s ≡ back.seat
+  seat-is s = ap (λ ys. get_or ys (length hand.seats) s) back.seats_are ∙ get_or_push back.rest.seats back.seat s (length hand.seats) count-rest
+
+  in-seats : length hand.seats < length deal.seats.items
+  in-seats =
+      let all : length deal.seats.items ≡ length (back.rest.seats ++ back.seat ∷ []) = ap (λ (ys : List (Seat W)). length ys) back.seats_are in
+      let two = length_push back.rest.seats back.seat in let c = count-rest in omega (arith, all, two, c)
+
+  seat-fit : IsFit g deal.ins.items (length hand.seats) back.seat
+  seat-fit = subst (λ (s : Seat W). IsFit g deal.ins.items (length hand.seats) s) (seat-is back.seat) (h.fit w d in-deals (length hand.seats) back.seat in-seats)
+
+  seat-done : (node_of back.seat).done ≡ true
+  seat-done = subst (λ (s : Seat W). (node_of s).done ≡ true) (seat-is back.seat) (h.done w d in-deals (length hand.seats) back.seat in-seats)
+
+  seat-inputs : (node_of back.seat).inputs ≡ length cs
+  seat-inputs = back.here.calm.inputs ∙ (fresh place n node).inputs
+
+  ended-here : (k : ℕ) (e : SeatIn) → k < length cs → ended (get_or back.ends k e).end.got ≡ true
+  ended-here k e l =
+      ap (λ o. ended (got_on o)) (sym (end-of-input k e l))
+      ∙ all-closed g deal.ins.items (length hand.seats) back.seat seat-fit seat-done k (let i = seat-inputs in omega (arith, l, i))
+
+  kept-child : (k : ℕ) → k < length cs → IsKept (slice_get start.outs (get_or cs k 0)) (get_or outs (get_or cs k 0) None) (h.sent (get_or cs k 0))
+  kept-child k l = h.kept (get_or cs k 0) (child-at k l).below (child-at k l).none
+
+  pub over : EdgesFrom AreOver outs cs (length deal.ins.items - length cs) deal.ins.items
+  over k e l =
+      let b = (child-at k l).inside in
+      let o = some_at start.outs (get_or cs k 0) (let z = opened.count.0 in omega (arith, b, z)) in
+      let i = some_at start.inns (get_or cs k 0) (let z = opened.count.1 in omega (arith, b, z)) in
+      let first : get_or (picked start.inns cs) k i.0 ≡ i.0 = picked-at start.inns cs children-in k i.0 l ∙ get_or_from_slice_get start.inns (get_or cs k 0) i.0 i.0 i.1 in
+      let grew : EntryGrew (record { seat = length hand.seats; input = 0 + k; end = get_or (picked start.inns cs) k i.0 }) (get_or back.ends k e) =
+      grew-at (length hand.seats) 0 (picked start.inns cs) back.ends back.grew k i.0 e (let c = count-ins in omega (arith, l, c)) in
+      subst (λ (y : SeatIn). AreOver (get_or outs (get_or cs k 0) None) y.end) (sym (end-is k e))
+      (over-grew o.0 i.0 (get_or outs (get_or cs k 0) None) (get_or back.ends k e).end
+      (subst (λ z. OutGrew z (get_or outs (get_or cs k 0) None)) o.1 (kept-child k l).grew)
+      (subst (λ z. InGrew z (get_or back.ends k e).end) first grew.end)
+      (opened.same (get_or cs k 0) o.0 i.0 o.1 i.1) (ended-here k e l))
+
+  pub once : AreOnce cs
+  once k l = (child-at k l).once
+
+  -- at the start nothing was sent or got
+  unread-inns : (k : ℕ) (e : InSeen) → slice_get start.inns k ≡ Some e → e.got ≡ []
+  unread-inns k e f =
+      let l = slice_get_within start.inns k e f in
+      let o = some_at start.outs k (let a = opened.count.0 in let b = opened.count.1 in omega (arith, l, a, b)) in
+      (opened.nothing k o.0 e o.1 f).1
+
+  unread : (k : ℕ) → got_of (hand.ins ++ entries (length hand.seats) 0 x.ins) (length hand.seats) k ≡ []
+  unread k =
+      ap got_on (append-second hand.ins (entries (length hand.seats) 0 x.ins) (length hand.seats) k (own-hand k))
+      ∙ entries-unread (length hand.seats) 0 x.ins (picked-unread start.inns cs unread-inns) (length hand.seats) k
+
+  unsent : sent_on x.out ≡ []
+  unsent = by_end (slice_get start.outs place) refl
+    where
+      by_end : (o : Option OutSeen) → slice_get start.outs place ≡ o → sent_on o ≡ []
+      by_end None e = refl
+      by_end (Some o) e =
+          let l = slice_get_within start.outs place o e in
+          let i = some_at start.inns place (let a = opened.count.0 in let b = opened.count.1 in omega (arith, l, a, b)) in
+          (opened.nothing place o i.0 e i.1).0
+
+  root-is : is_none x.out ≡ (place + 1 == length start.nodes)
+  root-is = by_end (slice_get start.outs place) refl
+    where
+      by_end : (o : Option OutSeen) → slice_get start.outs place ≡ o → is_none o ≡ (place + 1 == length start.nodes)
+      by_end None e = sym (eq-eqb (place + 1) (length start.nodes) (let l = root-reached e in omega (arith, l, size)))
+        where
+          root-reached : slice_get start.outs place ≡ None → place ≡ root
+          root-reached e = elim (eqb_tells place root) [
+            | inl p ↦ p.1
+            | inr p ↦ (let ne : place ≢ root = p.1 in let b = within in let c = opened.count.0 in let s = some_at start.outs place (omega (arith, ne, b, c)) in not-both (slice_get start.outs place) s.0 e s.1)
+          ]
+      by_end (Some o) e = sym (ne-eqb (place + 1) (length start.nodes) (λ q. absurd (let l = slice_get_within start.outs place o e in let c = opened.count.0 in omega (arith, q, l, c, size))))
+
+  -- this place is back, with the deal that is left
+  module _ (y : Deal W) (seat : Seat W) (seats : deal.seats.items ≡ y.seats.items ++ seat ∷ []) (ends : y.ins.items ≡ take (length deal.ins.items - length cs) deal.ins.items)
+      (settled : EdgesFrom IsSettled outs cs (length deal.ins.items - length cs) deal.ins.items) where
+    same-seats : (y.seats.items ≡ back.rest.seats) × (seat ≡ back.seat)
+    same-seats = same_from_push y.seats.items back.rest.seats seat back.seat (sym seats ∙ back.seats_are)
+
+    same-ins : y.ins.items ≡ back.rest.ins
+    same-ins = ends ∙ ap (take (length deal.ins.items - length cs)) back.ins_are ∙ take_at back.rest.ins back.ends (length deal.ins.items - length cs) (sym first-is)
+
+    abbrev sent_now : ℕ → List (Mark Point)
+    sent_now k = cond (k == place) (all_marks (bodies (sent_on seat.out))) (h.sent k)
+
+    sent-before : (k : ℕ) → k < place → sent_now k ≡ h.sent k
+    sent-before k l = ap (λ b. cond b (all_marks (bodies (sent_on seat.out))) (h.sent k)) (ne-eqb k place (λ e. absurd (omega (arith, l, e))))
+
+    sent-here : sent_now place ≡ all_marks (bodies (sent_on seat.out))
+    sent-here = ap (λ b. cond b (all_marks (bodies (sent_on seat.out))) (h.sent place)) (eq-eqb place place refl)
+
+    child-below : (k i c : ℕ) → slice_get (children ins k) i ≡ Some c → c < k
+    child-below k i c e =
+        subst (λ z. z < k) (get_or_from_slice_get (children ins k) i c 0 e)
+        (each-at (λ j. j < k) (children ins k) i (forest.below k) (slice_get_within (children ins k) i c e))
+
+    children-before : (k : ℕ) → k ≤ place → child_sent h.sent (children ins k) ≡ child_sent sent_now (children ins k)
+    children-before k l = fun_ext (λ i. child-same h.sent sent_now (children ins k) i (λ c e. sym (sent-before c (let b = child-below k i c e in omega (arith, b, l)))))
+
+    -- what was got of each child is what it sent
+    got-sent : (k : ℕ) (e : SeatIn) → k < length cs → (get_or back.ends k e).end.got ≡ sent_on (get_or outs (get_or cs k 0) None)
+    got-sent k e l = ap (λ (z : SeatIn). z.end.got) (sym (end-is k e)) ∙ settled k e l
+
+    brought : (k : ℕ) → all_marks (bodies (got_of deal.ins.items (length hand.seats) k)) ≡ of_child h.sent cs k
+    brought k = by_child (slice_get cs k) refl ∙ child-of h.sent cs k
+      where
+        by_child : (o : Option ℕ) → slice_get cs k ≡ o → all_marks (bodies (got_of deal.ins.items (length hand.seats) k)) ≡ child_sent h.sent cs k
+        by_child None e =
+            ap (λ o. all_marks (bodies (got_on o))) (end-of-past k (past e)) ∙ ap (marks_of h.sent) (sym e)
+          where
+            past : slice_get cs k ≡ None → length cs ≤ k
+            past e = elim (cases_lt k (length cs)) [ inl l ↦ (let s = some_at cs k l in not-both (slice_get cs k) s.0 e s.1) | inr l ↦ l ]
+        by_child (Some c) e =
+            let l = slice_get_within cs k c e in
+            let i = some_at back.ends k (let n = count-ends in omega (arith, l, n)) in
+            let same : get_or cs k 0 ≡ c = get_or_from_slice_get cs k c 0 e in
+            ap (λ o. all_marks (bodies (got_on o))) (end-of-input k i.0 l) ∙ ap (λ xs. all_marks (bodies xs)) (got-sent k i.0 l)
+            ∙ sym (kept-child k l).all ∙ ap h.sent same ∙ ap (marks_of h.sent) (sym e)
+
+    carried-here : NodeCarries g (place + 1 == length start.nodes) n seat.node (child_sent sent_now cs) (sent_now place)
+    carried-here =
+        let c : NodeCarries g (is_none x.out) n back.seat.node (of_child h.sent cs) (all_marks (bodies (sent_on back.seat.out))) =
+        seat-joins g (hand.ins ++ entries (length hand.seats) 0 x.ins) deal.ins.items (length hand.seats) (seat_of x) back.seat back.here seat-fit seat-done unread unsent h.sent cs brought in
+        subst (λ r. NodeCarries g r n seat.node (child_sent sent_now cs) (sent_now place)) root-is
+        (subst (λ t. NodeCarries g (is_none x.out) n seat.node t (sent_now place)) (sym (all-children h.sent cs) ∙ children-before place (omega arith))
+        (subst (λ s. NodeCarries g (is_none x.out) n seat.node (of_child h.sent cs) s) (sym sent-here)
+        (subst (λ (s : Seat W). NodeCarries g (is_none x.out) n s.node (of_child h.sent cs) (all_marks (bodies (sent_on s.out)))) (sym same-seats.1) c)))
+
+    carried-next : (k : ℕ) (a b : Node W) → slice_get start.nodes k ≡ Some a → slice_get (nodes ++ seat.node ∷ []) k ≡ Some b
+        → NodeCarries g (k + 1 == length start.nodes) a b (child_sent sent_now (children ins k)) (sent_now k)
+    carried-next k a b e f = elim (eqb_tells k place) [ inl p ↦ at-place p.1 | inr p ↦ before p.1 ]
+      where
+        last-is : slice_get (nodes ++ seat.node ∷ []) place ≡ Some seat.node
+        last-is = ap (slice_get (nodes ++ seat.node ∷ [])) (sym h.counts.0) ∙ get-behind nodes seat.node
+
+        at-place : k ≡ place → NodeCarries g (k + 1 == length start.nodes) a b (child_sent sent_now (children ins k)) (sent_now k)
+        at-place p =
+            let old : n ≡ a = one_thing (sym node ∙ ap (slice_get start.nodes) (sym p) ∙ e) in
+            let new : seat.node ≡ b = one_thing (sym last-is ∙ ap (slice_get (nodes ++ seat.node ∷ [])) (sym p) ∙ f) in
+            subst (λ j. NodeCarries g (j + 1 == length start.nodes) a b (child_sent sent_now (children ins j)) (sent_now j)) (sym p)
+            (subst (λ z. NodeCarries g (place + 1 == length start.nodes) z b (child_sent sent_now cs) (sent_now place)) old
+            (subst (λ z. NodeCarries g (place + 1 == length start.nodes) n z (child_sent sent_now cs) (sent_now place)) new carried-here))
+
+        before : k ≢ place → NodeCarries g (k + 1 == length start.nodes) a b (child_sent sent_now (children ins k)) (sent_now k)
+        before p =
+            let l : k < place = (let i = slice_get_within (nodes ++ seat.node ∷ []) k b f in let m = length_push nodes seat.node in let c = h.counts.0 in let ne : k ≢ place = p in omega (arith, i, m, c, ne)) in
+            let c = h.carried k a b e (sym (get-before nodes seat.node k (let c = h.counts.0 in omega (arith, l, c))) ∙ f) in
+            subst (λ t. NodeCarries g (k + 1 == length start.nodes) a b t (sent_now k)) (children-before k (omega (arith, l)))
+            (subst (λ s. NodeCarries g (k + 1 == length start.nodes) a b (child_sent h.sent (children ins k)) s) (sym (sent-before k l)) c)
+
+    kept-next : (k : ℕ) → k < suc place → count_all k (take (suc place) ins) ≡ 0 → IsKept (slice_get start.outs k) (get_or (without outs cs ++ seat.out ∷ []) k None) (sent_now k)
+    kept-next k l none = elim (eqb_tells k place) [ inl p ↦ at-place p.1 | inr p ↦ before p.1 ]
+      where
+        size-left : length (without outs cs) ≡ place
+        size-left = length-without outs cs ∙ h.counts.1
+
+        at-place : k ≡ place → IsKept (slice_get start.outs k) (get_or (without outs cs ++ seat.out ∷ []) k None) (sent_now k)
+        at-place p =
+            let last : get_or (without outs cs ++ seat.out ∷ []) place None ≡ seat.out = get_or_push (without outs cs) seat.out None place size-left in
+            subst (λ j. IsKept (slice_get start.outs j) (get_or (without outs cs ++ seat.out ∷ []) j None) (sent_now j)) (sym p)
+            (record {
+              grew = subst (OutGrew (slice_get start.outs place)) (sym last) (subst (λ (s : Seat W). OutGrew (slice_get start.outs place) s.out) (sym same-seats.1) back.here.out);
+              all = sent-here ∙ ap (λ o. all_marks (bodies (sent_on o))) (sym last);
+            })
+
+        before : k ≢ place → IsKept (slice_get start.outs k) (get_or (without outs cs ++ seat.out ∷ []) k None) (sent_now k)
+        before p =
+            let b : k < place = (let ne : k ≢ place = p in omega (arith, l, ne)) in
+            let more = counted-more k ins place (let s = forest.nodes in let i = within in omega (arith, s, i)) in
+            let old = h.kept k b (omega (arith, none, more)) in
+            let still : get_or (without outs cs ++ seat.out ∷ []) k None ≡ get_or outs k None =
+            get_or_append_left (without outs cs) (seat.out ∷ []) None k (let s = size-left in omega (arith, b, s)) ∙ without-other outs cs k (omega (arith, none, more)) in
+            record {
+              grew = subst (OutGrew (slice_get start.outs k)) (sym still) old.grew;
+              all = sent-before k b ∙ old.all ∙ ap (λ o. all_marks (bodies (sent_on o))) (sym still);
+            }
+
+    -- the seats that are left
+    seats-left : (k : ℕ) (e : Seat W) → k < length y.seats.items → get_or deal.seats.items k e ≡ get_or y.seats.items k e
+    seats-left k e l = ap (λ ys. get_or ys k e) seats ∙ get_or_append_left y.seats.items (seat ∷ []) e k l
+
+    more-seats : (k : ℕ) → k < length y.seats.items → (k < length deal.seats.items) × (k < length hand.seats)
+    more-seats k l =
+        let all : length deal.seats.items ≡ length (y.seats.items ++ seat ∷ []) = ap (λ (ys : List (Seat W)). length ys) seats in
+        let two = length_push y.seats.items seat in
+        let rest : length y.seats.items ≡ length back.rest.seats = ap (λ (ys : List (Seat W)). length ys) same-seats.0 in
+        let c = count-rest in (omega (arith, l, all, two), omega (arith, l, rest, c))
+
+    ends-left : (s k : ℕ) → s < length hand.seats → end_of y.ins.items s k ≡ end_of deal.ins.items s k
+    ends-left s k l =
+        let none : end_of back.ends s k ≡ None = grew-none (end_of (entries (length hand.seats) 0 x.ins) s k) (end_of back.ends s k)
+        (end-grew (entries (length hand.seats) 0 x.ins) back.ends s k back.grew) (entries-other (length hand.seats) 0 s k x.ins (λ e. absurd (omega (arith, l, e)))) in
+        ap (λ ys. end_of ys s k) same-ins ∙ sym (ap (λ ys. end_of ys s k) back.ins_are ∙ append-none back.rest.ins back.ends s k none)
+
+    fit-left : DealFits g y
+    fit-left k e l =
+        let m = more-seats k l in
+        subst (λ (s : Seat W). IsFit g y.ins.items k s) (seats-left k e l)
+        (fit-still g deal.ins.items y.ins.items k (get_or deal.seats.items k e) (λ i. ends-left k i m.1) (h.fit w d in-deals k e m.0))
+
+    done-left : AreDone y.seats.items
+    done-left k e l = subst (λ (s : Seat W). (node_of s).done ≡ true) (seats-left k e l) (h.done w d in-deals k e (more-seats k l).0)
+
+    hands-left : HandsCarry g (dealt (length (set deals w y)) (suc place) (places (suc place) (drop (suc place) start.nodes) ins start.outs start.inns)) (set deals w y)
+    hands-left =
+        subst (λ l. HandsCarry g (dealt l (suc place) (places (suc place) (drop (suc place) start.nodes) ins start.outs start.inns)) (set deals w y)) (sym (length-set deals w y))
+        (rest-back g hands w x deals in-hands carried-hands d y
+        (subst (λ es. SeatsCarry g hand.ins es hand.seats y.seats.items) (sym same-ins) (subst (λ ss. SeatsCarry g hand.ins back.rest.ins hand.seats ss) (sym same-seats.0) back.others)))
+
+    pub one-more-back : AreTakenBack g start ins (suc place) (set deals w y) (nodes ++ seat.node ∷ []) (without outs cs ++ seat.out ∷ [])
+    one-more-back = record {
+      hands = hands-left;
+      fit = each-one (λ j e. DealFits g e) deals w y fit-left (λ j e l ne. h.fit j e l);
+      done = each-one (λ j (e : Deal W). AreDone e.seats.items) deals w y done-left (λ j e l ne. h.done j e l);
+      counts = (
+        (let a = length_push nodes seat.node in let b = h.counts.0 in omega (arith, a, b)),
+        (let a = length_push (without outs cs) seat.out in let b = h.counts.1 in let c = length-without outs cs in omega (arith, a, b, c)),
+      );
+      sent = sent_now;
+      carried = carried-next;
+      kept = kept-next;
+    }
+
+-- the same as the code meets it
+module _ {W S : Type 0} (g : Ghosts W S) (start : Opened W) (ins : List (List ℕ)) (ok : IsStart g ins start) (place : ℕ) (inside : place < length start.nodes) (deals : List (Deal W))
+    (workers : 0 < length deals) (nodes : List (Node W)) (outs : List (Option OutSeen)) (h : AreTakenBack g start ins place deals nodes outs) (count : ℕ) (counted : count ≡ length deals)
+    (deal : Deal W) (here : deal ≡ get_or deals (place % count) deal) (cs : List ℕ) (childs : cs ≡ children ins place) where
+  root : ℕ
+  root = length start.nodes - 1
+
+  size : length start.nodes ≡ length start.nodes - 1 + 1
+  size = let s = ok.some in omega (arith, s)
+
+  node_at : (n : Node W) × (slice_get start.nodes place ≡ Some n)
+  node_at = some_at start.nodes place inside
+
+  there : get_or deals (place % length deals) deal ≡ deal
+  there = sym (here ∙ ap (λ n. get_or deals (place % n) deal) counted)
+
+  pub seat-there : 0 < length deal.seats.items
+  seat-there = subst (λ (z : Deal W). 0 < length z.seats.items) there
+      (some-seat g start ins (length start.nodes - 1) place ok.opened size ok.fresh ok.forest deals workers nodes outs h node_at.0 node_at.1 deal)
+
+  pub ends-there : length cs ≤ length deal.ins.items
+  ends-there = subst (λ xs. length xs ≤ length deal.ins.items) (sym childs) (subst (λ (z : Deal W). length (children ins place) ≤ length z.ins.items) there
+      (room g start ins (length start.nodes - 1) place ok.opened size ok.fresh ok.forest deals workers nodes outs h node_at.0 node_at.1 deal))
+
+  pub children-once : AreOnce cs
+  children-once = subst (λ xs. AreOnce xs) (sym childs)
+      (once g start ins (length start.nodes - 1) place ok.opened size ok.fresh ok.forest deals workers nodes outs h node_at.0 node_at.1 deal)
+
+  pub edges-over : EdgesFrom AreOver outs cs (length deal.ins.items - length cs) deal.ins.items
+  edges-over = subst (λ xs. EdgesFrom AreOver outs xs (length deal.ins.items - length xs) deal.ins.items) (sym childs)
+      (subst (λ (z : Deal W). EdgesFrom AreOver outs (children ins place) (length z.ins.items - length (children ins place)) z.ins.items) there
+      (over g start ins (length start.nodes - 1) place ok.opened size ok.fresh ok.forest deals workers nodes outs h node_at.0 node_at.1 deal))
+
+  pub place-back : (y : Deal W) (seat : Seat W) (nodes_now : List (Node W)) (outs_left outs_now : List (Option OutSeen)) → deal.seats.items ≡ y.seats.items ++ seat ∷ []
+      → y.ins.items ≡ take (length deal.ins.items - length cs) deal.ins.items → EdgesFrom IsSettled outs cs (length deal.ins.items - length cs) deal.ins.items
+      → outs_left ≡ without outs cs → nodes_now ≡ nodes ++ seat.node ∷ [] → outs_now ≡ outs_left ++ seat.out ∷ []
+      → AreTakenBack g start ins (place + 1) (set deals (place % count) y) nodes_now outs_now
+  place-back y seat nodes_now outs_left outs_now seats ends settled left a b =
+      let back : AreTakenBack g start ins (suc place) (set deals (place % length deals) y) (nodes ++ seat.node ∷ []) (without outs (children ins place) ++ seat.out ∷ []) =
+      one-more-back g start ins (length start.nodes - 1) place ok.opened size ok.fresh ok.forest deals workers nodes outs h node_at.0 node_at.1 deal y seat
+      (ap (λ (z : Deal W). z.seats.items) there ∙ seats)
+      (subst (λ xs. y.ins.items ≡ take (length (get_or deals (place % length deals) deal).ins.items - length xs) (get_or deals (place % length deals) deal).ins.items) childs
+      (subst (λ (z : Deal W). y.ins.items ≡ take (length z.ins.items - length cs) z.ins.items) (sym there) ends))
+      (subst (λ xs. EdgesFrom IsSettled outs xs (length (get_or deals (place % length deals) deal).ins.items - length xs) (get_or deals (place % length deals) deal).ins.items) childs
+      (subst (λ (z : Deal W). EdgesFrom IsSettled outs cs (length z.ins.items - length cs) z.ins.items) (sym there) settled)) in
+      subst (λ p. AreTakenBack g start ins p (set deals (place % count) y) nodes_now outs_now) {x = suc place} {y = place + 1} (omega arith)
+      (subst (λ k. AreTakenBack g start ins (suc place) (set deals (place % k) y) nodes_now outs_now) (sym counted)
+      (subst (λ ns. AreTakenBack g start ins (suc place) (set deals (place % length deals) y) ns outs_now) (sym a)
+      (subst (λ os. AreTakenBack g start ins (suc place) (set deals (place % length deals) y) (nodes ++ seat.node ∷ []) os)
+      (sym (b ∙ ap (λ os. os ++ seat.out ∷ []) (left ∙ ap (without outs) childs))) back)))
+
+-- before the first and after the last
+module _ {W S : Type 0} (g : Ghosts W S) (start : Opened W) (ins : List (List ℕ)) (deals : List (Deal W)) (nodes : List (Node W)) (outs : List (Option OutSeen)) where
+  pub none-back : HandsCarry g (dealt (length deals) 0 (places 0 start.nodes ins start.outs start.inns)) deals → DealsFit g deals → DealsDone deals → nodes ≡ [] → outs ≡ []
+      → AreTakenBack g start ins 0 deals nodes outs
+  none-back hands fit done no_nodes no_outs = record {
+    hands = hands;
+    fit = fit;
+    done = done;
+    counts = (ap (λ (ys : List (Node W)). length ys) no_nodes, ap (λ (ys : List (Option OutSeen)). length ys) no_outs);
+    sent = λ k. [];
+    carried = λ k n m e f. not-both (slice_get nodes k) m (ap (λ ys. slice_get ys k) no_nodes) f;
+    kept = λ k l. absurd (omega (arith, l));
+  }
+
+  module _ (place : ℕ) (h : AreTakenBack g start ins place deals nodes outs) (all : place ≡ length start.nodes) where
+    pub all-carried : AreCarried g ins start.nodes nodes
+    all-carried = record { count = h.counts.0 ∙ all; sent = h.sent; nodes = h.carried }
+
+    pub deals-empty : Each (λ i (deal : Deal W). vec_len deal.seats ≡ 0) deals
+    deals-empty i d l =
+        let hands : HandsCarry g (replicate (length deals) empty_hand) deals =
+        subst (λ ns. HandsCarry g (dealt (length deals) place (places place ns ins start.outs start.inns)) deals) (drop_all place start.nodes (omega (arith, all))) h.hands in
+        let c = hands.each i empty_hand d (let n = hands.len in omega (arith, l, n)) in
+        (get_or deals i d).seats.ok.0 ∙ c.seats.len ∙ ap (λ (z : Hand W). length z.seats) (get_or-replicate {A = Hand W} (length deals) i empty_hand empty_hand l)
+
+-- the deals after the workers' and the caller's turns
+pub hands-on : {W S : Type 0} (g : Ghosts W S) (hands : List (Hand W)) (deals later : List (Deal W)) → map hand_of deals ≡ hands → DealsCarry g deals later → HandsCarry g hands later
+hands-on {W = W} g hands deals later e h = record {
+  len = h.len ∙ sym (length-map deals hand_of) ∙ ap (λ (z : List (Hand W)). length z) e;
+  each = λ i p d l.
+      let inside : i < length deals = (let a = length-map deals hand_of in let b : length (map hand_of deals) ≡ length hands = ap (λ (z : List (Hand W)). length z) e in omega (arith, l, a, b)) in
+      subst (λ (z : Hand W). SeatsCarry g z.ins (get_or later i d).ins.items z.seats (get_or later i d).seats.items)
+      (sym (get_or-map hand_of deals i d p inside) ∙ ap (λ z. get_or z i p) e) (h.each i d inside);
+}

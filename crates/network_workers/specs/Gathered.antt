@@ -1,0 +1,122 @@
+-- The nodes that were dealt to workers, taken back, and what they carried.
+use Rattle.std.specs.Prelude.{◌≡◌, ℕ, ◌+◌, ◌-◌, ◌<◌, ◌≤◌, ◌==◌, Bool, true, false, Option, Some, None}
+use Rattle.std.specs.Prelude.{List, [], ◌∷◌, length, take, drop, replicate, slice_get, slice_index_or, slice_set}
+use Rattle.cloud_points.specs.declared.point.Point.{Point}
+use Rattle.cloud_points.specs.declared.work.Work.{Ghosts}
+use Rattle.cloud_points.specs.Bodies.{bodies}
+use Rattle.cloud_points.specs.Marks.{Mark, all_marks}
+use Rattle.chunk_queue.specs.Ends.{InSeen, OutSeen, ended}
+use Rattle.network_theory.specs.Between.{Between, QuietBetween}
+use Rattle.network_theory.specs.Forest.{children, count_in, count_all, IsForest}
+use Rattle.network_theory.specs.History.{mark_points}
+use Rattle.network_theory.specs.Sound.{IsNode}
+use Rattle.network_core.specs.declared.node.Node.{Node}
+use Rattle.network_core.specs.Calm.{Calm, NoEvent, Told}
+use Rattle.network_core.specs.Holding.{HoldsMore}
+use Rattle.network_core.specs.Shown.{shown}
+use Rattle.network_solo.specs.Trees.{AreFresh}
+use Rattle.network_workers.specs.declared.seats.Deal.{Deal}
+use Rattle.network_workers.specs.declared.seats.SeatIn.{SeatIn}
+use Rattle.network_workers.specs.Dealt.{places, dealt, AreOpened, HandsCarry}
+use Rattle.network_workers.specs.Ends.{sent_on, OutGrew}
+use Rattle.network_workers.specs.Seats.{DealsFit, DealsDone}
+
+-- what the child at an input sent, where there is one
+abbrev pub marks_of : (ℕ → List (Mark Point)) → Option ℕ → List (Mark Point)
+marks_of sent None = []
+marks_of sent (Some child) = sent child
+
+abbrev pub child_sent : (ℕ → List (Mark Point)) → List ℕ → ℕ → List (Mark Point)
+child_sent sent cs input = marks_of sent (slice_get cs input)
+
+-- a node from its start to its end, which took this of each input. Without an event it carried that to what it gave, and
+-- that was sent on its end, but at the root
+pub record NodeCarries {W S : Type 0} (g : Ghosts W S) (root : Bool) (old new : Node W) (took : ℕ → List (Mark Point))
+    (sent : List (Mark Point)) : Type 0 where
+  pub calm : Calm g old new
+  pub between : Between (shown g [] old) (shown g [] new) took
+  pub holds : HoldsMore g old new (mark_points between.took)
+  pub gave : NoEvent g old new → Told g old → List (Mark Point)
+  pub same : (none : NoEvent g old new) (told : Told g old) → root ≡ false → gave none told ≡ sent
+  pub quiet : (none : NoEvent g old new) (told : Told g old)
+      → QuietBetween (shown g [] old) (shown g [] new) took (gave none told)
+  pub sound : IsNode (shown g (replicate new.inputs 0) new)
+  pub done : new.done ≡ true
+
+-- something was sent on the end of each node, and each node is done and took of its inputs what their children sent
+pub record AreCarried {W S : Type 0} (g : Ghosts W S) (ins : List (List ℕ)) (old new : List (Node W)) : Type 0 where
+  pub count : length new ≡ length old
+  pub sent : ℕ → List (Mark Point)
+  pub nodes : (k : ℕ) (n m : Node W) → slice_get old k ≡ Some n → slice_get new k ≡ Some m
+      → NodeCarries g (k + 1 == length old) n m (child_sent sent (children ins k)) (sent k)
+
+-- nodes at their start, with the two ends of the queue above each but the root
+pub record Opened (W : Type 0) : Type 0 where
+  pub nodes : List (Node W)
+  pub outs : List OutSeen
+  pub inns : List InSeen
+
+-- a tree of new nodes with queues on which nothing was sent yet
+pub record IsStart {W S : Type 0} (g : Ghosts W S) (ins : List (List ℕ)) (start : Opened W) : Type 0 where
+  pub some : 0 < length start.nodes
+  pub fresh : AreFresh g ins start.nodes
+  pub forest : IsForest ins (length start.nodes - 1)
+  pub opened : AreOpened (length start.nodes - 1) start.outs start.inns
+
+-- the end of a node that was taken back before its parent, on which this was sent
+pub record IsKept (old new : Option OutSeen) (sent : List (Mark Point)) : Type 0 where
+  pub grew : OutGrew old new
+  pub all : sent ≡ all_marks (bodies (sent_on new))
+
+-- the nodes before this place were taken back, each with the end on which it sent, and the others are in the deals
+pub record AreTakenBack {W S : Type 0} (g : Ghosts W S) (start : Opened W) (ins : List (List ℕ)) (place : ℕ)
+    (deals : List (Deal W)) (nodes : List (Node W)) (outs : List (Option OutSeen)) : Type 0 where
+  pub hands : HandsCarry g
+      (dealt (length deals) place (places place (drop place start.nodes) ins start.outs start.inns)) deals
+  pub fit : DealsFit g deals
+  pub done : DealsDone deals
+  pub counts : (length nodes ≡ place) × (length outs ≡ place)
+  pub sent : ℕ → List (Mark Point)
+  pub carried : (k : ℕ) (n m : Node W) → slice_get start.nodes k ≡ Some n → slice_get nodes k ≡ Some m
+      → NodeCarries g (k + 1 == length start.nodes) n m (child_sent sent (children ins k)) (sent k)
+  -- the ends that no parent settled yet
+  pub kept : (k : ℕ) → k < place → count_all k (take place ins) ≡ 0
+      → IsKept (slice_get start.outs k) (slice_index_or outs k None) (sent k)
+
+-- the two ends of a queue, on which an End was got
+abbrev pub AreOver : Option OutSeen → InSeen → Type 0
+AreOver None inn = ⊥
+AreOver (Some out) inn = (out.queue ≡ inn.queue) × (ended inn.got ≡ true)
+
+-- all that was sent was got
+abbrev pub IsSettled : Option OutSeen → InSeen → Type 0
+IsSettled out inn = inn.got ≡ sent_on out
+
+-- an end that sends with the last of these
+abbrev pub LastEdge : (Option OutSeen → InSeen → Type 0) → Option OutSeen → List SeatIn → Type 0
+LastEdge R out ins = (e : SeatIn) → R out (slice_index_or ins (length ins - 1) e).end
+
+-- for each of these children the end on which it sent, with that of the input at which it stands. The ends of the
+-- inputs are listed in their order from a place on
+abbrev pub EdgesFrom : (Option OutSeen → InSeen → Type 0)
+    → List (Option OutSeen) → List ℕ → ℕ → List SeatIn → Type 0
+EdgesFrom R outs cs first ins = (k : ℕ) (e : SeatIn) → k < length cs
+    → R (slice_index_or outs (slice_index_or cs k 0) None) (slice_index_or ins (first + k) e).end
+
+-- they are the last ones
+abbrev pub LastEdges : (Option OutSeen → InSeen → Type 0)
+    → List (Option OutSeen) → List ℕ → List SeatIn → Type 0
+LastEdges R outs cs ins = EdgesFrom R outs cs (length ins - length cs) ins
+
+-- without the ends of these children
+abbrev pub without : List (Option OutSeen) → List ℕ → List (Option OutSeen)
+without outs [] = outs
+without outs (c ∷ cs) = slice_set (without outs cs) c None
+
+-- without the last ends, which are those of so many inputs
+abbrev pub but_last : ℕ → List SeatIn → List SeatIn
+but_last count ins = take (length ins - count) ins
+
+-- no child stands twice in a list
+abbrev pub AreOnce : List ℕ → Type 0
+AreOnce cs = (k : ℕ) → k < length cs → count_in (slice_index_or cs k 0) cs ≤ 1

@@ -1,0 +1,10 @@
+pub mod Lists
+pub mod Ends
+pub mod Seats
+pub mod Turns
+pub mod Pays
+pub mod Dealt
+pub mod Rooms
+pub mod RoomParts
+pub mod Gathered
+pub mod Crews

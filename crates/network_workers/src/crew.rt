@@ -1,0 +1,62 @@
+//! Several threads as a scheduler.
+
+ghost use Rattle.std.specs.Prelude.{◌<◌, ◌≤◌};
+
+use crate::rooms::WorkerRoom;
+use cloud_points::Work;
+use network_core::{InsList, NodeList};
+use network_solo::Scheduler;
+use std::alloc::{AllocError, Global};
+
+/// So many workers, 1 to 32, as a scheduler. What it does with a tree is a call of `run_tree_by`: a method of a trait can't start threads
+/// itself.
+#[derive(Drop)]
+pub struct Crew<F> {
+    pub workers: u32,
+    pub run: F,
+    pub ghost some: { 0 < workers },
+    pub ghost most: { workers ≤ 32 },
+}
+
+impl<W: Work, F: Fn(NodeList<W>, InsList, WorkerRoom<W>) -> NodeList<W>> Scheduler<W> for Crew<F> {
+    ghost use Rattle.std.specs.Prelude.{◌≡◌, ◌<◌, ◌≤◌, ◌-◌, ℕ, length};
+    ghost use Rattle.network_theory.specs.Forest.{IsForest};
+    ghost use Rattle.network_solo.specs.Trees.{AreFresh, IsRanTree};
+    ghost use Rattle.network_workers.specs.Crews.{Runs};
+    ghost use Rattle.network_workers.specs.Gathered.{AreCarried};
+    ghost use Rattle.network_workers.specs.RoomParts.{nodes_in};
+
+    type Edges = WorkerRoom<W>;
+
+    ghost sound = { λ crew. Runs W.Work (F.pre crew.run) (F.post crew.run) };
+
+    ghost fits = { λ nodes capacity room. nodes_in room ≡ nodes };
+
+    ghost besides = { λ capacity ins old new. AreCarried W.Work ins old new };
+
+    fn edges(
+        &self,
+        alloc: Global,
+        nodes: usize,
+        capacity: usize,
+    ) -> Result<WorkerRoom<W>, AllocError> {
+        WorkerRoom::new(alloc, nodes, capacity, self.workers)
+    }
+
+    fn run(&self, nodes: NodeList<W>, ins: InsList, edges: WorkerRoom<W>) -> NodeList<W>
+        requires sound { Runs W.Work (F.pre self.now.run) (F.post self.now.run) }
+        requires some { 0 < length nodes }
+        requires few { length nodes ≤ 64 }
+        requires fresh { AreFresh W.Work ins nodes }
+        requires forest { IsForest ins (length nodes - 1) }
+        requires edges { (capacity : ℕ) × (nodes_in edges ≡ length nodes) }
+        ensures ran { IsRanTree W.Work ins nodes result }
+        ensures besides { (capacity : ℕ) → nodes_in edges ≡ length nodes → AreCarried W.Work ins nodes result }
+    {
+        (self.run)(nodes, ins, edges)
+    }
+
+    fn let_go(edges: WorkerRoom<W>) {
+        edges.let_go();
+    }
+}

@@ -1,0 +1,141 @@
+//! The nodes come back from the workers, each after its children.
+
+ghost use Rattle.std.specs.Prelude.{◌≡◌, ◌<◌, ◌≤◌, ◌+◌, ◌^◌, ◌++◌, ◌∷◌, [], None};
+ghost use Rattle.std.specs.Prelude.{length, slice_index_or, slice_set, vec_capacity};
+ghost use Rattle.network_solo.specs.Trees.{IsRanTree};
+ghost use Rattle.network_workers.specs.Dealt.{dealt, places, HandsCarry};
+ghost use Rattle.network_workers.specs.Gathered.{AreOver, IsSettled, LastEdge, LastEdges, AreOnce};
+ghost use Rattle.network_workers.specs.Gathered.{without, but_last};
+ghost use Rattle.network_workers.specs.Gathered.{Opened, IsStart, AreTakenBack, AreCarried};
+ghost use Rattle.network_workers.specs.Seats.{DealsFit, DealsDone};
+
+use crate::rooms::WorkerRoom;
+use crate::seats::{Deal, Seat, SeatIn};
+use crate::settling::settle_ends;
+use chunk_queue::RuledOut;
+use cloud_points::Work;
+use network_core::{InsList, Node, NodeList};
+
+/// Settles the queue of which the last of these ends takes, and that of this child sends.
+fn settle_last(ins: &mut Vec<SeatIn>, child: usize, outs: &mut Vec<Option<RuledOut>>)
+    requires some { 0 < length ins.old.items }
+    requires over { LastEdge AreOver (slice_index_or outs.old.items child None) ins.old.items }
+    ensures settled { LastEdge IsSettled (slice_index_or outs.old.items child None) ins.old.items }
+    ensures ins { ins.new.items ≡ but_last 1 ins.old.items }
+    ensures outs { outs.new.items ≡ slice_set outs.old.items child None }
+    ensures capacity { vec_capacity outs.new ≡ vec_capacity outs.old }
+{
+    let Some(input) = ins.pop() else {
+        unreachable!()
+    };
+    let Some(out) = outs[child].take() else {
+        unreachable!()
+    };
+    let settled = settle_ends(out, input.end);
+    prove!(settled);
+}
+
+/// Settles the queues between a node that is done and its children. The ends that it read are the last ones.
+fn settle_inputs(ins: &mut Vec<SeatIn>, children: &[u32], outs: &mut Vec<Option<RuledOut>>)
+    requires room { length children.now ≤ length ins.old.items }
+    requires once { AreOnce children.now }
+    requires over { LastEdges AreOver outs.old.items children.now ins.old.items }
+    ensures settled { LastEdges IsSettled outs.old.items children.now ins.old.items }
+    ensures ins { ins.new.items ≡ but_last (length children.now) ins.old.items }
+    ensures outs { outs.new.items ≡ without outs.old.items children.now }
+    ensures capacity { vec_capacity outs.new ≡ vec_capacity outs.old }
+{
+    for input in (0..children.len()).rev() {
+        settle_last(ins, children[input] as usize, outs);
+    }
+}
+
+/// Takes the last seat back, and settles the queues to its children.
+fn take_seat<W: Work>(
+    seats: &mut Vec<Seat<W>>,
+    ins: &mut Vec<SeatIn>,
+    children: &[u32],
+    outs: &mut Vec<Option<RuledOut>>,
+) -> Seat<W>
+    requires some { 0 < length seats.old.items }
+    requires room { length children.now ≤ length ins.old.items }
+    requires once { AreOnce children.now }
+    requires over { LastEdges AreOver outs.old.items children.now ins.old.items }
+    ensures seats { seats.old.items ≡ seats.new.items ++ result ∷ [] }
+    ensures settled { LastEdges IsSettled outs.old.items children.now ins.old.items }
+    ensures ins { ins.new.items ≡ but_last (length children.now) ins.old.items }
+    ensures outs { outs.new.items ≡ without outs.old.items children.now }
+    ensures capacity { vec_capacity outs.new ≡ vec_capacity outs.old }
+{
+    settle_inputs(ins, children, outs);
+    let Some(seat) = seats.pop() else {
+        unreachable!()
+    };
+    seat
+}
+
+/// Takes the node at a place back, once all nodes below it are back.
+fn take_back<W: Work>(
+    deals: &mut Vec<Deal<W>>,
+    place: usize,
+    ins: &InsList,
+    nodes: &mut Vec<Node<W>>,
+    outs: &mut Vec<Option<RuledOut>>,
+)
+    ghost start: { Opened W }
+    requires tree { IsStart W.Work ins.now start }
+    requires place { place < length start.nodes }
+    requires workers { 0 < length deals.old.items }
+    requires nodes { length start.nodes ≤ vec_capacity nodes.old }
+    requires outs { length start.nodes ≤ vec_capacity outs.old }
+    requires back { AreTakenBack W.Work start ins.now place deals.old.items nodes.old.items outs.old.items }
+    ensures workers { length deals.new.items ≡ length deals.old.items }
+    ensures nodes { vec_capacity nodes.new ≡ vec_capacity nodes.old }
+    ensures outs { vec_capacity outs.new ≡ vec_capacity outs.old }
+    ensures back { AreTakenBack W.Work start ins.now (place + 1) deals.new.items nodes.new.items
+        outs.new.items }
+{
+    let worker = place % deals.len();
+    let deal = &mut deals[worker];
+    let seat = take_seat(&mut deal.seats, &mut deal.ins, ins.children(place), outs);
+    let Seat {
+        stage: _,
+        node,
+        out,
+    } = seat;
+    nodes.push_reserved(node);
+    outs.push_reserved(out);
+}
+
+/// Takes all nodes back from the workers, and settles the queue above each but the root: all that was sent
+/// was got. The two lists are empty and have room.
+pub(crate) fn gather<W: Work>(
+    deals: Vec<Deal<W>>,
+    count: usize,
+    ins: &InsList,
+    nodes: Vec<Node<W>>,
+    outs: Vec<Option<RuledOut>>,
+) -> NodeList<W>
+    ghost start: { Opened W }
+    requires tree { IsStart W.Work ins.now start }
+    requires count { count ≡ length start.nodes }
+    requires few { count < 2 ^ 32 }
+    requires workers { 0 < length deals.items }
+    requires nodes { (nodes.items ≡ []) × (count ≤ vec_capacity nodes) }
+    requires outs { (outs.items ≡ []) × (count ≤ vec_capacity outs) }
+    requires carried { HandsCarry W.Work
+        (dealt (length deals.items) 0 (places 0 start.nodes ins.now start.outs start.inns)) deals.items }
+    requires fit { DealsFit W.Work deals.items }
+    requires done { DealsDone deals.items }
+    ensures ran { IsRanTree W.Work ins.now start.nodes result }
+    ensures settled { AreCarried W.Work ins.now start.nodes result }
+{
+    let mut deals = deals;
+    let mut nodes = nodes;
+    let mut outs = outs;
+    for place in 0..count {
+        take_back(&mut deals, place, ins, &mut nodes, &mut outs);
+    }
+    WorkerRoom::end_deals(deals);
+    NodeList::new(nodes)
+}

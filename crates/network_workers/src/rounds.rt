@@ -1,0 +1,98 @@
+//! Rounds of one worker.
+
+ghost use Rattle.std.specs.Prelude.{◌≡◌, ◌<◌, ◌^◌, true, length};
+ghost use Rattle.network_workers.specs.Seats.{AreFit, AreDone, SeatsCarry};
+
+use crate::seats::{Seat, SeatIn};
+use crate::turns::turn_at;
+use cloud_points::Work;
+use file_devices::Gate;
+use std::sync::Wait;
+use std::thread;
+
+/// One or the other.
+pub(crate) fn either(a: bool, b: bool) -> bool {
+    a || b
+}
+
+/// A turn of the seat at a place, where the gate says so. Whether it did work.
+fn turn_by_gate<W: Work, R: Wait, G: Gate>(
+    rt: &R,
+    worker: u32,
+    seats: &mut Vec<Seat<W>>,
+    ins: &mut Vec<SeatIn>,
+    at: usize,
+    gate: &G,
+) -> bool
+    requires place { at < length seats.old.items }
+    requires few { length seats.old.items < 2 ^ 32 }
+    requires fit { AreFit W.Work ins.old.items seats.old.items }
+    ensures fit { AreFit W.Work ins.new.items seats.new.items }
+    ensures carries { SeatsCarry W.Work ins.old.items ins.new.items seats.old.items seats.new.items }
+{
+    if !gate.before(worker, seats[at].stage) {
+        return false;
+    }
+    turn_at(rt, seats, ins, at).did_work()
+}
+
+/// A turn of each seat for which the gate says so. Whether one of them did work.
+fn take_round<W: Work, R: Wait, G: Gate>(
+    rt: &R,
+    worker: u32,
+    seats: &mut Vec<Seat<W>>,
+    ins: &mut Vec<SeatIn>,
+    gate: &G,
+) -> bool
+    requires few { length seats.old.items < 2 ^ 32 }
+    requires fit { AreFit W.Work ins.old.items seats.old.items }
+    ensures fit { AreFit W.Work ins.new.items seats.new.items }
+    ensures carries { SeatsCarry W.Work ins.old.items ins.new.items seats.old.items seats.new.items }
+{
+    let mut worked = false;
+    for at in 0..seats.len() {
+        worked = either(worked, turn_by_gate(rt, worker, seats, ins, at, gate));
+    }
+    worked
+}
+
+/// Whether all nodes are done.
+pub(crate) fn are_done<W: Work>(seats: &[Seat<W>]) -> bool
+    ensures { result ≡ true → AreDone seats.now }
+{
+    for at in 0..seats.len() {
+        if !seats[at].node.done() {
+            return false;
+        }
+    }
+    true
+}
+
+/// Rounds of one worker, until all its nodes are done or `patience` rounds in a row did no work.
+pub(crate) fn work<W: Work, R: Wait, G: Gate>(
+    rt: &R,
+    worker: u32,
+    seats: &mut Vec<Seat<W>>,
+    ins: &mut Vec<SeatIn>,
+    patience: u64,
+    gate: &G,
+)
+    requires few { length seats.old.items < 2 ^ 32 }
+    requires fit { AreFit W.Work ins.old.items seats.old.items }
+    ensures fit { AreFit W.Work ins.new.items seats.new.items }
+    ensures carries { SeatsCarry W.Work ins.old.items ins.new.items seats.old.items seats.new.items }
+{
+    let patience = patience.max(1);
+    let mut idle = 0;
+    for _ in rt.forever() {
+        if idle >= patience || are_done(seats.as_slice()) {
+            break;
+        }
+        if take_round(rt, worker, seats, ins, gate) {
+            idle = 0;
+        } else {
+            idle += 1;
+            thread::yield_now();
+        }
+    }
+}
