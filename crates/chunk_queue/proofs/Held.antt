@@ -55,7 +55,7 @@ pub put-slotted : (entries : Buffer SlottedItem) (free left most : ℕ) (e : Slo
     → IsSlotted (buffer (entries.items ++ e ∷ []) entries.capacity) left most
 put-slotted entries free left most e old points ok fills some count = record {
   slots = let l = length-append entries.items (e ∷ []) in let o : length (e ∷ []) ≡ 1 = refl in let s = ok.slots in omega (arith, l, o, s, count);
-  room = ok.room;
+  room = let l = length-append entries.items (e ∷ []) in let o : length (e ∷ []) ≡ 1 = refl in let r = ok.room in omega (arith, l, o, r, count);
   points = subst AllHavePoints (sym (put-held entries.items e old points fills)) (all-last (held_items entries.items) (tag_item e.tag points) ok.points (has_points e.tag.kind points some));
 }
 
@@ -65,7 +65,7 @@ pub popped-slotted : (items : List SlottedItem) (capacity free left most : ℕ) 
 popped-slotted [] capacity free left most e ok first count = cc
 popped-slotted (x ∷ items) capacity free left most e ok first count = record {
   slots = let s = ok.slots in omega (arith, s, count);
-  room = ok.room;
+  room = let r = ok.room in omega (arith, r, count);
   points = ok.points.1;
 }
 

@@ -47,11 +47,10 @@ abbrev pub AllHavePoints : List Item → Type 0
 AllHavePoints [] = Unit {0}
 AllHavePoints (i ∷ is) = HasPoints i.body × AllHavePoints is
 
--- for each item that may still come there is a free slot, so many in all, and the list of free slots takes them back
--- without more memory
+-- for each item that may still come there is a free slot, and the list of free slots takes all of them back without more memory
 pub record IsSlotted (entries : Buffer SlottedItem) (free most : ℕ) : Type 0 where
-  pub slots : length entries.items + free ≡ entries.capacity
-  pub room : entries.capacity ≤ most
+  pub slots : entries.capacity ≤ length entries.items + free
+  pub room : length entries.items + free ≤ most
   pub points : AllHavePoints (held_items entries.items)
 
 -- the item that a pop answers in parts is the first one, and None comes exactly where there is none

@@ -12,6 +12,10 @@ use circular_buffer::HeapCircularBuffer;
 use cloud_points::{Body, Chunk, Item, Point, Spread, put_points};
 use std::alloc::{AllocError, Global};
 use std::marker::Model;
+use std::mem;
+
+/// The slots that a queue has besides one for each item there is room for: one for the stage at each end.
+const SPARE_SLOTS: usize = 2;
 
 /// A queue with room for a stated number of items, from 1 to 64. A clause sees the list of the items that it
 /// holds, and its capacity.
@@ -20,9 +24,9 @@ use std::marker::Model;
 /// are what was sent, in its order, with the numbers 0, 1, .. and an End only last. A clause `rule` says so
 /// of an item that goes in with the next number and before any End, and of each item that comes out.
 ///
-/// The points of an item lie in a slot of their own, so that they are copied once into the queue and once out
-/// of it, and no call but `new` takes memory. The slot that came free last is taken first, so that those in
-/// use stay in the cache.
+/// The points of an item lie in a slot of their own. They go in and out by an exchange of slots, or else they are
+/// copied, and no call but `new` takes memory. The slot that came free last is taken first, so that those in use
+/// stay in the cache.
 #[derive(Drop)]
 pub struct PlainQueue {
     entries: HeapCircularBuffer<SlottedItem>,
@@ -52,8 +56,9 @@ impl PlainQueue {
         ensures rule { IfOk result (λ q. StandsBetween [] [] q) }
     {
         let entries = HeapCircularBuffer::with_capacity(alloc, capacity)?;
-        let mut free = Vec::with_capacity(alloc, capacity)?;
-        for _ in 0..capacity {
+        let slots = capacity + SPARE_SLOTS;
+        let mut free = Vec::with_capacity(alloc, slots)?;
+        for _ in 0..slots {
             free.push(Box::new(alloc, Spread::new())?)?;
         }
         Ok(PlainQueue { entries, free })
@@ -134,6 +139,66 @@ impl PlainQueue {
         Some(tag)
     }
 
+    /// As `push_from`, with points that lie in a slot. The queue keeps that slot and gives another for it, which
+    /// may hold any points; where it is full, the slot stays as it is.
+    pub fn push_swap(&mut self, tag: Tag, points: &mut Box<Spread>) -> bool
+        requires { brings_points tag.kind ≡ true → 0 < length points.old.value.items }
+        ensures room { IsTrue result ↔ (length self.old.items < self.old.capacity) }
+        ensures pushed { OnTrue result (self.new ≡ with_item self.old (tag_item tag points.old.value.items)) }
+        ensures full { OnFalse result (self.new ≡ self.old) }
+        ensures kept { OnFalse result (points.new ≡ points.old) }
+        ensures rule { OnTrue result
+            (KeepsRuleOnPush self.old (tag_item tag points.old.value.items) self.new) }
+    {
+        if !self.has_room() {
+            return false;
+        }
+        self.put_slot(tag, points);
+        true
+    }
+
+    /// As `pop_into`, with a slot for the points. The queue keeps that slot and gives the one in which the item's
+    /// points lie for it.
+    pub fn pop_swap(&mut self, points: &mut Box<Spread>) -> Option<Tag>
+        ensures popped { IsPopped self.old.items result points.old.value.items points.new.value.items }
+        ensures items { self.new ≡ buffer (drop 1 self.old.items) self.old.capacity }
+        ensures rule { IfSome result
+            (λ tag. KeepsRuleOnPop self.old (tag_item tag points.new.value.items) self.new) }
+    {
+        let SlottedItem { tag, slot } = self.entries.pop_front()?;
+        let mut slot = slot;
+        swap_slots(points, tag.kind, &mut slot);
+        let _ = self.free.push(slot);
+        Some(tag)
+    }
+
+    /// A slot with these points, which the queue can do without; None where it has no such slot left.
+    pub fn spare_with(&mut self, points: &Spread) -> Option<Box<Spread>>
+        ensures same { self.new ≡ self.old }
+        ensures points { IfSome result (λ slot. slot.value.items ≡ points.now.items) }
+    {
+        let wanted = self.entries.capacity().saturating_sub(self.entries.len());
+        if self.free.len() <= wanted {
+            return None;
+        }
+        let mut slot = self.free.pop()?;
+        put_points(&mut slot, points.as_slice());
+        Some(slot)
+    }
+
+    /// Appends an item, with its points in a slot, where there is room.
+    fn put_slot(&mut self, tag: Tag, points: &mut Box<Spread>)
+        requires room { length self.old.items < self.old.capacity }
+        requires some { brings_points tag.kind ≡ true → 0 < length points.old.value.items }
+        ensures { self.new ≡ with_item self.old (tag_item tag points.old.value.items) }
+    {
+        let Some(mut slot) = self.free.pop() else {
+            unreachable!()
+        };
+        swap_slots(&mut slot, tag.kind, points);
+        let _ = self.entries.try_push_back(SlottedItem { tag, slot });
+    }
+
     /// Appends an item where there is room.
     fn put_body(&mut self, no: u64, body: &Body)
         requires { length self.old.items < self.old.capacity }
@@ -195,6 +260,17 @@ pub(crate) fn take_slot(into: &mut Spread, kind: ItemKind, slot: &Spread)
 {
     match kind {
         ItemKind::Points => put_points(into, slot.as_slice()),
+        ItemKind::EndView => {}
+        ItemKind::End(_) => {}
+    }
+}
+
+/// Exchanges a slot for that in which the points of an item lie.
+pub(crate) fn swap_slots(into: &mut Box<Spread>, kind: ItemKind, points: &mut Box<Spread>)
+    ensures { into.new.value.items ≡ filled kind into.old.value.items points.old.value.items }
+{
+    match kind {
+        ItemKind::Points => mem::swap(into, points),
         ItemKind::EndView => {}
         ItemKind::End(_) => {}
     }

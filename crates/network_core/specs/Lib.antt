@@ -9,3 +9,4 @@ pub mod Wires
 pub mod Nets
 pub mod Ruled
 pub mod LentEnds
+pub mod Trays

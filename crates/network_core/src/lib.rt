@@ -8,6 +8,7 @@ mod node;
 mod parts;
 mod queues;
 mod steps;
+mod tray;
 mod turned;
 
 pub use lists::{InsList, NodeList};

@@ -8,9 +8,10 @@ mod ruled;
 mod taking;
 
 use crate::parts::first;
+use crate::tray::Tray;
 use crate::turned::{Turned, Why};
 use chunk_queue::{ItemKind, PlainQueue, Tag};
-use cloud_points::{Make, Spread, StageFault, Work};
+use cloud_points::{Make, StageFault, Work};
 
 /// How a turn begins.
 #[derive(Clone, Copy, Debug)]
@@ -29,7 +30,7 @@ pub struct Node<W> {
     chunk: usize,
     // What is to be given next. Points that are in the hand lie in `spread`.
     hand: Option<ItemKind>,
-    spread: Spread,
+    spread: Tray,
     given: u64,
     cut: bool,
     fault: Option<StageFault>,
@@ -80,7 +81,7 @@ impl<W: Work> Node<W> {
             ended: 0,
             chunk,
             hand: None,
-            spread: Spread::new(),
+            spread: Tray::new(),
             given: 0,
             cut: false,
             fault: None,
@@ -202,7 +203,7 @@ impl<W: Work> Node<W> {
         ensures made { (ins : List ℕ) → shown W.Work ins self.new
             ≡ net.makes (made_by W.Work self.old self.new) (shown W.Work ins self.old) }
     {
-        match self.work.make(self.chunk, &mut self.spread) {
+        match self.spread.make(&mut self.work, self.chunk) {
             Make::Points => {
                 self.hand = Some(ItemKind::Points);
             }
@@ -359,14 +360,15 @@ impl<W: Work> Node<W> {
         ensures capacity { out.new.capacity ≡ out.old.capacity }
         ensures left { (ns : List ℕ) → net.numbers_left (turned result) ns ≡ ns }
     {
+        if !out.has_room() {
+            return Turned::Idle(Why::Full);
+        }
         let tag = Tag {
             no: self.given,
             kind,
         };
-        if !out.push_from(tag, self.spread.as_slice()) {
-            return Turned::Idle(Why::Full);
-        }
         self.count_up(kind);
+        self.spread.give(tag, out);
         Turned::Gave
     }
 
@@ -378,9 +380,11 @@ impl<W: Work> Node<W> {
         ensures calm { Calm W.Work self.old self.new }
         ensures told { Told W.Work self.old → Told W.Work self.new }
         ensures holds { KeepsHolding W.Work self.old self.new }
+        ensures hand { self.new.hand ≡ None }
+        ensures spread { self.new.spread ≡ self.old.spread }
     {
         let (views, points, end) = match kind {
-            ItemKind::Points => (0, self.spread.len() as u64, false),
+            ItemKind::Points => (0, self.spread.points().len() as u64, false),
             ItemKind::EndView => (1, 0, false),
             ItemKind::End(_) => (0, 0, true),
         };
@@ -411,7 +415,7 @@ impl<W: Work> Node<W> {
         ensures holds { HoldsMore W.Work self.old self.new
             (points_taken (turned result) (bodies input.old.items)) }
     {
-        match input.pop_into(&mut self.spread) {
+        match self.spread.fetch(input) {
             None => Turned::Idle(Why::Empty),
             Some(tag) => {
                 self.take(tag.kind);

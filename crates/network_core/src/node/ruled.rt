@@ -42,7 +42,7 @@ impl<W: Work> Node<W> {
             no: self.given,
             kind,
         };
-        if !out.push_from(rt, tag, self.spread.as_slice()) {
+        if !out.push_from(rt, tag, self.spread.points().as_slice()) {
             return Turned::Idle(Why::Full);
         }
         self.count_up(kind);
@@ -67,7 +67,7 @@ impl<W: Work> Node<W> {
         ensures holds { HoldsMore W.Work self.old self.new
             (all_item_points (bodies (taken input.old input.new))) }
     {
-        match input.pop_into(rt, &mut self.spread) {
+        match self.spread.receive(rt, input) {
             None => Turned::Idle(Why::Empty),
             Some(tag) => {
                 self.take(tag.kind);

@@ -49,8 +49,8 @@ impl<W: Work> Node<W> {
         if self.fault.is_some() {
             return;
         }
-        self.fault = self.work.on_chunk(&mut self.spread);
-        self.hand = hand_of(&self.spread);
+        self.fault = self.spread.pass(&mut self.work);
+        self.hand = hand_of(self.spread.points());
     }
 
     /// The end of a view that was taken goes on where the work says so.
