@@ -5,7 +5,7 @@ use Rattle.std.proofs.lemmas.List.{map-append}
 use Rattle.std.proofs.lemmas.Option.{slice_get_within}
 use Rattle.chunk_queue.specs.Ends.{InSeen, OutSeen}
 use Rattle.network_workers.specs.Dealt.{AreOpened}
-use Rattle.network_workers.specs.Rooms.{present, AreNewEnds}
+use Rattle.network_workers.specs.Rooms.{present, AreNewEnds, HaveCapacity}
 
 pub present-append : {X : Type 0} (xs ys : List (Option X)) → present (xs ++ ys) ≡ present xs ++ present ys
 present-append [] ys = refl
@@ -106,3 +106,17 @@ length-one {X} xs ys x n same count = let a = ap (λ (zs : List X). length zs) s
 pub new-ends-are : (nodes count : ℕ) (outs outs' : List (Option OutSeen)) (inns : List (Option InSeen)) → 0 < nodes → count ≡ nodes - 1 → AreOpening count outs inns → length outs ≡ count → outs' ≡ outs ++ None ∷ [] → AreNewEnds nodes outs' inns
 new-ends-are nodes count outs outs' inns some e h len same =
     subst (λ xs. AreNewEnds nodes xs inns) (sym same) (new-ends nodes outs inns some (subst (λ c. AreOpening c outs inns) e h) (len ∙ e))
+
+-- each end sends to a queue of this capacity, also with one more
+pub capacity-next : (queue : ℕ) (outs outs' : List (Option OutSeen)) (out : OutSeen) → HaveCapacity queue outs → out.capacity ≡ queue → outs' ≡ outs ++ Some out ∷ [] → HaveCapacity queue outs'
+capacity-next queue outs outs' out h same p = subst (HaveCapacity queue) (sym p) (λ k o e. elim (get-more outs (Some out) k (Some o) e) [
+  | inl q ↦ h k o q
+  | inr q ↦ (let e = q.1 in let one : o ≡ out = cc in ap (λ (x : OutSeen). x.capacity) one ∙ same)
+])
+
+-- and with the root's None
+pub capacity-last : (queue : ℕ) (outs outs' : List (Option OutSeen)) → HaveCapacity queue outs → outs' ≡ outs ++ None ∷ [] → HaveCapacity queue outs'
+capacity-last queue outs outs' h p = subst (HaveCapacity queue) (sym p) (λ k o e. elim (get-more outs None k (Some o) e) [
+  | inl q ↦ h k o q
+  | inr q ↦ (let e = q.1 in cc)
+])

@@ -1,5 +1,5 @@
 -- The memory in which the nodes of a tree take turns on several threads.
-use Rattle.std.specs.Prelude.{◌≡◌, ℕ, ◌+◌, ◌-◌, ◌*◌, ◌^◌, ◌<◌, ◌≤◌, true, List, [], ◌∷◌, ◌++◌, length, map, Option, Some, None, is_some, slice_index_or, vec_len, vec_capacity}
+use Rattle.std.specs.Prelude.{◌≡◌, ℕ, ◌+◌, ◌-◌, ◌*◌, ◌^◌, ◌<◌, ◌≤◌, true, List, [], ◌∷◌, ◌++◌, length, map, Option, Some, None, is_some, slice_get, slice_index_or, vec_len, vec_capacity}
 use Rattle.chunk_queue.specs.Ends.{InSeen, OutSeen}
 use Rattle.network_theory.specs.Forest.{count_in}
 use Rattle.network_workers.specs.declared.seats.Seat.{Seat}
@@ -71,6 +71,10 @@ pub record AreNewEnds (nodes : ℕ) (outs : List (Option OutSeen)) (inns : List 
   pub outs_are : outs ≡ map Some (present outs) ++ None ∷ []
   pub inns_are : inns ≡ map Some (present inns)
   pub opened : AreOpened (nodes - 1) (present outs) (present inns)
+
+-- each of these ends sends to a queue with room for so many items
+abbrev pub HaveCapacity : ℕ → List (Option OutSeen) → Type 0
+HaveCapacity queue outs = (k : ℕ) (out : OutSeen) → slice_get outs k ≡ Some (Some out) → out.capacity ≡ queue
 
 -- a list of that many ends with room for as many, and workers without a node that have room for all
 pub record IsRoom {W : Type 0} (held : ℕ) (outs : List (Option OutSeen)) (inns : List (Option InSeen))

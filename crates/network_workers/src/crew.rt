@@ -8,8 +8,8 @@ use network_core::{InsList, NodeList};
 use network_solo::Scheduler;
 use std::alloc::{AllocError, Global};
 
-/// So many workers, 1 to 32, as a scheduler. What it does with a tree is a call of `run_tree_by`: a method of a trait can't start threads
-/// itself.
+/// So many workers, 1 to 32, as a scheduler. What it does with a tree is a call of `run_tree_by`: a method of a
+/// trait can't start threads itself.
 #[derive(Drop)]
 pub struct Crew<F> {
     pub workers: u32,
@@ -19,18 +19,18 @@ pub struct Crew<F> {
 }
 
 impl<W: Work, F: Fn(NodeList<W>, InsList, WorkerRoom<W>) -> NodeList<W>> Scheduler<W> for Crew<F> {
-    ghost use Rattle.std.specs.Prelude.{◌≡◌, ◌<◌, ◌≤◌, ◌-◌, ℕ, length};
+    ghost use Rattle.std.specs.Prelude.{◌<◌, ◌≤◌, ◌-◌, ℕ, length};
     ghost use Rattle.network_theory.specs.Forest.{IsForest};
     ghost use Rattle.network_solo.specs.Trees.{AreFresh, IsRanTree};
     ghost use Rattle.network_workers.specs.Crews.{Runs};
     ghost use Rattle.network_workers.specs.Gathered.{AreCarried};
-    ghost use Rattle.network_workers.specs.RoomParts.{nodes_in};
+    ghost use Rattle.network_workers.specs.RoomParts.{IsRoomFor};
 
     type Edges = WorkerRoom<W>;
 
     ghost sound = { λ crew. Runs W.Work (F.pre crew.run) (F.post crew.run) };
 
-    ghost fits = { λ nodes capacity room. nodes_in room ≡ nodes };
+    ghost fits = { IsRoomFor };
 
     ghost besides = { λ capacity ins old new. AreCarried W.Work ins old new };
 
@@ -49,9 +49,10 @@ impl<W: Work, F: Fn(NodeList<W>, InsList, WorkerRoom<W>) -> NodeList<W>> Schedul
         requires few { length nodes ≤ 64 }
         requires fresh { AreFresh W.Work ins nodes }
         requires forest { IsForest ins (length nodes - 1) }
-        requires edges { (capacity : ℕ) × (nodes_in edges ≡ length nodes) }
+        requires edges { (capacity : ℕ) × IsRoomFor (length nodes) capacity edges }
         ensures ran { IsRanTree W.Work ins nodes result }
-        ensures besides { (capacity : ℕ) → nodes_in edges ≡ length nodes → AreCarried W.Work ins nodes result }
+        ensures besides { (capacity : ℕ) → IsRoomFor (length nodes) capacity edges
+            → AreCarried W.Work ins nodes result }
     {
         (self.run)(nodes, ins, edges)
     }

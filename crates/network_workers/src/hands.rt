@@ -2,10 +2,8 @@
 
 ghost use Rattle.std.specs.Prelude.{◌≡◌, ◌<◌, ◌≤◌, ◌+◌, ◌-◌, ◌^◌, ◌++◌, ℕ, [], true, length};
 ghost use Rattle.std.specs.Prelude.{Some, None, is_some, slice_get, slice_index_or, slice_set, vec_capacity};
-ghost use Rattle.network_theory.specs.Forest.{IsForest, children};
-ghost use Rattle.network_theory.specs.Opening.{IsFresh};
-ghost use Rattle.network_core.specs.Shown.{shown};
-ghost use Rattle.network_core.specs.declared.node.Node as node_type;
+ghost use Rattle.network_theory.specs.Forest.{IsForest};
+ghost use Rattle.network_solo.specs.Trees.{AreFresh};
 ghost use Rattle.network_workers.specs.declared.seats.Deal as deal_type;
 ghost use Rattle.network_workers.specs.Dealt.{dealt, places, entries, hand_of, empty_hand, with_place};
 ghost use Rattle.network_workers.specs.Lists.{Each};
@@ -110,8 +108,7 @@ fn give_to<W: Work>(
 /// the end above it and those above its children. It takes no memory.
 pub(crate) fn deal<W: Work>(nodes: NodeList<W>, ins: &InsList, room: WorkerRoom<W>) -> Dealt<W>
     requires some { 0 < length nodes }
-    requires fresh { (k : ℕ) (n : node_type.Node W) → slice_get nodes k ≡ Some n
-        → IsFresh (shown W.Work (children ins.now k) n) }
+    requires fresh { AreFresh W.Work ins.now nodes }
     requires forest { IsForest ins.now (length nodes - 1) }
     requires room { nodes_in room ≡ length nodes }
     ensures dealt { hands_of result.deals.items

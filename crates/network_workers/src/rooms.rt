@@ -30,7 +30,7 @@ struct Ends {
 
 impl Ends {
     ghost use Rattle.std.specs.Prelude.{◌≡◌, ◌<◌, ◌≤◌, vec_capacity, IfOk};
-    ghost use Rattle.network_workers.specs.Rooms.{AreNewEnds};
+    ghost use Rattle.network_workers.specs.Rooms.{AreNewEnds, HaveCapacity};
 
     /// The two ends of a new queue above each of so many nodes but the last one.
     fn new(alloc: Global, nodes: usize, queue: usize) -> Result<Ends, AllocError>
@@ -38,13 +38,14 @@ impl Ends {
         requires room { 0 < queue }
         requires small { queue ≤ 64 }
         ensures ends { IfOk result (λ ends. AreNewEnds nodes ends.outs.items ends.inns.items) }
+        ensures queues { IfOk result (λ ends. HaveCapacity queue ends.outs.items) }
         ensures room { IfOk result (λ ends. vec_capacity ends.outs ≡ nodes) }
     {
         let mut outs = Vec::with_capacity(alloc, nodes)?;
         let mut inns = Vec::with_capacity(alloc, nodes - 1)?;
         for _node in 0..nodes - 1 {
-            let mut queue = RuledQueue::new(alloc, queue)?;
-            let (out, inn) = queue.split();
+            let mut edge = RuledQueue::new(alloc, queue)?;
+            let (out, inn) = edge.split();
             outs.push_reserved(Some(out));
             inns.push_reserved(Some(inn));
         }
@@ -70,7 +71,7 @@ impl<W> Deal<W> {
 impl<W> WorkerRoom<W> {
     ghost use Rattle.std.specs.Prelude.{◌≡◌, ◌<◌, ◌≤◌, min, length, vec_len, IfOk};
     ghost use Rattle.network_workers.specs.Lists.{Each};
-    ghost use Rattle.network_workers.specs.RoomParts.{nodes_in, workers_in};
+    ghost use Rattle.network_workers.specs.RoomParts.{HasQueues, nodes_in, workers_in};
     ghost use Rattle.network_workers.specs.Rooms.{IsIdle};
 
     /// The memory of a tree of so many nodes, over queues of `queue` items, for `workers` workers; more than
@@ -88,6 +89,7 @@ impl<W> WorkerRoom<W> {
         requires one { 0 < workers }
         requires most { workers ≤ 32 }
         ensures nodes { IfOk result (λ room. nodes_in room ≡ nodes) }
+        ensures queues { IfOk result (HasQueues queue) }
         ensures workers { IfOk result (λ room. workers_in room ≡ min workers nodes) }
     {
         let Ends { outs, inns } = Ends::new(alloc, nodes, queue)?;
