@@ -1,8 +1,8 @@
 //! Texts of assignments.
 
-use expr_lang::{ExprErr, ExprFault, ExprKind, parse_assign};
+use crate::conditions::fault_of;
+use expr_lang::{ExprKind, parse_assign};
 use std::alloc::Global;
-use std::test::Fail;
 
 /// Texts that are no assignment, each with the place and the kind of its first fault.
 const FAULTS: [(&str, usize, ExprKind); 36] = [
@@ -67,12 +67,6 @@ const ASSIGNMENTS: [&str; 15] = [
     "Z=99634",
 ];
 
-/// Whether the first fault of a text is this one.
-fn is_refused(alloc: Global, text: &str, at: usize, kind: ExprKind) -> bool {
-    let fault = ExprFault { at, kind };
-    parse_assign(alloc, text).err() == Some(ExprErr::Fault(fault))
-}
-
 /// Whether a text is read as an assignment to this name, with a condition or without one.
 fn is_for(alloc: Global, text: &str, name: &str, is_limited: bool) -> bool {
     let Ok(assign) = parse_assign(alloc, text) else {
@@ -82,19 +76,17 @@ fn is_for(alloc: Global, text: &str, name: &str, is_limited: bool) -> bool {
 }
 
 #[test]
-fn first_faults_are_told(rt: HostRuntime) -> Result<(), Fail> {
-    for (text, at, kind) in FAULTS {
-        assert!(rt; is_refused(rt.alloc(), text, at, kind));
+fn first_faults_are_told(rt: HostRuntime) {
+    for &(text, at, kind) in &FAULTS {
+        assert!(rt; fault_of(parse_assign(rt.alloc(), text).err()) == Some((at, kind)));
     }
-    Ok(())
 }
 
 #[test]
-fn assignments_are_read(rt: HostRuntime) -> Result<(), Fail> {
-    for text in ASSIGNMENTS {
+fn assignments_are_read(rt: HostRuntime) {
+    for &text in &ASSIGNMENTS {
         assert!(rt; parse_assign(rt.alloc(), text).is_ok());
     }
     assert!(rt; is_for(rt.alloc(), "z = 2 * Z wHeRe X > 0", "z", true));
     assert!(rt; is_for(rt.alloc(), "no_dim9=1", "no_dim9", false));
-    Ok(())
 }

@@ -1,8 +1,6 @@
 //! Texts of conditions.
 
 use expr_lang::{ExprErr, ExprFault, ExprKind, parse_expr};
-use std::alloc::Global;
-use std::test::Fail;
 
 /// Texts that are no condition, each with the place and the kind of its first fault.
 const FAULTS: [(&str, usize, ExprKind); 49] = [
@@ -82,24 +80,24 @@ const CONDITIONS: [&str; 21] = [
     "(-X)*Intensity !=a_1-Y--a_1+Y-  -Y",
 ];
 
-/// Whether the first fault of a text is this one.
-fn is_refused(alloc: Global, text: &str, at: usize, kind: ExprKind) -> bool {
-    let fault = ExprFault { at, kind };
-    parse_expr(alloc, text).err() == Some(ExprErr::Fault(fault))
-}
-
-#[test]
-fn first_faults_are_told(rt: HostRuntime) -> Result<(), Fail> {
-    for (text, at, kind) in FAULTS {
-        assert!(rt; is_refused(rt.alloc(), text, at, kind));
+/// The first fault of a text, where it was refused for one.
+pub fn fault_of(refusal: Option<ExprErr>) -> Option<(usize, ExprKind)> {
+    match refusal {
+        Some(ExprErr::Fault(ExprFault { at, kind })) => Some((at, kind)),
+        _ => None,
     }
-    Ok(())
 }
 
 #[test]
-fn conditions_are_read(rt: HostRuntime) -> Result<(), Fail> {
-    for text in CONDITIONS {
+fn first_faults_are_told(rt: HostRuntime) {
+    for &(text, at, kind) in &FAULTS {
+        assert!(rt; fault_of(parse_expr(rt.alloc(), text).err()) == Some((at, kind)));
+    }
+}
+
+#[test]
+fn conditions_are_read(rt: HostRuntime) {
+    for &text in &CONDITIONS {
         assert!(rt; parse_expr(rt.alloc(), text).is_ok());
     }
-    Ok(())
 }

@@ -1,10 +1,10 @@
 //! The longest and the deepest expressions.
 
-use crate::values::holds_at;
-use cloud_points::Point;
-use expr_lang::{ExprErr, ExprFault, ExprKind, parse_expr};
+use crate::conditions::fault_of;
+use crate::values::{holds_at, point_at};
+use expr_eval::ArithFault;
+use expr_lang::{ExprKind, parse_expr};
 use std::alloc::{AllocError, Global};
-use std::test::Fail;
 
 /// Texts by what stands how often before `X > 1` and behind it, and the fault of the text.
 const REPEATED: [(&str, usize, &str, &str, usize, Option<(usize, ExprKind)>); 10] = [
@@ -38,29 +38,35 @@ fn repeated(
     Ok(text)
 }
 
-/// The fault of a text.
-fn fault_of(alloc: Global, text: &str) -> Option<(usize, ExprKind)> {
-    match parse_expr(alloc, text).err() {
-        Some(ExprErr::Fault(ExprFault { at, kind })) => Some((at, kind)),
-        _ => None,
-    }
+/// Whether a text of such pieces has this first fault, or none.
+fn is_limited(
+    alloc: Global,
+    before: (&str, usize),
+    middle: &str,
+    behind: (&str, usize),
+    fault: Option<(usize, ExprKind)>,
+) -> bool {
+    let Ok(text) = repeated(alloc, before, middle, behind) else {
+        return false;
+    };
+    fault_of(parse_expr(alloc, text.as_str()).err()) == fault
 }
 
 #[test]
-fn depth_and_length_have_limits(rt: HostRuntime) -> Result<(), Fail> {
-    for (before, opened, middle, behind, closed, fault) in REPEATED {
-        let text = repeated(rt.alloc(), (before, opened), middle, (behind, closed))?;
-        assert!(rt; fault_of(rt.alloc(), text.as_str()) == fault);
+fn depth_and_length_have_limits(rt: HostRuntime) {
+    for &(before, opened, middle, behind, closed, fault) in &REPEATED {
+        let (before, behind) = ((before, opened), (behind, closed));
+        assert!(rt; is_limited(rt.alloc(), before, middle, behind, fault));
     }
-    Ok(())
+}
+
+/// Whether a sum of 2044 times X is 2044 where X is 1.
+fn deep(alloc: Global) -> Option<Result<bool, ArithFault>> {
+    let text = repeated(alloc, ("", 0), "2044==X", ("+X", 2043)).ok()?;
+    holds_at(alloc, text.as_str(), &point_at([1_000_000_000, 0, 0]))
 }
 
 #[test]
-fn deep_trees_are_evaluated(rt: HostRuntime) -> Result<(), Fail> {
-    let mut point = Point::zero();
-    point.x = 1_000_000_000;
-    let text = repeated(rt.alloc(), ("", 0), "2044==X", ("+X", 2043))?;
-    let told = holds_at(rt.alloc(), text.as_str(), &point);
-    assert!(rt; told == Some(Ok(true)));
-    Ok(())
+fn deep_trees_are_evaluated(rt: HostRuntime) {
+    assert!(rt; deep(rt.alloc()) == Some(Ok(true)));
 }

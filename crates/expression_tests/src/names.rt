@@ -4,23 +4,23 @@ use cloud_points::{Dim, ExtraNames, Layout};
 use expr_eval::{BindErr, bind_expr};
 use expr_lang::parse_expr;
 use std::alloc::Global;
-use std::test::Fail;
 
-/// Conditions over points that have X and an extra dimension `Height`, each with whether they have GpsTime too, the name that is
-/// refused, and whether it is unknown.
-const REFUSED: [(&str, bool, &str, bool); 8] = [
-    ("X > gpstime && Q > 1", true, "gpstime", false),
-    ("X > gpstime && Q > 1", false, "gpstime", true),
-    ("X > 1 && Q > GpsTime", true, "Q", true),
-    ("Y > Q", true, "Y", true),
-    ("!(X > 1 || 1 == -zz)", false, "zz", true),
-    ("height > Heigh", false, "Heigh", true),
-    ("1 < GPSTIME", true, "GPSTIME", false),
-    ("1 < GPSTIME", false, "GPSTIME", true),
+/// Conditions over points that have X and an extra dimension `Height`, each with whether they have GpsTime too, and the
+/// name that is refused, where there is one, and whether it is unknown.
+const CONDITIONS: [(&str, bool, Option<(&str, bool)>); 12] = [
+    ("X > gpstime && Q > 1", true, Some(("gpstime", false))),
+    ("X > gpstime && Q > 1", false, Some(("gpstime", true))),
+    ("X > 1 && Q > GpsTime", true, Some(("Q", true))),
+    ("Y > Q", true, Some(("Y", true))),
+    ("!(X > 1 || 1 == -zz)", false, Some(("zz", true))),
+    ("height > Heigh", false, Some(("Heigh", true))),
+    ("1 < GPSTIME", true, Some(("GPSTIME", false))),
+    ("1 < GPSTIME", false, Some(("GPSTIME", true))),
+    ("x > X", false, None),
+    ("hEIGHT > 1", false, None),
+    ("Height == HEIGHT", false, None),
+    ("1 > 2", false, None),
 ];
-
-/// Conditions of which each name is one of these dimensions.
-const BOUND: [&str; 4] = ["x > X", "hEIGHT > 1", "Height == HEIGHT", "1 > 2"];
 
 fn layout(has_time: bool) -> Layout {
     let mut layout = Layout::none();
@@ -32,41 +32,38 @@ fn layout(has_time: bool) -> Layout {
     layout
 }
 
-/// Why a condition isn't bound.
-fn refusal_of(alloc: Global, text: &str, layout: &Layout, names: &ExtraNames) -> Option<BindErr> {
-    let Ok(expr) = parse_expr(alloc, text) else {
-        return None;
-    };
-    bind_expr(alloc, &expr, layout, names).err()
-}
-
-/// Whether a refusal is for this name.
-fn is_for(refusal: Option<BindErr>, name: &str, unknown: bool) -> bool {
+/// The name for which binding is refused, and whether it is unknown.
+fn refused(refusal: &BindErr) -> Option<(&str, bool)> {
     match refusal {
-        Some(BindErr::Unknown(told)) => unknown && told.as_str() == name,
-        Some(BindErr::NotNumeric(told)) => !unknown && told.as_str() == name,
-        _ => false,
+        BindErr::Unknown(name) => Some((name.as_str(), true)),
+        BindErr::NotNumeric(name) => Some((name.as_str(), false)),
+        BindErr::Memory => None,
     }
 }
 
-fn is_bound(alloc: Global, text: &str, names: &ExtraNames) -> bool {
+/// Whether a condition is bound, or refused for this name.
+fn answers(
+    alloc: Global,
+    text: &str,
+    layout: &Layout,
+    names: &ExtraNames,
+    name: Option<(&str, bool)>,
+) -> bool {
     let Ok(expr) = parse_expr(alloc, text) else {
         return false;
     };
-    bind_expr(alloc, &expr, &layout(false), names).is_ok()
+    match bind_expr(alloc, &expr, layout, names) {
+        Ok(_) => name.is_none(),
+        Err(refusal) => name.is_some() && refused(&refusal) == name,
+    }
 }
 
 #[test]
-fn the_first_name_is_refused(rt: HostRuntime) -> Result<(), Fail> {
+fn the_first_name_is_refused(rt: HostRuntime) {
     let mut names = ExtraNames::none(rt.alloc());
     let added = names.add("Height");
     assert!(rt; added == Ok(0));
-    for (text, has_time, name, unknown) in REFUSED {
-        let refusal = refusal_of(rt.alloc(), text, &layout(has_time), &names);
-        assert!(rt; is_for(refusal, name, unknown));
+    for &(text, has_time, name) in &CONDITIONS {
+        assert!(rt; answers(rt.alloc(), text, &layout(has_time), &names, name));
     }
-    for text in BOUND {
-        assert!(rt; is_bound(rt.alloc(), text, &names));
-    }
-    Ok(())
 }

@@ -1,155 +1,162 @@
 //! Values and conditions at points.
 
 use cloud_points::{Dim, ExtraNames, Layout, Point};
-use expr_eval::{ArithFault, bind_expr, holds, value};
-use expr_lang::{parse_assign, parse_expr};
+use expr_eval::{ArithFault, Bound, bind_expr, holds, value};
+use expr_lang::{Expr, parse_assign, parse_expr};
 use std::alloc::Global;
-use std::test::Fail;
 
 const ZERO: ArithFault = ArithFault::DivideByZero;
 
 const LARGE: ArithFault = ArithFault::ArithOverflow;
 
-/// Texts of values, each with a point's coordinates and the value there, all in nanounits.
+/// Texts of assignments, each with a point's coordinates and the value there, all in nanounits.
 const VALUES: [(&str, [i64; 3], Result<i128, ArithFault>); 41] = [
-    ("Z/0+\t(Z)", [5, 0, -2_500_000_000], Err(ZERO)),
+    ("X = Z/0+\t(Z)", [5, 0, -2_500_000_000], Err(ZERO)),
     (
-        "4000000000 / 0.000000001 * X",
+        "X = 4000000000 / 0.000000001 * X",
         [-2_500_000_000, 1_500_000_000, -5],
         Err(LARGE),
     ),
     (
-        "1000000000 * 1000000000 + 0.000000001",
+        "X = 1000000000 * 1000000000 + 0.000000001",
         [-417_497_264_264, 149_055_969_978, 106_715_680_899],
         Err(LARGE),
     ),
-    ("Z+Y*\t(Y)/0", [1_000_000_000, -2_500_000_000, 5], Err(ZERO)),
     (
-        "X / (Y - Y)",
+        "X = Z+Y*\t(Y)/0",
+        [1_000_000_000, -2_500_000_000, 5],
+        Err(ZERO),
+    ),
+    (
+        "X = X / (Y - Y)",
         [-5, 2_059_876_374_600_186_285, -4_000_000_000_000_000_000],
         Err(ZERO),
     ),
     (
-        "X *( (X))",
+        "X = X *( (X))",
         [1_113_945_291_443_107_222, -5, -829_812_418_599],
         Err(LARGE),
     ),
     (
-        "4000000000 * 4000000000 * X",
+        "X = 4000000000 * 4000000000 * X",
         [1_000_000_000, 0, 0],
         Err(LARGE),
     ),
     (
-        "1000000000 * 1000000000 / X",
+        "X = 1000000000 * 1000000000 / X",
         [-5, -729_292_156_542, -2_500_000_000],
         Err(LARGE),
     ),
     (
-        "(1000000000 * 1000000000) * (1000000000 * 1000000000)",
+        "X = (1000000000 * 1000000000) * (1000000000 * 1000000000)",
         [1_500_000_000, 5, -5],
         Err(LARGE),
     ),
-    ("0.01*-  Y/0", [0, 1_000_000_000, -2_500_000_000], Err(ZERO)),
     (
-        "Z  *(\nY  /Z-\n1)",
+        "X = 0.01*-  Y/0",
+        [0, 1_000_000_000, -2_500_000_000],
+        Err(ZERO),
+    ),
+    (
+        "X = Z  *(\nY  /Z-\n1)",
         [-800_312_731_633, -4_000_000_000_000_000_000, 0],
         Err(ZERO),
     ),
     (
-        "0.000000001 * X",
+        "X = 0.000000001 * X",
         [1_000_000_000, -84_823_831_555, 1_500_000_000],
         Ok(1),
     ),
     (
-        "X * Y - Y * X",
+        "X = X * Y - Y * X",
         [-2_500_000_000, 1_500_000_000, 1_500_000_000],
         Ok(0),
     ),
     (
-        "Y*-\tClassification",
+        "X = Y*-\tClassification",
         [370_250_317_402, 1_000_000_000, 0],
         Ok(0),
     ),
     (
-        "-(X*Z\t+X\t+\nX)",
+        "X = -(X*Z\t+X\t+\nX)",
         [0, 509_885_961_003, 1_000_000_000],
         Ok(0),
     ),
     (
-        "Intensity*X",
+        "X = Intensity*X",
         [1_500_000_000, -4_000_000_000_000_000_000, 1_000_000_000],
         Ok(0),
     ),
-    ("((-  Z))", [1_000_000_000, 1_000_000_000, -5], Ok(5)),
+    ("X = ((-  Z))", [1_000_000_000, 1_000_000_000, -5], Ok(5)),
     (
-        "-Classification/10-Y",
+        "X = -Classification/10-Y",
         [1_000_000_000, 1_500_000_000, -2_500_000_000],
         Ok(-1_500_000_000),
     ),
     (
-        "0.000000001\t---(ReturnNumber)",
+        "X = 0.000000001\t---(ReturnNumber)",
         [1_500_000_000, 0, -2_500_000_000],
         Ok(1),
     ),
-    ("(X)- X  -Y", [0, -5, 5], Ok(5)),
-    ("(-  --Z)", [1_000_000_000, 1_500_000_000, -5], Ok(5)),
+    ("X = (X)- X  -Y", [0, -5, 5], Ok(5)),
+    ("X = (-  --Z)", [1_000_000_000, 1_500_000_000, -5], Ok(5)),
     (
-        "1000000000 * 1000000000",
+        "X = 1000000000 * 1000000000",
         [-2_500_000_000, 1_000_000_000, 1_000_000_000],
         Ok(1_000_000_000_000_000_000_000_000_000),
     ),
-    ("-X / 2", [0, 0, -27_471_861_475], Ok(0)),
+    ("X = -X / 2", [0, 0, -27_471_861_475], Ok(0)),
     (
-        "-\t-(Z*Y)",
+        "X = -\t-(Z*Y)",
         [-2_500_000_000, -2_500_000_000, 1_000_000_000],
         Ok(-2_500_000_000),
     ),
     (
-        "Z-(Y+Classification\t+(Z))",
+        "X = Z-(Y+Classification\t+(Z))",
         [-2_500_000_000, 5, -5],
         Ok(-5),
     ),
-    ("((0.000000001\n*0.01))", [-2_500_000_000, -5, 5], Ok(0)),
+    ("X = ((0.000000001\n*0.01))", [-2_500_000_000, -5, 5], Ok(0)),
     (
-        "-Classification",
+        "X = -Classification",
         [-770_396_948_930, 1_000_000_000, 1_000_000_000],
         Ok(0),
     ),
     (
-        "--Y/Y+Intensity-Y",
+        "X = --Y/Y+Intensity-Y",
         [-2_500_000_000, 1_500_000_000, 550_565_986_663],
         Ok(-500_000_000),
     ),
     (
-        "X * Y * Z",
+        "X = X * Y * Z",
         [-2_500_000_000, 0, 3_343_583_899_865_357_295],
         Ok(0),
     ),
     (
-        "-Z",
+        "X = -Z",
         [-2_500_000_000, -2_500_000_000, 667_415_487_120],
         Ok(-667_415_487_120),
     ),
-    ("((Y))+z-(Z)", [-2_500_000_000, -5, 0], Ok(-5)),
-    ("Y  /\n10", [-5, 5, 0], Ok(1)),
-    ("X / -Y", [5, 3_492_737_632_015, 1_500_000_000], Ok(0)),
+    ("X = ((Y))+z-(Z)", [-2_500_000_000, -5, 0], Ok(-5)),
+    ("X = Y  /\n10", [-5, 5, 0], Ok(1)),
+    ("X = X / -Y", [5, 3_492_737_632_015, 1_500_000_000], Ok(0)),
     (
-        "-\t10.35",
+        "X = -\t10.35",
         [1_500_000_000, 5, -70_668_129_297],
         Ok(-10_350_000_000),
     ),
     (
-        "X / 3",
+        "X = X / 3",
         [1_500_000_000, 5, -3_165_705_667_252_269_071],
         Ok(500_000_000),
     ),
     (
-        "(X * X) * (Y * Y)",
+        "X = (X * X) * (Y * Y)",
         [-5, 589_415_039_757, 1_500_000_000],
         Ok(0),
     ),
     (
-        "X * 0.000000001",
+        "X = X * 0.000000001",
         [
             1_500_000_000,
             3_148_582_931_913_960_394,
@@ -157,14 +164,18 @@ const VALUES: [(&str, [i64; 3], Result<i128, ArithFault>); 41] = [
         ],
         Ok(2),
     ),
-    ("Y-(Y)", [-2_500_000_000, 316_551, 1_500_000_000], Ok(0)),
-    ("X / Y", [-5, -216_947_735_975, -2_500_000_000], Ok(0)),
+    ("X = Y-(Y)", [-2_500_000_000, 316_551, 1_500_000_000], Ok(0)),
+    ("X = X / Y", [-5, -216_947_735_975, -2_500_000_000], Ok(0)),
     (
-        "(Y- Y-Intensity- - 2)",
+        "X = (Y- Y-Intensity- - 2)",
         [1_000_000_000, 4_000_000_000_000_000_000, 496_524_834],
         Ok(2_000_000_000),
     ),
-    ("-\n(3.1)* - X", [5, -2_500_000_000, 1_500_000_000], Ok(16)),
+    (
+        "X = -\n(3.1)* - X",
+        [5, -2_500_000_000, 1_500_000_000],
+        Ok(16),
+    ),
 ];
 
 /// Conditions, each with whether it holds at the point 1.5, 0, 4 * 10^9 of class 2.
@@ -187,74 +198,60 @@ const CONDITIONS: [(&str, Result<bool, ArithFault>); 16] = [
     ("Z == 4000000000", Ok(true)),
 ];
 
-/// A layout of these dimensions.
-fn layout_of(dims: &[Dim]) -> Layout {
+const DIMS: [Dim; 6] = [
+    Dim::X,
+    Dim::Y,
+    Dim::Z,
+    Dim::Intensity,
+    Dim::ReturnNumber,
+    Dim::Classification,
+];
+
+/// All coordinates, and some whole numbers.
+fn layout() -> Layout {
     let mut layout = Layout::none();
-    for dim in dims {
-        layout.add(*dim);
+    for &dim in &DIMS {
+        layout.add(dim);
     }
     layout
 }
 
-/// All coordinates, and some whole numbers.
-fn layout() -> Layout {
-    layout_of(&[
-        Dim::X,
-        Dim::Y,
-        Dim::Z,
-        Dim::Intensity,
-        Dim::ReturnNumber,
-        Dim::Classification,
-    ])
+fn bound(alloc: Global, e: &Expr) -> Option<Bound> {
+    bind_expr(alloc, e, &layout(), &ExtraNames::none(alloc)).ok()
 }
 
-/// The value of a text at a point, where the text is a value over the layout.
-pub fn value_at(alloc: Global, text: &str, point: &Point) -> Option<Result<i128, ArithFault>> {
-    let assign = format!(in alloc; "X = {text}").ok()?;
-    let Ok(assign) = parse_assign(alloc, assign.as_str()) else {
-        return None;
-    };
-    let names = ExtraNames::none(alloc);
-    let Ok(bound) = bind_expr(alloc, &assign.value, &layout(), &names) else {
-        return None;
-    };
-    Some(value(&bound, point))
+/// The value that a text assigns at a point, where the text is an assignment over the layout.
+fn value_at(alloc: Global, text: &str, point: &Point) -> Option<Result<i128, ArithFault>> {
+    let assign = parse_assign(alloc, text).ok()?;
+    Some(value(&bound(alloc, &assign.value)?, point))
 }
 
 /// Whether a text holds at a point, where the text is a condition over the layout.
 pub fn holds_at(alloc: Global, text: &str, point: &Point) -> Option<Result<bool, ArithFault>> {
-    let Ok(expr) = parse_expr(alloc, text) else {
-        return None;
-    };
-    let names = ExtraNames::none(alloc);
-    let Ok(bound) = bind_expr(alloc, &expr, &layout(), &names) else {
-        return None;
-    };
-    Some(holds(&bound, point))
+    let expr = parse_expr(alloc, text).ok()?;
+    Some(holds(&bound(alloc, &expr)?, point))
 }
 
-fn point_at(place: [i64; 3]) -> Point {
+pub fn point_at(place: [i64; 3]) -> Point {
     let mut point = Point::zero();
     (point.x, point.y, point.z) = (place[0], place[1], place[2]);
     point
 }
 
 #[test]
-fn values_are_exact_or_fault(rt: HostRuntime) -> Result<(), Fail> {
-    for (text, place, answer) in VALUES {
+fn values_are_exact_or_fault(rt: HostRuntime) {
+    for &(text, place, answer) in &VALUES {
         let told = value_at(rt.alloc(), text, &point_at(place));
         assert!(rt; told == Some(answer));
     }
-    Ok(())
 }
 
 #[test]
-fn conditions_hold_or_fault(rt: HostRuntime) -> Result<(), Fail> {
+fn conditions_hold_or_fault(rt: HostRuntime) {
     let mut point = point_at([1_500_000_000, 0, 4_000_000_000_000_000_000]);
     point.classification = 2;
-    for (text, answer) in CONDITIONS {
+    for &(text, answer) in &CONDITIONS {
         let told = holds_at(rt.alloc(), text, &point);
         assert!(rt; told == Some(answer));
     }
-    Ok(())
 }

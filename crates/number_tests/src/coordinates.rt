@@ -5,7 +5,6 @@ use decimal_coords::{
     DecFault, NotHeld, Scale, decimal_of_text_is_parsed, parse_decimal, parsed_is_one, print_fixed,
     put_fixed, raw, real,
 };
-use std::test::Fail;
 
 /// A number of nanounits, the places that are printed, and the text.
 const PRINTED: [(i128, u32, &str); 15] = [
@@ -37,11 +36,10 @@ fn is_printed(nano: i128, places: u32, text: &str) -> bool {
 }
 
 #[test]
-fn print_fixed_rounds_half_away(rt: HostRuntime) -> Result<(), Fail> {
+fn print_fixed_rounds_half_away(rt: HostRuntime) {
     for &(nano, places, text) in &PRINTED {
-        assert!(rt; is_printed(nano, places, text), "{text}");
+        assert!(rt; is_printed(nano, places, text));
     }
-    Ok(())
 }
 
 /// A number of nanounits, the places that are put, and the text.
@@ -76,11 +74,10 @@ fn is_put(nano: i64, places: u32, text: &str) -> bool {
 }
 
 #[test]
-fn put_fixed_ends_at_its_place(rt: HostRuntime) -> Result<(), Fail> {
+fn put_fixed_ends_at_its_place(rt: HostRuntime) {
     for &(nano, places, text) in &PUT {
-        assert!(rt; is_put(nano, places, text), "{text}");
+        assert!(rt; is_put(nano, places, text));
     }
-    Ok(())
 }
 
 /// A text and its nanounits, or why it has none.
@@ -117,13 +114,12 @@ const PARSED: [(&str, Result<i64, DecFault>); 23] = [
 ];
 
 #[test]
-fn parse_decimal_reads_decimals_or_names_the_first_fault(rt: HostRuntime) -> Result<(), Fail> {
+fn parse_decimal_reads_decimals_or_names_the_first_fault(rt: HostRuntime) {
     for &(text, nano) in &PARSED {
         assert!(rt; parse_decimal(text) == nano);
     }
     parsed_is_one();
     decimal_of_text_is_parsed();
-    Ok(())
 }
 
 /// The step of a hundredth, in nanounits.
@@ -163,11 +159,10 @@ fn raw_of(nano: i64, step: i64, off: i64) -> Option<Result<i32, NotHeld>> {
 }
 
 #[test]
-fn raw_goes_to_the_nearest_step(rt: HostRuntime) -> Result<(), Fail> {
+fn raw_goes_to_the_nearest_step(rt: HostRuntime) {
     for &(nano, step, off, number) in &RAWS {
         assert!(rt; raw_of(nano, step, off) == Some(number));
     }
-    Ok(())
 }
 
 /// A raw number, the step of a grid and its offset, and the nanounits.
@@ -196,13 +191,19 @@ fn real_of(number: i32, step: i64, off: i64) -> Option<i64> {
     Some(real(number, scale, off))
 }
 
+/// Nanounits, and those of the scale that they make.
+const STEPS: [(i64, Option<i64>); 3] = [(0, None), (1_000_000_001, None), (ONE, Some(ONE))];
+
+fn nano_of(step: i64) -> Option<i64> {
+    Some(Scale::new(step)?.nano())
+}
+
 #[test]
-fn real_is_on_the_grid(rt: HostRuntime) -> Result<(), Fail> {
+fn real_is_on_the_grid(rt: HostRuntime) {
     for &(number, step, off, nano) in &REALS {
         assert!(rt; real_of(number, step, off) == Some(nano));
     }
-    assert!(rt; Scale::new(0) == None);
-    assert!(rt; Scale::new(1_000_000_001) == None);
-    assert!(rt; Scale::new(ONE).map(|scale| scale.nano()) == Some(ONE));
-    Ok(())
+    for &(step, nano) in &STEPS {
+        assert!(rt; nano_of(step) == nano);
+    }
 }

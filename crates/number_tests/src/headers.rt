@@ -3,44 +3,61 @@
 mod blocks;
 mod fields;
 
-use blocks::{BLOCKS, FRONTS};
-use fields::{CENT, Field};
+use blocks::BLOCKS;
+use fields::*;
 use las_header::{
     Format, HeaderFault, ScaleFault, read_header, scale_of_word, scales_have_their_words,
     write_header,
 };
 use std::test::Fail;
 
-fn set(bytes: &mut [u8; 375], at: usize, new: &[u8]) {
-    for (i, byte) in new.iter().enumerate() {
-        if at < 375 && i < 375 - at {
-            bytes[at + i] = *byte;
+/// Puts a number into its field.
+fn put(bytes: &mut [u8; 375], field: Field, number: u64) {
+    for (i, byte) in number.to_le_bytes().iter().enumerate() {
+        if i < field.bytes && field.at < 375 && i < 375 - field.at {
+            bytes[field.at + i] = *byte;
         }
     }
 }
 
 /// The header block of a file of format 0 without points, and no more.
 fn no_points() -> [u8; 375] {
-    let mut bytes = [0; 375];
-    set(&mut bytes, 0, b"LASF");
-    set(&mut bytes, 24, &[1, 4]);
-    set(&mut bytes, 94, &375u16.to_le_bytes());
-    set(&mut bytes, 96, &375u32.to_le_bytes());
-    set(&mut bytes, 105, &20u16.to_le_bytes());
-    set(&mut bytes, 131, &CENT.to_le_bytes());
-    set(&mut bytes, 139, &CENT.to_le_bytes());
-    set(&mut bytes, 147, &CENT.to_le_bytes());
+    block_of(&[0; 375], &NO_POINTS)
+}
+
+/// A block with other numbers in these fields.
+fn block_of(before: &[u8; 375], numbers: &[(Field, u64)]) -> [u8; 375] {
+    let mut bytes = *before;
+    for &(field, number) in numbers {
+        put(&mut bytes, field, number);
+    }
     bytes
 }
 
+const NO_POINTS: [(Field, u64); 9] = [
+    (SIGNATURE, 0x4653_414C),
+    (MAJOR, 1),
+    (MINOR, 4),
+    (HEADER_SIZE, 375),
+    (POINTS_AT, 375),
+    (LENGTH, 20),
+    (X_SCALE, CENT),
+    (Y_SCALE, CENT),
+    (Z_SCALE, CENT),
+];
+
+const TWO_POINTS: [(Field, u64); 5] = [
+    (COUNT, 2),
+    (X_OFFSET, THIRD),
+    (LEGACY, 7),
+    (CREATED, 0x07E8_012D),
+    // a survey
+    (SYSTEM, 0x7965_7672_7573_2061),
+];
+
 #[test]
 fn a_header_of_two_points_is_read(rt: HostRuntime) -> Result<(), Fail> {
-    let mut bytes = no_points();
-    set(&mut bytes, 247, &[2]);
-    set(&mut bytes, 155, &0x3FD5_5555_5555_5555u64.to_le_bytes());
-    set(&mut bytes, 107, &[7]);
-    set(&mut bytes, 90, &[45, 1, 0xE8, 7]);
-    set(&mut bytes, 26, b"a survey");
+    let bytes = block_of(&no_points(), &TWO_POINTS);
     let Ok(header) = read_header(&bytes) else {
         return Err(Fail::from("no header"));
     };
@@ -52,43 +69,44 @@ fn a_header_of_two_points_is_read(rt: HostRuntime) -> Result<(), Fail> {
     assert!(rt; header.scale[2].nano() == 10_000_000);
     assert!(rt; header.offset == [333_333_333, 0, 0]);
     assert!(rt; (header.count, header.legacy_count, header.points()) == (2, 7, 2));
-    set(&mut bytes, 25, &[2]);
-    assert!(rt; read_header(&bytes).map(|header| (header.count, header.points())) == Ok((0, 7)));
-    set(&mut bytes, 25, &[4]);
-    set(&mut bytes, 247, &[0]);
-    assert!(rt; read_header(&bytes).map(|header| header.points()) == Ok(7));
+    let older = block_of(&bytes, &[(MINOR, 2)]);
+    assert!(rt; counts(&older) == Some((0, 7)));
+    let uncounted = block_of(&bytes, &[(COUNT, 0)]);
+    assert!(rt; counts(&uncounted) == Some((0, 7)));
     Ok(())
 }
 
-/// The first fault in the front of a file whose header block has these numbers in the place of those of a file without
-/// points.
-fn first_fault(length: usize, edits: &[(Field, u64)]) -> Option<HeaderFault> {
+/// The count of a block's header, and its points.
+fn counts(bytes: &[u8; 375]) -> Option<(u64, u64)> {
+    let header = read_header(bytes).ok()?;
+    Some((header.count, header.points()))
+}
+
+/// The first fault of so many bytes of a block.
+fn first_fault(bytes: &[u8; 375], length: usize) -> Option<HeaderFault> {
+    read_header(&bytes[..length.min(375)]).err()
+}
+
+/// The number of the line of the first block whose first fault is another one.
+fn wrongly_told(steps: &[Step]) -> Option<usize> {
     let mut bytes = no_points();
-    for &(field, number) in edits {
-        for (i, byte) in number.to_le_bytes().iter().enumerate() {
-            if i < field.bytes && field.at < 375 && i < 375 - field.at {
-                bytes[field.at + i] = *byte;
+    for (number, step) in steps.iter().enumerate() {
+        match *step {
+            Step::Has(field, word) => put(&mut bytes, field, word),
+            Step::Told(length, fault) => {
+                if first_fault(&bytes, length) != fault {
+                    return Some(number);
+                }
+                bytes = no_points();
             }
         }
     }
-    if length < 375 {
-        read_header(&bytes[..length]).err()
-    } else {
-        read_header(&bytes).err()
-    }
+    None
 }
 
 #[test]
-fn the_first_fault_is_told(rt: HostRuntime) -> Result<(), Fail> {
-    for &(fault, blocks) in &BLOCKS {
-        for edits in blocks {
-            assert!(rt; first_fault(375, edits) == fault);
-        }
-    }
-    for &(length, edits, fault) in &FRONTS {
-        assert!(rt; first_fault(length, edits) == Some(fault));
-    }
-    Ok(())
+fn the_first_fault_is_told(rt: HostRuntime) {
+    assert!(rt; wrongly_told(&BLOCKS) == None);
 }
 
 /// Words and the scales that they stand for in nanounits, from an independent reading of the standard.
@@ -150,37 +168,41 @@ fn a_scale_is_the_decimal_of_its_word(rt: HostRuntime) -> Result<(), Fail> {
     Ok(())
 }
 
-#[test]
-fn a_written_header_is_read_again(rt: HostRuntime) -> Result<(), Fail> {
-    let mut bytes = no_points();
-    set(&mut bytes, 4, &[1, 2, 3, 4, 5, 6, 7]);
-    set(&mut bytes, 58, b"by hand");
-    set(&mut bytes, 90, &[45, 1, 0xE8, 7]);
-    set(&mut bytes, 111, &[1, 0, 0, 0, 2, 0, 0, 0, 3]);
-    set(&mut bytes, 155, &0xC11E_8480_4000_0000u64.to_le_bytes());
-    set(&mut bytes, 179, &0x3FD5_5555_5555_5555u64.to_le_bytes());
-    set(
-        &mut bytes,
-        227,
-        &[8, 7, 6, 5, 4, 3, 2, 1, 1, 2, 3, 4, 5, 6, 7, 8],
-    );
-    set(&mut bytes, 367, &[1, 2, 3, 4, 5, 6, 7, 8]);
-    let Ok(header) = read_header(&bytes) else {
-        return Err(Fail::from("no header"));
+const BY_HAND: [(Field, u64); 10] = [
+    (PROJECT, 0x0007_0605_0403_0201),
+    // by hand
+    (SOFTWARE, 0x0064_6E61_6820_7962),
+    (CREATED, 0x07E8_012D),
+    (LEGACY_BY_RETURN, 0x0000_0002_0000_0001),
+    (LEGACY_THIRD, 3),
+    (X_OFFSET, 0xC11E_8480_4000_0000),
+    (X_MAX, THIRD),
+    (WAVES_AT, 0x0102_0304_0506_0708),
+    (EVLRS_AT, 0x0807_0605_0403_0201),
+    (LAST_RETURN, 0x0807_0605_0403_0201),
+];
+
+/// Whether the header of a block is written as its first so many bytes, and those behind stay.
+fn is_written_again(bytes: &[u8; 375], size: usize) -> bool {
+    let Ok(header) = read_header(bytes) else {
+        return false;
     };
-    assert!(rt; header.offset == [-500_000_062_500_000, 0, 0]);
     let mut out = [0xFF; 375];
-    assert!(rt; write_header(&header, &mut out) == 375);
-    assert!(rt; out == bytes);
-    for (minor, size) in [(2, 227), (3, 235)] {
-        set(&mut bytes, 25, &[minor]);
-        let Ok(header) = read_header(&bytes) else {
-            return Err(Fail::from("no header"));
-        };
-        let mut out = [0xFF; 375];
-        assert!(rt; write_header(&header, &mut out) == size);
-        assert!(rt; out.get(..size) == bytes.get(..size));
-        assert!(rt; (out.get(size), out[374]) == (Some(&0xFF), 0xFF));
+    let written = write_header(&header, &mut out);
+    let mut wanted = [0xFF; 375];
+    for (place, byte) in wanted.iter_mut().zip(bytes.iter().take(size)) {
+        *place = *byte;
     }
-    Ok(())
+    written == size && out == wanted
+}
+
+#[test]
+fn a_written_header_is_read_again(rt: HostRuntime) {
+    let bytes = block_of(&no_points(), &BY_HAND);
+    assert!(rt;
+        read_header(&bytes).map(|header| header.offset) == Ok([-500_000_062_500_000, 0, 0])
+    );
+    assert!(rt; is_written_again(&bytes, 375));
+    assert!(rt; is_written_again(&block_of(&bytes, &[(MINOR, 2)]), 227));
+    assert!(rt; is_written_again(&block_of(&bytes, &[(MINOR, 3)]), 235));
 }

@@ -4,7 +4,6 @@ use ieee_words::{
     WordFault, decimal, decimal_is_one, decimal_of_word_is_decimal, near, near_word_is_nearest,
     nearest_is_one, order_keeps_values, scale_is_one, scale_nano, word_order,
 };
-use std::test::Fail;
 
 // Expected values by exact fractions, those of the last rows of a table by an independent reading of the standard.
 
@@ -75,13 +74,12 @@ fn word_of(n: i64, k: u32) -> Option<u64> {
 }
 
 #[test]
-fn near_gives_the_nearest_word(rt: HostRuntime) -> Result<(), Fail> {
+fn near_gives_the_nearest_word(rt: HostRuntime) {
     for &(n, k, word) in &NEAREST {
         assert!(rt; word_of(n, k) == Some(word));
     }
     nearest_is_one();
     near_word_is_nearest();
-    Ok(())
 }
 
 /// A word, and its nanounits and whether they are exact, or why it has none.
@@ -156,13 +154,12 @@ fn decimal_of(word: u64) -> Result<(i64, bool), WordFault> {
 }
 
 #[test]
-fn decimal_is_short_where_it_can_be(rt: HostRuntime) -> Result<(), Fail> {
+fn decimal_is_short_where_it_can_be(rt: HostRuntime) {
     for &(word, wanted) in &DECIMALS {
         assert!(rt; decimal_of(word) == wanted);
     }
     decimal_is_one();
     decimal_of_word_is_decimal();
-    Ok(())
 }
 
 /// A word and its order number.
@@ -215,12 +212,11 @@ const ORDERS: [(u64, u64); 44] = [
 ];
 
 #[test]
-fn word_order_grows_with_the_value(rt: HostRuntime) -> Result<(), Fail> {
+fn word_order_grows_with_the_value(rt: HostRuntime) {
     for &(word, order) in &ORDERS {
         assert!(rt; word_order(word) == order);
     }
     order_keeps_values();
-    Ok(())
 }
 
 /// A word and the scale that it stands for.
@@ -243,10 +239,9 @@ const SCALES: [(u64, Option<i64>); 14] = [
 ];
 
 #[test]
-fn scale_nano_takes_the_word_of_a_scale_alone(rt: HostRuntime) -> Result<(), Fail> {
+fn scale_nano_takes_the_word_of_a_scale_alone(rt: HostRuntime) {
     for &(word, nano) in &SCALES {
         assert!(rt; scale_nano(word) == nano);
     }
     scale_is_one();
-    Ok(())
 }
