@@ -28,10 +28,12 @@ _lasline() {
     # The other commands have no options.
     [[ ${COMP_WORDS[1]} == @(run|trial) ]] || return
     case $before in
+        --workers) mapfile -t COMPREPLY < <(compgen -W "1 2 4 8 16 32" -- "$word") ;;
+        --patience) mapfile -t COMPREPLY < <(compgen -W "0 1000 1000000" -- "$word") ;;
         --chunk | --queue) mapfile -t COMPREPLY < <(compgen -W "1 2 4 8 16 32 64" -- "$word") ;;
         *)
             # Each option at most once.
-            for option in --chunk --queue --whole; do
+            for option in --chunk --queue --workers --patience --whole; do
                 [[ " ${COMP_WORDS[*]:3:COMP_CWORD-3} " == *" $option "* ]] || options+=("$option")
             done
             mapfile -t COMPREPLY < <(compgen -W "${options[*]}" -- "$word")

@@ -144,14 +144,12 @@ members = {"type", "filename", "tag", "inputs", "pipeline"}
 fields = re.search(r"fn is_field\(.*?\n}", read("crates/option_texts/src/forward.rt"), re.S)[0]
 forwarded = set(re.findall(r'"(\w+)"', fields))
 
-# The commands and their options, of which the last ones have no effect yet.
+# The commands and their options.
 reading = read("crates/command_words/src/reading.rt")
 commands = re.findall(r'"([a-z-]+)" => Some\(State::', reading)
 settings = re.findall(r'"(--\w+)"', read("crates/command_words/src/options.rt")) + re.findall(r'== "(--\w+)"', reading)
 lines = re.search(r"concat!\((.*?)\n    \)", read("crates/lasline_top/src/pages.rt"), re.S)[1]
 page = "".join(json.loads(line) for line in re.findall(r'".*"', lines))
-idle = re.findall(r"(--\w+) .*without effect", page)
-active = [name for name in settings if name not in idle]
 version = re.search(r'"(lasline \S+)\\n"', read("crates/lasline_top/src/pages.rt"))[1]
 
 # The stored cases, in the order in which they are read.
@@ -493,9 +491,9 @@ for place in ("README.md", "docs/PIPELINES.md", "man/lasline.1", "completions/la
     if place == "README.md":
         wanted = commands
     elif place == "docs/PIPELINES.md":
-        wanted = active
+        wanted = settings
     else:
-        wanted = commands + active
+        wanted = commands + settings
     lacks = [name for name in wanted if not re.search(rf"(?<![\w-]){name}\b", text)]
     looked["words"] += len(wanted)
     if lacks:
@@ -512,8 +510,8 @@ for page_name, text in TEXTS.items():
             fault(page_name, f"has {name}, which is no word of the program")
 bash, zsh = read("completions/lasline.bash"), read("completions/_lasline")
 agree("completions/lasline.bash", "commands", re.search(r'-W "([^"]*)"', bash)[1].split(), commands)
-agree("completions/lasline.bash", "options", re.search(r"for option in (.*?);", bash)[1].split(), active)
-agree("completions/_lasline", "words", re.findall(r"'(-{0,2}[a-z]+):", zsh), commands + active)
+agree("completions/lasline.bash", "options", re.search(r"for option in (.*?);", bash)[1].split(), settings)
+agree("completions/_lasline", "words", re.findall(r"'(-{0,2}[a-z]+):", zsh), commands + settings)
 title = re.search(r'^\.TH LASLINE 1 "[^"]*" "([^"]*)"', MAN, re.M)
 agree("man/lasline.1", "version", [title[1] if title else ""], [version])
 releases = re.findall(r"^## (lasline \d\S*?),? ", TEXTS["CHANGELOG.md"].replace("\n", " \n"), re.M)

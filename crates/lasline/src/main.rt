@@ -10,5 +10,5 @@ fn main(rt: HostRuntime) -> ExitCode {
     let mut files = RealFiles::new(&rt, alloc);
     let mut out = RealStream::new(rt.stdout());
     let mut err = RealStream::new(rt.stderr());
-    ExitCode::from(run_program(alloc, words(&rt), &mut files, &mut out, &mut err))
+    ExitCode::from(run_program(&rt, alloc, words(&rt), &mut files, &mut out, &mut err))
 }

@@ -7,3 +7,4 @@ pub mod Tried
 pub mod Failing
 pub mod Statuses
 pub mod Called
+mod Crossing

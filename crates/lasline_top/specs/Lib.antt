@@ -10,3 +10,4 @@ pub mod Reading
 pub mod Ends
 pub mod Codes
 pub mod Calls
+pub mod Threads

@@ -17,8 +17,8 @@ help_lines =
     codes "\n" ∷
     codes "  --chunk N      points that a stage passes on at once: 1 to 64 (default 64)\n" ∷
     codes "  --queue N      items that wait between two stages: 1 to 64 (default 8)\n" ∷
-    codes "  --workers N    1 to 32 (default 1; without effect yet)\n" ∷
-    codes "  --patience N   0 to 1000000 (default 1000; without effect yet)\n" ∷
+    codes "  --workers N    threads that the stages go on by: 1 to 32 (default 1)\n" ∷
+    codes "  --patience N   rounds without work until one stops: 0 to 1000000 (default 1000)\n" ∷
     codes "  --whole        run the stages one after the other, on whole lists\n" ∷
     codes "\n" ∷
     codes "For example, a file p.json with the text\n" ∷

@@ -12,9 +12,11 @@ mod running;
 mod solo;
 mod status;
 mod texts;
+mod threads;
 mod words;
 
-pub use program::run_program;
+pub use program::{AlwaysOpen, run_program};
 pub use run_report::{Fault, Place, Refusal, StageCount, fault_text, report_text};
 pub use solo::{lasline_solo, refused};
 pub use status::Status;
+pub use threads::lasline;

@@ -8,22 +8,38 @@ ghost use Rattle.lasline_top.specs.Calls.{HasExited, seen};
 ghost use Rattle.lasline_top.specs.Cause.{ToldWhy};
 ghost use Rattle.lasline_top.specs.Codes.{code_of};
 
-use crate::solo::{lasline_solo, refused};
+use crate::solo::refused;
 use crate::status::Status;
-use file_devices::{Files, Sink};
+use crate::threads::lasline;
+use file_devices::{Files, Gate, Sink};
 use run_report::Refusal;
 use std::alloc::{AllocError, Global};
+use std::sync::Wait;
+use std::thread::Threads;
+
+/// Lets each worker take each turn.
+pub struct AlwaysOpen;
+
+impl Gate for AlwaysOpen {
+    fn before(&self, _worker: u32, _stage: u32) -> bool {
+        true
+    }
+}
 
 /// Does the command of the words, and answers the exit code of its status: 0 where all was done, else 1 to 5.
 ///
 /// Where there was no memory for the words themselves nothing is done, and it is refused for that.
-pub fn run_program<F: Files, K: Sink, E: Sink>(
+pub fn run_program<F: Files, K: Sink, E: Sink, R: Threads + Wait + Sync>(
+    rt: &R,
     alloc: Global,
     words: Result<Vec<String>, AllocError>,
     files: &mut F,
     out: &mut K,
     err: &mut E,
 ) -> u8
+where
+    F::In: Send,
+    F::Out: Send,
     ensures exited { IfOk words (λ words. HasExited (map string_bytes words.items)
         (seen F.Files K.Sink E.Sink files.old out.old err.old)
         (seen F.Files K.Sink E.Sink files.new out.new err.new)
@@ -34,7 +50,7 @@ pub fn run_program<F: Files, K: Sink, E: Sink>(
     ensures idle { OnErr words ((files.new ≡ files.old) × (out.new ≡ out.old)) }
 {
     match words {
-        Ok(words) => lasline_solo(alloc, &words, files, out, err).code(),
+        Ok(words) => lasline(rt, alloc, &words, files, out, err, &AlwaysOpen).code(),
         Err(_) => refused(Refusal::Memory, err).code(),
     }
 }

@@ -1,4 +1,4 @@
-//! The top call.
+//! The top call on one thread.
 
 ghost use Rattle.std.specs.Prelude.{◌≡◌, ◌≤◌, ℕ, List, map, Ok, Err, IfErr, OnOk, OnErr, string_bytes};
 ghost use Rattle.file_devices.specs.Counts.{Rose};
@@ -93,7 +93,7 @@ pub(crate) fn do_command<F: Files, K: Sink, E: Sink, T: Scheduler<StageWork<F::I
     }
 }
 
-/// Does a command on one thread. It always returns, and waits for nobody.
+/// Does a command on one thread, whatever `--workers` says. It always returns, and waits for nobody.
 ///
 /// `words` are the command line without the program's name:
 ///
@@ -105,8 +105,8 @@ pub(crate) fn do_command<F: Files, K: Sink, E: Sink, T: Scheduler<StageWork<F::I
 ///
 /// Behind `run FILE` and `trial N` may stand `--chunk N`, the points that a stage passes on at once, and `--queue N`, the items that a
 /// queue between two stages holds: each at most once, in any order, with N from 1 to 64. Without them N is 64 and 8. With `--whole`
-/// the stages are evaluated one after the other, each on all its points. None of these changes what is kept or
-/// reported.
+/// the stages are evaluated one after the other, each on all its points. `--workers N`, 1 to 32, and `--patience N`, 0 to 1,000,000, are
+/// for `lasline`. None of these changes what is kept or reported.
 ///
 /// On `Ok` the outputs are kept in `files` and the report is appended to `out`; on any other status a line that says why is appended to
 /// `err`. Every object that `files` handed out is given back.
