@@ -1,12 +1,13 @@
 //! Items on their way between two threads.
 
-ghost use Rattle.std.specs.Prelude.{◌≡◌, ◌<◌, ◌≤◌, true, length};
+ghost use Rattle.std.specs.Prelude.{◌≡◌, ◌<◌, true, length};
+ghost use Rattle.cloud_points.specs.Bodies.{body_ends};
 ghost use Rattle.chunk_queue.specs.Slots.{tag_item, brings_points};
-ghost use Rattle.chunk_queue.specs.Parcels.{IsOpened};
+ghost use Rattle.chunk_queue.specs.Parcels.{IsOpened, LieIn};
 
-use crate::plain::{fill_slot, take_slot};
+use crate::plain::{swap_slots, take_slot};
 use crate::tag::{SlottedItem, Tag};
-use cloud_points::{Point, Spread};
+use cloud_points::Spread;
 use std::marker::Model;
 
 /// An item whose points lie in a slot. A clause sees the item.
@@ -27,17 +28,21 @@ impl Model for Parcel {
 }
 
 impl Parcel {
-    /// The item that a tag and points make, with its points in the slot.
-    pub(crate) fn new(tag: Tag, slot: Box<Spread>, points: &[Point]) -> Parcel
-        requires some { brings_points tag.kind ≡ true → 0 < length points.now }
-        requires most { length points.now ≤ 64 }
-        ensures { result ≡ tag_item tag points.now }
+    /// The item of a tag whose points lie in the slot.
+    pub(crate) fn with_slot(tag: Tag, slot: Box<Spread>) -> Parcel
+        requires { brings_points tag.kind ≡ true → 0 < length slot.value.items }
+        ensures { result ≡ tag_item tag slot.value.items }
     {
-        let mut slot = slot;
-        fill_slot(&mut slot, tag.kind, points);
         Parcel {
             entry: SlottedItem { tag, slot },
         }
+    }
+
+    /// Whether the item is an End.
+    pub(crate) fn is_end(&self) -> bool
+        ensures { result ≡ body_ends self.now.body }
+    {
+        self.entry.tag.kind.is_end()
     }
 
     /// The item's tag and the slot; the item's points are put in place of what the spread held.
@@ -50,8 +55,22 @@ impl Parcel {
         (tag, slot)
     }
 
-    /// The slot.
-    pub(crate) fn into_slot(self) -> Box<Spread> {
+    /// The item's tag and a slot, with the slot in which the item's points lie in place of the one that was
+    /// handed in; where the item brings no points, that one stays.
+    pub(crate) fn open_swap(self, points: &mut Box<Spread>) -> (Tag, Box<Spread>)
+        ensures { IsOpened self result.0 points.old.value.items points.new.value.items }
+    {
+        let Parcel { entry } = self;
+        let SlottedItem { tag, slot } = entry;
+        let mut slot = slot;
+        swap_slots(points, tag.kind, &mut slot);
+        (tag, slot)
+    }
+
+    /// The slot, in which the item's points lie.
+    pub(crate) fn into_slot(self) -> Box<Spread>
+        ensures { LieIn self.body result.value.items }
+    {
         let Parcel { entry } = self;
         let SlottedItem { slot, .. } = entry;
         slot

@@ -267,7 +267,8 @@ pub(crate) fn take_slot(into: &mut Spread, kind: ItemKind, slot: &Spread)
 
 /// Exchanges a slot for that in which the points of an item lie.
 pub(crate) fn swap_slots(into: &mut Box<Spread>, kind: ItemKind, points: &mut Box<Spread>)
-    ensures { into.new.value.items ≡ filled kind into.old.value.items points.old.value.items }
+    ensures into { into.new.value.items ≡ filled kind into.old.value.items points.old.value.items }
+    ensures back { points.new.value.items ≡ filled kind points.old.value.items into.old.value.items }
 {
     match kind {
         ItemKind::Points => mem::swap(into, points),

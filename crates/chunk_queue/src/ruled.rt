@@ -10,6 +10,10 @@ use std::alloc::{AllocError, Global};
 use std::marker::{Brand, Model};
 use std::sync::Arc;
 
+/// The slots that a queue has besides one for each item there is room for: at each end one that is in use there,
+/// and one that the end lends.
+const SPARE_SLOTS: usize = 4;
+
 /// The two ends of a queue.
 #[derive(Drop)]
 struct BothEnds {
@@ -64,7 +68,7 @@ impl RuledQueue {
         requires most { capacity ≤ 64 }
         ensures { IfOk result (λ q. (q.capacity ≡ capacity) × (q.fresh ≡ true)) }
     {
-        let slots = new_slots(alloc, capacity + 2)?;
+        let slots = new_slots(alloc, capacity + SPARE_SLOTS)?;
         let (line, pass) = Line::ruled(alloc, capacity)?;
         let (out, inn) = give_roles::<Brand>(&line, pass, capacity);
         let channel = Arc::new(alloc, Channel { line, slots })?;
@@ -74,11 +78,13 @@ impl RuledQueue {
                 pass: inn,
                 count: 0,
                 ended: false,
+                lent: false,
             },
             out: RuledOut {
                 channel,
                 pass: out,
                 count: 0,
+                lent: false,
             },
         };
         Ok(RuledQueue {

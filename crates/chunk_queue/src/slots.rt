@@ -1,8 +1,8 @@
 //! Empty slots that two threads share.
 
-ghost use Rattle.std.specs.Prelude.{◌<◌};
+ghost use Rattle.std.specs.Prelude.{◌≡◌, ◌<◌, IfSome};
 
-use cloud_points::Spread;
+use cloud_points::{Spread, put_points};
 use crossbeam_queue::ArrayQueue;
 use std::alloc::{AllocError, Global};
 use std::sync::Wait;
@@ -31,6 +31,15 @@ pub(crate) fn take_free<R: Wait>(rt: &R, slots: &Slots) -> Box<Spread> {
         thread::yield_now();
     }
     unreachable!()
+}
+
+/// A free slot with these points; None where there is none at the moment.
+pub(crate) fn fill_free<R: Wait>(rt: &R, slots: &Slots, points: &Spread) -> Option<Box<Spread>>
+    ensures { IfSome result (λ slot. slot.value.items ≡ points.now.items) }
+{
+    let mut slot = slots.pop(rt)?;
+    put_points(&mut slot, points.as_slice());
+    Some(slot)
 }
 
 /// Puts a slot back.

@@ -1,12 +1,17 @@
 -- What holds of a node through several turns.
 use Rattle.std.proofs.Common.{◌≡◌, ℕ, ◌≤◌, Bool, true, false, Option, Some, None, is_some, refl, ap, subst, sym, ◌∙◌, arith, true≢false}
+use Rattle.std.specs.Prelude.{◌||◌}
 use Rattle.cloud_points.specs.declared.faults.StageFault.{StageFault}
 use Rattle.cloud_points.specs.declared.work.Work.{Ghosts}
 use Rattle.cloud_points.specs.Events.{is_device, ran_short, IsOf}
+use Rattle.cloud_points.specs.Marks.{is_end}
 use Rattle.file_devices.specs.Counts.{Rose}
 use Rattle.file_devices.specs.declared.devices.Op.{Op}
 use Rattle.network_core.specs.declared.node.Node.{Node}
-use Rattle.network_core.specs.Calm.{Calm, NoEvent}
+use Rattle.chunk_queue.specs.declared.tag.ItemKind.{ItemKind}
+use Rattle.network_theory.specs.Net.{holds_end}
+use Rattle.network_core.specs.Hands.{kind_item, seen_hand}
+use Rattle.network_core.specs.Calm.{Calm, NoEvent, Told}
 
 no_device : {A : Type 0} (f : Option StageFault) → is_some f ≡ false → is_device f ≡ true → A
 no_device None h d = absurd (true≢false (sym d))
@@ -84,3 +89,15 @@ calm-on g l m n a b = record {
     named_by : (x : Bool) → is_some m.fault ≡ x → is_some l.fault ≡ false → IsOf (g.op l.work) n.fault
     named_by true e f = subst (IsOf (g.op l.work)) (sym (b.stays e)) (a.named f)
     named_by false e f = subst (λ o. IsOf o n.fault) a.op (b.named e)
+
+or_none : (a b : Bool) → (a || b) ≡ false → (a ≡ false) × (b ≡ false)
+or_none true b h = cc
+or_none false b h = (refl, h)
+
+-- a leaf that gave what was in its hand goes on to tell what it still gives
+pub told_given : {W S : Type 0} (g : Ghosts W S) (old new : Node W) (kind : ItemKind) → old.hand ≡ Some kind → new.work ≡ old.work → new.fault ≡ old.fault
+    → new.done ≡ (old.done || is_end (kind_item kind old.spread.items)) → Told g old → Told g new
+told_given g old new kind hand work fault done told = λ leaf undone none.
+    let both = or_none old.done (is_end (kind_item kind old.spread.items)) (sym done ∙ undone) in
+    let before = told (ap g.leaf (sym work) ∙ leaf) both.0 (ap (λ h. holds_end (seen_hand h old.spread.items)) hand ∙ both.1) in
+    (ap g.tells work ∙ before.0, fault ∙ before.1)

@@ -383,12 +383,27 @@ impl<W: Work> Node<W> {
         ensures hand { self.new.hand ≡ None }
         ensures spread { self.new.spread ≡ self.old.spread }
     {
+        let points = self.spread.points().len();
+        self.hand = None;
+        self.count_gift(kind, points);
+    }
+
+    /// Counts what left the hand, with so many points where it brings points.
+    fn count_gift(&mut self, kind: ItemKind, points: usize)
+        requires { self.old.hand ≡ None }
+        ensures given { (ins : List ℕ) (ps : List Point) → length ps ≡ points
+            → shown W.Work ins self.new ≡ net.given (shown W.Work ins self.old) (kind_item kind ps) }
+        ensures calm { Calm W.Work self.old self.new }
+        ensures holds { KeepsHolding W.Work self.old self.new }
+        ensures same { (self.new.work ≡ self.old.work) × (self.new.fault ≡ self.old.fault) }
+        ensures hand { self.new.hand ≡ None }
+        ensures spread { self.new.spread ≡ self.old.spread }
+    {
         let (views, points, end) = match kind {
-            ItemKind::Points => (0, self.spread.points().len() as u64, false),
+            ItemKind::Points => (0, points as u64, false),
             ItemKind::EndView => (1, 0, false),
             ItemKind::End(_) => (0, 0, true),
         };
-        self.hand = None;
         self.given = self.given.saturating_add(1);
         self.views = self.views.saturating_add(views);
         self.points = self.points.saturating_add(points);

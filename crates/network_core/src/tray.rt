@@ -8,11 +8,13 @@ ghost use Rattle.cloud_points.specs.declared.point.Point.{Point};
 ghost use Rattle.cloud_points.specs.Events.{happened, is_device, ran_short, first_fault, IsOf};
 ghost use Rattle.cloud_points.specs.Marks.{marks, views_in};
 ghost use Rattle.cloud_points.specs.Makes.{made, made_fault, gives_points, gives_end, ends_cut};
-ghost use Rattle.chunk_queue.specs.Ends.{IsTaken};
+ghost use Rattle.std.specs.Bool.{OnTrue, OnFalse};
+ghost use Rattle.cloud_points.specs.Queue.{up_to_limit};
+ghost use Rattle.chunk_queue.specs.Ends.{ended, sends, HadRoom, WasFull, IsTaken};
 ghost use Rattle.chunk_queue.specs.Rule.{with_item};
 ghost use Rattle.chunk_queue.specs.Slots.{tag_item, brings_points, IsPopped};
 
-use chunk_queue::{PlainQueue, RuledIn, Tag};
+use chunk_queue::{PlainQueue, RuledIn, RuledOut, Tag};
 use cloud_points::{Make, Spread, StageFault, Work};
 use std::marker::Model;
 use std::sync::Wait;
@@ -85,7 +87,8 @@ impl Tray {
         ensures cause { is_device (made_fault result) ≡ true → Rose (W.faults work.old) (W.faults work.new) }
         ensures named { IsOf (W.op work.old) (made_fault result) }
         ensures count { W.faults work.old ≤ W.faults work.new }
-        ensures holds { (before : List Point) → W.holds work.old before ≡ true → W.holds work.new before ≡ true }
+        ensures holds { (before : List Point) → W.holds work.old before ≡ true
+            → W.holds work.new before ≡ true }
         ensures stays_short { W.short work.new ≡ W.short work.old }
     {
         match &mut self.lent {
@@ -156,13 +159,39 @@ impl Tray {
         }
     }
 
-    /// The same of a queue between threads, whose points are copied.
+    /// Sends the item that a tag and the points make, or changes nothing where the queue between threads was full
+    /// at a step of the call. What points are left after it was sent isn't said.
+    pub(crate) fn send<R: Wait>(&mut self, rt: &R, tag: Tag, out: &mut RuledOut) -> bool
+        requires number { tag.no ≡ up_to_limit (length out.old.sent) }
+        requires goes_on { ended out.old.sent ≡ false }
+        requires some { brings_points tag.kind ≡ true → 0 < array_vec_len self.old }
+        ensures pushed { OnTrue result (out.new ≡ sends out.old (tag_item tag self.old.items)) }
+        ensures room { OnTrue result (HadRoom out.old) }
+        ensures same { OnFalse result (out.new ≡ out.old) }
+        ensures kept { OnFalse result (self.new ≡ self.old) }
+        ensures full { OnFalse result (WasFull out.old) }
+    {
+        match &mut self.lent {
+            Some(slot) => out.push_swap(rt, tag, slot),
+            None => {
+                let sent = out.push_from(rt, tag, self.own.as_slice());
+                self.lent = out.spare_with(rt, &self.own);
+                sent
+            }
+        }
+    }
+
+    /// As `fetch` of a queue between threads. None comes where that was empty at a step of the call.
     pub(crate) fn receive<R: Wait>(&mut self, rt: &R, input: &mut RuledIn) -> Option<Tag>
         ensures { IsTaken input.old input.new result self.old.items self.new.items }
     {
         match &mut self.lent {
-            Some(slot) => input.pop_into(rt, slot),
-            None => input.pop_into(rt, &mut self.own),
+            Some(slot) => input.pop_swap(rt, slot),
+            None => {
+                let tag = input.pop_into(rt, &mut self.own);
+                self.lent = input.spare_with(rt, &self.own);
+                tag
+            }
         }
     }
 }

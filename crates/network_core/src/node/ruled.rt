@@ -42,10 +42,12 @@ impl<W: Work> Node<W> {
             no: self.given,
             kind,
         };
-        if !out.push_from(rt, tag, self.spread.points().as_slice()) {
+        let points = self.spread.points().len();
+        if !self.spread.send(rt, tag, out) {
             return Turned::Idle(Why::Full);
         }
-        self.count_up(kind);
+        self.hand = None;
+        self.count_gift(kind, points);
         Turned::Gave
     }
 

@@ -14,4 +14,4 @@ invariant_of-self c =
     let one : length (c.in-Some.slot ∷ []) ≡ 1 = refl in
     let left : length c.pop.new.self.items + 1 ≡ length q.free.items =
     (let l = length-append c.pop.new.self.items (c.in-Some.slot ∷ []) in let e = ap length c.in-Some.ensures.items in omega (arith, l, e, one)) in
-    rw (pushed, c.pop.ensures.capacity) (put-slotted q.entries (length q.free.items) (length c.pop.new.self.items) _ _ _ c.args.points.now.value.items c.self.invariant c.swap_slots.ensures c.requires.some left)
+    rw (pushed, c.pop.ensures.capacity) (put-slotted q.entries (length q.free.items) (length c.pop.new.self.items) _ _ _ c.args.points.now.value.items c.self.invariant c.swap_slots.ensures.into c.requires.some left)
