@@ -8,7 +8,9 @@ use crate::turns::turn_at;
 use cloud_points::Work;
 use file_devices::Gate;
 use std::sync::Wait;
-use std::thread;
+use std::thread::Parker;
+use std::time::Duration;
+use std::{hint, thread};
 
 /// One or the other.
 pub(crate) fn either(a: bool, b: bool) -> bool {
@@ -68,6 +70,34 @@ pub(crate) fn are_done<W: Work>(seats: &[Seat<W>]) -> bool
     true
 }
 
+/// So many rounds without work go on at once, and so many more only let another thread have the processor. From then
+/// on a worker sleeps.
+const SPINS: u64 = 64;
+
+const YIELDS: u64 = 192;
+
+/// The shortest sleep, in microseconds. So many sleeps in a row take the same time, and then twice that, as often as
+/// this.
+const SHORTEST: u64 = 32;
+
+const EQUAL_SLEEPS: u64 = 16;
+
+const DOUBLINGS: u64 = 10;
+
+/// Waits behind so many rounds in a row that did no work, longer behind more of them. So a worker that waits for a
+/// chunk takes it at once, and one whose nodes wait for another input to end costs next to nothing.
+fn pause<R: Wait>(rt: &R, idle: u64) {
+    if idle < SPINS {
+        hint::spin_loop();
+    } else if idle < SPINS + YIELDS {
+        thread::yield_now();
+    } else {
+        let doublings = ((idle - SPINS - YIELDS) / EQUAL_SLEEPS).min(DOUBLINGS);
+        let sleep = Duration::from_micros(SHORTEST << doublings);
+        Parker::new().park_timeout(rt, sleep);
+    }
+}
+
 /// Rounds of one worker, until all its nodes are done or `patience` rounds in a row did no work.
 pub(crate) fn work<W: Work, R: Wait, G: Gate>(
     rt: &R,
@@ -92,7 +122,7 @@ pub(crate) fn work<W: Work, R: Wait, G: Gate>(
             idle = 0;
         } else {
             idle += 1;
-            thread::yield_now();
+            pause(rt, idle);
         }
     }
 }
