@@ -76,14 +76,20 @@ pub trait Work {
         ensures cut { is_some (made_fault result) ≡ true → ends_cut result ≡ true }
 
         // Where its content is told and no device fails, it gives the next part of that.
-        ensures part { tells self.old ≡ true → is_device (made_fault result) ≡ false → told self.old ≡ marks (made result into.new.items) ++ told self.new }
-        ensures fault { tells self.old ≡ true → is_device (made_fault result) ≡ false → told_fault self.old ≡ first_fault (made_fault result) (told_fault self.new) }
-        ensures last { tells self.old ≡ true → is_device (made_fault result) ≡ false → gives_end result ≡ true → told self.new ≡ [] }
-        ensures last_fault { tells self.old ≡ true → is_device (made_fault result) ≡ false → gives_end result ≡ true → told_fault self.new ≡ None }
-        ensures tells { tells self.old ≡ true → is_device (made_fault result) ≡ false → gives_end result ≡ false → tells self.new ≡ true }
+        ensures part { tells self.old ≡ true → is_device (made_fault result) ≡ false
+            → told self.old ≡ marks (made result into.new.items) ++ told self.new }
+        ensures fault { tells self.old ≡ true → is_device (made_fault result) ≡ false
+            → told_fault self.old ≡ first_fault (made_fault result) (told_fault self.new) }
+        ensures last { tells self.old ≡ true → is_device (made_fault result) ≡ false → gives_end result ≡ true
+            → told self.new ≡ [] }
+        ensures last_fault { tells self.old ≡ true → is_device (made_fault result) ≡ false
+            → gives_end result ≡ true → told_fault self.new ≡ None }
+        ensures tells { tells self.old ≡ true → is_device (made_fault result) ≡ false
+            → gives_end result ≡ false → tells self.new ≡ true }
 
         ensures fewer_points { points_left self.new + array_vec_len into.new ≤ points_left self.old }
-        ensures fewer_views { views_left self.new + views_in (made result into.new.items) ≤ views_left self.old }
+        ensures fewer_views { views_left self.new + views_in (made result into.new.items)
+            ≤ views_left self.old }
         ensures cause { is_device (made_fault result) ≡ true → Rose (faults self.old) (faults self.new) }
         ensures named { IsOf (op self.old) (made_fault result) }
         ensures count { faults self.old ≤ faults self.new }
@@ -99,12 +105,16 @@ pub trait Work {
         ensures meaning { meaning self.new ≡ meaning self.old }
         ensures leaf { leaf self.new ≡ leaf self.old }
         ensures op { op self.new ≡ op self.old }
-        ensures state { happened result (short self.old) (short self.new) ≡ false → state self.new ≡ (meaning self.old).after (state self.old) points.old.items }
-        ensures points { happened result (short self.old) (short self.new) ≡ false → points.new.items ≡ (meaning self.old).emit (state self.old) points.old.items }
-        ensures fault { happened result (short self.old) (short self.new) ≡ false → result ≡ (meaning self.old).fault (state self.old) points.old.items }
+        ensures state { happened result (short self.old) (short self.new) ≡ false
+            → state self.new ≡ (meaning self.old).after (state self.old) points.old.items }
+        ensures points { happened result (short self.old) (short self.new) ≡ false
+            → points.new.items ≡ (meaning self.old).emit (state self.old) points.old.items }
+        ensures fault { happened result (short self.old) (short self.new) ≡ false
+            → result ≡ (meaning self.old).fault (state self.old) points.old.items }
         ensures event { happened result (short self.old) (short self.new) ≡ true → points.new.items ≡ [] }
         ensures alone { ran_short (short self.old) (short self.new) ≡ true → result ≡ None }
-        ensures holds { happened result (short self.old) (short self.new) ≡ false → (before : List Point) → holds self.old before ≡ true → holds self.new (before ++ points.old.items) ≡ true }
+        ensures holds { happened result (short self.old) (short self.new) ≡ false → (before : List Point)
+            → holds self.old before ≡ true → holds self.new (before ++ points.old.items) ≡ true }
 
         ensures cause { is_device result ≡ true → Rose (faults self.old) (faults self.new) }
         ensures named { IsOf (op self.old) result }
@@ -118,7 +128,8 @@ pub trait Work {
         ensures meaning { meaning self.new ≡ meaning self.old }
         ensures leaf { leaf self.new ≡ leaf self.old }
         ensures op { op self.new ≡ op self.old }
-        ensures state { ran_short (short self.old) (short self.new) ≡ false → state self.new ≡ ((meaning self.old).at_view (state self.old)).0 }
+        ensures state { ran_short (short self.old) (short self.new) ≡ false
+            → state self.new ≡ ((meaning self.old).at_view (state self.old)).0 }
         ensures goes_on { result ≡ ((meaning self.old).at_view (state self.old)).1 }
         ensures holds { (before : List Point) → holds self.old before ≡ true → holds self.new before ≡ true }
         ensures count { faults self.old ≤ faults self.new }

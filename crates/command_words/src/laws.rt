@@ -8,8 +8,10 @@ ghost use Rattle.command_words.specs.Laws.{IsPlace};
 
 /// A number within bounds is written in one way, as it is printed.
 pub fn numbers_are_decimals()
-    ensures told { (least most : ℕ) (word : List ℕ) (n : ℕ) → most < 2 ^ 64 → IsNumber least most word n → word ≡ decimal n }
-    ensures only { (least most n : ℕ) → most < 2 ^ 64 → least ≤ n → n ≤ most → IsNumber least most (decimal n) n }
+    ensures told { (least most : ℕ) (word : List ℕ) (n : ℕ) → most < 2 ^ 64 → IsNumber least most word n
+        → word ≡ decimal n }
+    ensures only { (least most n : ℕ) → most < 2 ^ 64 → least ≤ n → n ≤ most
+        → IsNumber least most (decimal n) n }
 {}
 
 /// A command is read exactly where the words are one.
@@ -31,7 +33,8 @@ pub fn places_are_so()
     ensures no_command { command_of (codes "fly" ∷ []) ≡ Err 0 }
     ensures no_file { command_of (codes "run" ∷ []) ≡ Err 1 }
     ensures no_point { command_of (codes "run" ∷ codes "p" ∷ codes "--chunk" ∷ codes "0" ∷ []) ≡ Err 3 }
-    ensures twice { command_of (codes "run" ∷ codes "p" ∷ codes "--chunk" ∷ codes "4" ∷ codes "--chunk" ∷ codes "4" ∷ []) ≡ Err 4 }
+    ensures twice { command_of (codes "run" ∷ codes "p" ∷ codes "--chunk" ∷ codes "4" ∷ codes "--chunk" ∷
+        codes "4" ∷ []) ≡ Err 4 }
     ensures no_number { command_of (codes "run" ∷ codes "p" ∷ codes "--chunk" ∷ []) ≡ Err 3 }
     ensures read { command_of (codes "run" ∷ codes "p" ∷ codes "--whole" ∷ codes "--chunk" ∷ codes "4" ∷ [])
         ≡ Ok (run (codes "p") (record { chunk = 4; queue = 8; workers = 1; patience = 1000; whole = true })) }

@@ -57,7 +57,8 @@ pub fn real(raw: i32, scale: Scale, off: i64) -> i64
 pub fn raw(nano: i64, scale: Scale, off: i64) -> Result<i32, NotHeld>
     requires nano { unsigned_abs nano ≤ 4 * 10 ^ 18 }
     requires off { unsigned_abs off ≤ 10 ^ 18 }
-    ensures { OkIff result (FitsSigned w32 (nearest_step nano scale.nano off)) (nearest_step nano scale.nano off) }
+    ensures { OkIff result (FitsSigned w32 (nearest_step nano scale.nano off))
+        (nearest_step nano scale.nano off) }
 {
     match i32::try_from(steps(nano - off, scale.nano() as u64)) {
         Ok(raw) => Ok(raw),

@@ -122,8 +122,10 @@ fn bind_tree(
     layout: &Layout,
     names: &ExtraNames,
 ) -> Result<BoundTree, BindErr>
-    ensures ok { IfOk result (λ b. bound_in (holds layout.now) names.now (texts.formula_of e.now) ≡ Ok (formula_of b)) }
-    ensures err { IfErr result (λ f. IsAnswered f (bound_in (holds layout.now) names.now (texts.formula_of e.now))) }
+    ensures ok { IfOk result (λ b. bound_in (holds layout.now) names.now (texts.formula_of e.now)
+        ≡ Ok (formula_of b)) }
+    ensures err { IfErr result (λ f. IsAnswered f
+        (bound_in (holds layout.now) names.now (texts.formula_of e.now))) }
 {
     match form_of(e) {
         Form::Number(n) => Ok(BoundTree::Number(n)),

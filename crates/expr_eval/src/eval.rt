@@ -44,7 +44,8 @@ fn negative_value(a: &BoundTree, p: &Point) -> Result<i128, ArithFault>
 /// The value of an operation on the values of two trees.
 #[cycle(values)]
 fn pair_value(op: BinaryOp, a: &BoundTree, b: &BoundTree, p: &Point) -> Result<i128, ArithFault>
-    ensures value { result ≡ both (value_of (formula_of a.now) p.now) (value_of (formula_of b.now) p.now) (computed op) }
+    ensures value { result ≡ both (value_of (formula_of a.now) p.now) (value_of (formula_of b.now) p.now)
+        (computed op) }
     ensures small { IfOk result (λ v. unsigned_abs v ≤ 10 ^ 27) }
 {
     let x = tree_value(a, p)?;

@@ -70,7 +70,8 @@ impl BlockWriter {
         ensures later { self.old.faults ≤ self.new.faults }
         ensures broken { self.new.broken ≡ true }
         ensures room { self.new.room ≡ self.old.room }
-        ensures appended { self.new.start + vec_len self.new.waiting ≡ self.old.start + vec_len self.old.waiting }
+        ensures appended { self.new.start + vec_len self.new.waiting
+            ≡ self.old.start + vec_len self.old.waiting }
     {
         self.faults = self.faults.saturating_add(1);
         self.broken = true;
@@ -94,7 +95,8 @@ impl BlockWriter {
         ensures none_waits { OnOk result (self.new.waiting.items ≡ []) }
         ensures whole { OnOk result (self.new.broken ≡ false) }
         ensures broken { OnErr result (self.new.broken ≡ true) }
-        ensures appended { self.new.start + vec_len self.new.waiting ≡ self.old.start + vec_len self.old.waiting }
+        ensures appended { self.new.start + vec_len self.new.waiting
+            ≡ self.old.start + vec_len self.old.waiting }
         ensures unsynced { OnOk result (self.new.synced ≡ true
             → (self.new.start ≡ self.old.start) × (self.old.synced ≡ true)) }
         ensures room { self.new.room ≡ self.old.room }
@@ -120,7 +122,8 @@ impl BlockWriter {
     pub fn finish(&mut self) -> Result<(), Failed>
         ensures finished { OnOk result (IsFinished self.new) }
         ensures broken { OnErr result (self.new.broken ≡ true) }
-        ensures appended { self.new.start + vec_len self.new.waiting ≡ self.old.start + vec_len self.old.waiting }
+        ensures appended { self.new.start + vec_len self.new.waiting
+            ≡ self.old.start + vec_len self.old.waiting }
         ensures cause { HasCause self.old.faults self.new.faults result }
     {
         self.flush()?;
@@ -149,7 +152,8 @@ impl Sink for BlockWriter {
         ensures part { OnErr result (AppendsPart untold piece.now untold) }
         ensures count { OnOk result (self.new.start + vec_len self.new.waiting
             ≡ saturating (self.old.start + vec_len self.old.waiting) (length piece.now)) }
-        ensures no_less { self.old.start + vec_len self.old.waiting ≤ self.new.start + vec_len self.new.waiting }
+        ensures no_less { self.old.start + vec_len self.old.waiting
+            ≤ self.new.start + vec_len self.new.waiting }
         ensures no_more { self.new.start + vec_len self.new.waiting
             ≤ saturating (self.old.start + vec_len self.old.waiting) (length piece.now) }
         ensures cause { HasCause self.old.faults self.new.faults result }

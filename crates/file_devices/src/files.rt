@@ -208,7 +208,8 @@ impl Files for MemFiles {
         // The sink has the next number, the fails of that number, and the room of each sink.
         ensures number { OnOk result (self.new.handed ≡ saturating self.old.handed 1) }
         ensures no_number { OnErr result (self.new.handed ≡ self.old.handed) }
-        ensures planned { IfOk result (λ sink. sink.fails.items ≡ fails_of self.old.fails.items self.new.handed) }
+        ensures planned { IfOk result (λ sink. sink.fails.items
+            ≡ fails_of self.old.fails.items self.new.handed) }
         ensures room { IfOk result (λ sink. (sink.room ≡ self.old.room) × (sink.calls ≡ 0)) }
         ensures same { (self.new.room ≡ self.old.room) × (self.new.most ≡ self.old.most)
             × (self.new.fails ≡ self.old.fails) }

@@ -10,7 +10,8 @@ ghost use Rattle.geo_tests.specs.Tests.{in_box, in_extent, in_polygon};
 /// What is in a ring doesn't depend on the direction in which its corners are told, nor on the one at which it begins, nor on
 /// whether that one stands at its end once more.
 pub fn rings_are_round()
-    ensures turned { (p : ℤ × ℤ) (corners : List (ℤ × ℤ)) → in_polygon p (reverse corners) ≡ in_polygon p corners }
+    ensures turned { (p : ℤ × ℤ) (corners : List (ℤ × ℤ))
+        → in_polygon p (reverse corners) ≡ in_polygon p corners }
     ensures begun_elsewhere { (p : ℤ × ℤ) (front back : List (ℤ × ℤ))
         → in_polygon p (back ++ front) ≡ in_polygon p (front ++ back) }
     ensures closed { (p first : ℤ × ℤ) (rest : List (ℤ × ℤ))

@@ -49,7 +49,8 @@ impl Model for Limits {
 
 /// Puts the dimension of a limit into a set, where the limit holds at a point.
 fn add_within(within: &mut Layout, limit: &Limit, p: &Point)
-    ensures { (dim : Dimension) → holds within.new dim ≡ (is_within p.now dim limit.now || holds within.old dim) }
+    ensures { (dim : Dimension) → holds within.new dim
+        ≡ (is_within p.now dim limit.now || holds within.old dim) }
 {
     if limit.holds(p) {
         within.add(limit.dim);

@@ -75,13 +75,17 @@ fn fill_block<S: Source>(source: &mut S, block: &mut [u8; LONGEST_BLOCK]) -> Res
 
 /// Reads the header block of a file.
 fn read_block<S: Source>(source: &mut S) -> Result<Header, OpenErr>
-    ensures ok { IfOk result (λ header. (file : List ℕ) → S.bytes source.old ≡ Some file → header_in file ≡ Ok header) }
+    ensures ok { IfOk result (λ header. (file : List ℕ) → S.bytes source.old ≡ Some file
+        → header_in file ≡ Ok header) }
     ensures sound { IfOk result IsSound }
-    ensures err { IfErr result (λ e. (file : List ℕ) → S.bytes source.old ≡ Some file → IsOpening (header_in file) e) }
-    ensures failed { IfErr result (λ e. e ≡ OpenErr.ReadFailed → Rose (S.faults source.old) (S.faults source.new)) }
+    ensures err { IfErr result (λ e. (file : List ℕ) → S.bytes source.old ≡ Some file
+        → IsOpening (header_in file) e) }
+    ensures failed { IfErr result (λ e. e ≡ OpenErr.ReadFailed
+        → Rose (S.faults source.old) (S.faults source.new)) }
     ensures not_memory { IfErr result (λ e. e ≢ OpenErr.Memory) }
     ensures later { S.faults source.old ≤ S.faults source.new }
-    ensures reached { IfOk result (λ header. S.reached source.new ≤ max (S.reached source.old) header.header_size) }
+    ensures reached { IfOk result (λ header. S.reached source.new
+        ≤ max (S.reached source.old) header.header_size) }
     ensures no_further { (file : List ℕ) → S.bytes source.old ≡ Some file
         → S.reached source.new ≤ max (S.reached source.old) (block_size (minor_of file)) }
     ensures bytes { S.bytes source.new ≡ S.bytes source.old }
@@ -98,13 +102,17 @@ fn read_block<S: Source>(source: &mut S) -> Result<Header, OpenErr>
 
 /// Reads the header, the VLRs and the EVLRs of a file.
 pub(crate) fn read_frame<S: Source>(alloc: Global, source: &mut S) -> Result<LasFrame, OpenErr>
-    ensures ok { IfOk result (λ frame. (file : List ℕ) → S.bytes source.old ≡ Some file → frame_of file ≡ Ok frame) }
+    ensures ok { IfOk result (λ frame. (file : List ℕ) → S.bytes source.old ≡ Some file
+        → frame_of file ≡ Ok frame) }
     ensures sound { IfOk result (λ frame. IsSound frame.header) }
     ensures lists { IfOk result (λ frame. HasLists frame.header frame.vlrs frame.evlrs) }
-    ensures err { IfErr result (λ e. (file : List ℕ) → S.bytes source.old ≡ Some file → IsOpening (frame_of file) e) }
-    ensures failed { IfErr result (λ e. e ≡ OpenErr.ReadFailed → Rose (S.faults source.old) (S.faults source.new)) }
+    ensures err { IfErr result (λ e. (file : List ℕ) → S.bytes source.old ≡ Some file
+        → IsOpening (frame_of file) e) }
+    ensures failed { IfErr result (λ e. e ≡ OpenErr.ReadFailed
+        → Rose (S.faults source.old) (S.faults source.new)) }
     ensures later { S.faults source.old ≤ S.faults source.new }
-    ensures in_front { IfOk result (λ frame. frame.header.evlrs ≡ 0 → S.reached source.new ≤ max (S.reached source.old) frame.header.points_at) }
+    ensures in_front { IfOk result (λ frame. frame.header.evlrs ≡ 0
+        → S.reached source.new ≤ max (S.reached source.old) frame.header.points_at) }
     ensures no_further { IfErr result (λ e. IsOfHeader e → (file : List ℕ) → S.bytes source.old ≡ Some file
         → S.reached source.new ≤ max (S.reached source.old) (block_size (minor_of file))) }
     ensures bytes { S.bytes source.new ≡ S.bytes source.old }

@@ -60,16 +60,21 @@ impl<S: Source> LasReader<S> {
     /// A refusal gives the source back. It is `Header` or else `Vlr` where the file's bytes are at fault, `ReadFailed` only
     /// where a read failed, and `Memory` where there is none for the lists or for the records of a chunk.
     pub fn begin(alloc: Global, source: S) -> Result<LasReader<S>, (S, OpenErr)>
-        ensures ok { IfOk result (λ r. (file : List ℕ) → S.bytes source ≡ Some file → frame_of file ≡ Ok (record { header = r.header; vlrs = r.vlrs; evlrs = r.evlrs })) }
+        ensures ok { IfOk result (λ r. (file : List ℕ) → S.bytes source ≡ Some file
+            → frame_of file ≡ Ok (record { header = r.header; vlrs = r.vlrs; evlrs = r.evlrs })) }
         ensures start { IfOk result (λ r. r.progress ≡ Progress.Records 0) }
         ensures lists { IfOk result (λ r. HasLists r.header r.vlrs r.evlrs) }
-        ensures source { IfOk result (λ r. IsOpened (S.bytes source) (S.bytes r.source) (S.faults source) (S.faults r.source)) }
-        ensures in_front { IfOk result (λ r. r.header.evlrs ≡ 0 → S.reached r.source ≤ max (S.reached source) r.header.points_at) }
+        ensures source { IfOk result (λ r.
+            IsOpened (S.bytes source) (S.bytes r.source) (S.faults source) (S.faults r.source)) }
+        ensures in_front { IfOk result (λ r. r.header.evlrs ≡ 0
+            → S.reached r.source ≤ max (S.reached source) r.header.points_at) }
         ensures no_further { IfErr result (λ e. IsOfHeader e.1 → (file : List ℕ) → S.bytes source ≡ Some file
             → S.reached e.0 ≤ max (S.reached source) (block_size (minor_of file))) }
-        ensures err { IfErr result (λ e. (file : List ℕ) → S.bytes source ≡ Some file → IsOpening (frame_of file) e.1) }
+        ensures err { IfErr result (λ e. (file : List ℕ) → S.bytes source ≡ Some file
+            → IsOpening (frame_of file) e.1) }
         ensures failed { IfErr result (λ e. e.1 ≡ OpenErr.ReadFailed → Rose (S.faults source) (S.faults e.0)) }
-        ensures returned { IfErr result (λ e. IsOpened (S.bytes source) (S.bytes e.0) (S.faults source) (S.faults e.0)) }
+        ensures returned { IfErr result (λ e.
+            IsOpened (S.bytes source) (S.bytes e.0) (S.faults source) (S.faults e.0)) }
     {
         let mut source = source;
         let LasFrame {
@@ -130,10 +135,12 @@ impl<S: Source> LasReader<S> {
         requires high { chunk ≤ 64 }
         ensures told { (file : List ℕ) → S.bytes self.old.source ≡ Some file → (result ≡ read_failed → ⊥)
             → IsStep (step_of (points_in self.old.header) (las_with self.old.header file).points self.old.progress chunk) result into.new.items self.new.progress }
-        ensures moves { Moves (points_in self.old.header) chunk self.old.progress result into.new.items self.new.progress }
+        ensures moves { Moves (points_in self.old.header) chunk self.old.progress result into.new.items
+            self.new.progress }
         ensures failed { result ≡ read_failed → Rose (S.faults self.old.source) (S.faults self.new.source) }
         ensures later { S.faults self.old.source ≤ S.faults self.new.source }
-        ensures reached { S.reached self.new.source ≤ max (S.reached self.old.source) (asked_to self.old.header chunk self.old.progress) }
+        ensures reached { S.reached self.new.source
+            ≤ max (S.reached self.old.source) (asked_to self.old.header chunk self.old.progress) }
         ensures bytes { S.bytes self.new.source ≡ S.bytes self.old.source }
         ensures header { self.new.header ≡ self.old.header }
         ensures lists { (self.new.vlrs ≡ self.old.vlrs) × (self.new.evlrs ≡ self.old.evlrs) }
@@ -187,10 +194,12 @@ impl<S: Source> LasReader<S> {
         requires more { given < points_in self.old.header }
         ensures told { (file : List ℕ) → S.bytes self.old.source ≡ Some file → (result ≡ read_failed → ⊥)
             → IsStep (step_of (points_in self.old.header) (las_with self.old.header file).points (Progress.Records given) chunk) result into.new.items self.new.progress }
-        ensures moves { Moves (points_in self.old.header) chunk (Progress.Records given) result into.new.items self.new.progress }
+        ensures moves { Moves (points_in self.old.header) chunk (Progress.Records given) result into.new.items
+            self.new.progress }
         ensures failed { result ≡ read_failed → Rose (S.faults self.old.source) (S.faults self.new.source) }
         ensures later { S.faults self.old.source ≤ S.faults self.new.source }
-        ensures reached { S.reached self.new.source ≤ max (S.reached self.old.source) (asked_to self.old.header chunk (Progress.Records given)) }
+        ensures reached { S.reached self.new.source
+            ≤ max (S.reached self.old.source) (asked_to self.old.header chunk (Progress.Records given)) }
         ensures bytes { S.bytes self.new.source ≡ S.bytes self.old.source }
         ensures header { self.new.header ≡ self.old.header }
         ensures lists { (self.new.vlrs ≡ self.old.vlrs) × (self.new.evlrs ≡ self.old.evlrs) }

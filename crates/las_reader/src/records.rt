@@ -48,9 +48,11 @@ fn read_records<S: Source>(
     requires some { 0 < header.now.record_length }
     requires few { most ≤ 64 }
     requires room { header.now.record_length * most ≤ length buffer.old }
-    ensures whole { IfOk result (λ n. (file : List ℕ) → S.bytes source.old ≡ Some file → HasRecords header.now file given most n buffer.new) }
+    ensures whole { IfOk result (λ n. (file : List ℕ) → S.bytes source.old ≡ Some file
+        → HasRecords header.now file given most n buffer.new) }
     ensures most { IfOk result (λ n. n ≤ most) }
-    ensures reached { S.reached source.new ≤ max (S.reached source.old) (header.now.points_at + header.now.record_length * (given + most)) }
+    ensures reached { S.reached source.new
+        ≤ max (S.reached source.old) (header.now.points_at + header.now.record_length * (given + most)) }
     ensures bytes { S.bytes source.new ≡ S.bytes source.old }
     ensures cause { HasCause (S.faults source.old) (S.faults source.new) result }
     ensures len { length buffer.new ≡ length buffer.old }
@@ -92,7 +94,9 @@ fn decode_all(
     requires format { format ≡ header.now.format }
     requires room { at + count ≤ length points.old }
     requires whole { header.now.record_length * count ≤ length records.now }
-    ensures { take (at + count) points.new ≡ take at points.old ++ points_from (point_of header.now) header.now.record_length 0 count records.now }
+    ensures { take (at + count) points.new
+        ≡ take at points.old ++ points_from (point_of header.now) header.now.record_length 0 count
+        records.now }
 {
     let grid = Grid::of(header);
     let size = header.record_length as usize;
@@ -107,7 +111,9 @@ fn decode_over(header: &Header, records: &[u8], count: usize, at: usize, points:
     requires sound { IsSound header.now }
     requires room { at + count ≤ length points.old }
     requires whole { header.now.record_length * count ≤ length records.now }
-    ensures { take (at + count) points.new ≡ take at points.old ++ points_from (point_of header.now) header.now.record_length 0 count records.now }
+    ensures { take (at + count) points.new
+        ≡ take at points.old ++ points_from (point_of header.now) header.now.record_length 0 count
+        records.now }
 {
     match header.format {
         Format::F0 => decode_all(Format::F0, header, records, count, at, points),
@@ -137,7 +143,9 @@ fn decode_from(header: &Header, records: &[u8], count: usize, at: usize, into: &
     requires place { at ≤ array_vec_len into.old }
     requires room { at + count ≤ 64 }
     requires whole { header.now.record_length * count ≤ length records.now }
-    ensures items { take (at + count) into.new.items ≡ take at into.old.items ++ points_from (point_of header.now) header.now.record_length 0 count records.now }
+    ensures items { take (at + count) into.new.items
+        ≡ take at into.old.items ++ points_from (point_of header.now) header.now.record_length 0 count
+        records.now }
     ensures len { at + count ≤ array_vec_len into.new }
 {
     grow(into, at + count);
@@ -158,10 +166,12 @@ fn read_over<S: Source>(
     requires few { most ≤ 64 }
     requires end { given + most < 2 ^ 64 }
     requires room { header.now.record_length ≤ length buffer.old }
-    ensures points { IfOk result (λ n. (file : List ℕ) → S.bytes source.old ≡ Some file → HasPoints header.now file given most (take n into.new.items)) }
+    ensures points { IfOk result (λ n. (file : List ℕ) → S.bytes source.old ≡ Some file
+        → HasPoints header.now file given most (take n into.new.items)) }
     ensures most { IfOk result (λ n. n ≤ most) }
     ensures there { IfOk result (λ n. n ≤ array_vec_len into.new) }
-    ensures reached { S.reached source.new ≤ max (S.reached source.old) (header.now.points_at + header.now.record_length * (given + most)) }
+    ensures reached { S.reached source.new
+        ≤ max (S.reached source.old) (header.now.points_at + header.now.record_length * (given + most)) }
     ensures bytes { S.bytes source.new ≡ S.bytes source.old }
     ensures cause { HasCause (S.faults source.old) (S.faults source.new) result }
 {
@@ -195,9 +205,11 @@ pub(crate) fn read_points<S: Source>(
     requires few { most ≤ 64 }
     requires end { given + most < 2 ^ 64 }
     requires room { header.now.record_length ≤ length buffer.old }
-    ensures points { OnOk result ((file : List ℕ) → S.bytes source.old ≡ Some file → HasPoints header.now file given most into.new.items) }
+    ensures points { OnOk result ((file : List ℕ) → S.bytes source.old ≡ Some file
+        → HasPoints header.now file given most into.new.items) }
     ensures most { OnOk result (array_vec_len into.new ≤ most) }
-    ensures reached { S.reached source.new ≤ max (S.reached source.old) (header.now.points_at + header.now.record_length * (given + most)) }
+    ensures reached { S.reached source.new
+        ≤ max (S.reached source.old) (header.now.points_at + header.now.record_length * (given + most)) }
     ensures bytes { S.bytes source.new ≡ S.bytes source.old }
     ensures cause { HasCause (S.faults source.old) (S.faults source.new) result }
 {

@@ -43,7 +43,8 @@ fn payload_length(kind: ListKind, head: &[u8]) -> u64
 /// The place `size` bytes behind another, where record `number` may reach up to it.
 fn end_of(kind: ListKind, number: u32, at: u64, size: u64) -> Result<u64, VlrFault>
     ensures ok { IfOk result (λ end. (end ≡ at + size) × MayReach kind end) }
-    ensures err { IfErr result (λ fault. (file : List ℕ) → length file < 2 ^ 64 → past kind number (at + size) file ≡ Some fault) }
+    ensures err { IfErr result (λ fault. (file : List ℕ) → length file < 2 ^ 64
+        → past kind number (at + size) file ≡ Some fault) }
 {
     match kind {
         ListKind::Plain(points_at) => match at.checked_add(size) {
@@ -56,7 +57,8 @@ fn end_of(kind: ListKind, number: u32, at: u64, size: u64) -> Result<u64, VlrFau
 
 /// The fault of record `number` where it ends after the file.
 fn past_file(kind: ListKind, number: u32) -> VlrFault
-    ensures { (end : ℕ) (file : List ℕ) → MayReach kind end → length file < end → past kind number end file ≡ Some result }
+    ensures { (end : ℕ) (file : List ℕ) → MayReach kind end → length file < end
+        → past kind number end file ≡ Some result }
 {
     match kind {
         ListKind::Plain(_) => VlrFault::VlrPastEnd(number),
@@ -74,9 +76,12 @@ fn read_piece<S: Source>(
 ) -> Result<(), VlrErr>
     requires some { 0 < length into.old }
     ensures fits { OnOk result (at + length into.old < 2 ^ 64) }
-    ensures whole { OnOk result ((file : List ℕ) → S.bytes source.old ≡ Some file → past kind number (at + length into.old) file ≡ None) }
-    ensures piece { OnOk result ((file : List ℕ) → S.bytes source.old ≡ Some file → into.new ≡ take (length into.old) (drop at file)) }
-    ensures fault { IfErr result (λ e. (file : List ℕ) → S.bytes source.old ≡ Some file → IsFault (past kind number (at + length into.old) file) e) }
+    ensures whole { OnOk result ((file : List ℕ) → S.bytes source.old ≡ Some file
+        → past kind number (at + length into.old) file ≡ None) }
+    ensures piece { OnOk result ((file : List ℕ) → S.bytes source.old ≡ Some file
+        → into.new ≡ take (length into.old) (drop at file)) }
+    ensures fault { IfErr result (λ e. (file : List ℕ) → S.bytes source.old ≡ Some file
+        → IsFault (past kind number (at + length into.old) file) e) }
     ensures failed { result ≡ Err VlrErr.ReadFailed → Rose (S.faults source.old) (S.faults source.new) }
     ensures later { S.faults source.old ≤ S.faults source.new }
     ensures in_front { IsInFront kind (S.reached source.old) (S.reached source.new) }
@@ -105,9 +110,12 @@ fn read_payload<S: Source>(
     requires small { size ≤ MOST_PAYLOAD }
     ensures fits { IfOk result (λ payload. at + size < 2 ^ 64) }
     ensures size { IfOk result (λ payload. length payload ≡ size) }
-    ensures whole { IfOk result (λ payload. (file : List ℕ) → S.bytes source.old ≡ Some file → past kind number at file ≡ None → past kind number (at + size) file ≡ None) }
-    ensures piece { IfOk result (λ payload. (file : List ℕ) → S.bytes source.old ≡ Some file → payload ≡ take size (drop at file)) }
-    ensures fault { IfErr result (λ e. (file : List ℕ) → S.bytes source.old ≡ Some file → IsFault (past kind number (at + size) file) e) }
+    ensures whole { IfOk result (λ payload. (file : List ℕ) → S.bytes source.old ≡ Some file
+        → past kind number at file ≡ None → past kind number (at + size) file ≡ None) }
+    ensures piece { IfOk result (λ payload. (file : List ℕ) → S.bytes source.old ≡ Some file
+        → payload ≡ take size (drop at file)) }
+    ensures fault { IfErr result (λ e. (file : List ℕ) → S.bytes source.old ≡ Some file
+        → IsFault (past kind number (at + size) file) e) }
     ensures failed { result ≡ Err VlrErr.ReadFailed → Rose (S.faults source.old) (S.faults source.new) }
     ensures later { S.faults source.old ≤ S.faults source.new }
     ensures in_front { IsInFront kind (S.reached source.old) (S.reached source.new) }
@@ -134,9 +142,12 @@ fn read_head<S: Source>(
 ) -> Result<(), VlrErr>
     requires room { length head.old ≡ EVLR_HEAD }
     ensures fits { OnOk result (at + head_size kind < 2 ^ 64) }
-    ensures whole { OnOk result ((file : List ℕ) → S.bytes source.old ≡ Some file → past kind number (at + head_size kind) file ≡ None) }
-    ensures front { OnOk result ((file : List ℕ) → S.bytes source.old ≡ Some file → take (head_size kind) head.new ≡ take (head_size kind) (drop at file)) }
-    ensures fault { IfErr result (λ e. (file : List ℕ) → S.bytes source.old ≡ Some file → IsFault (past kind number (at + head_size kind) file) e) }
+    ensures whole { OnOk result ((file : List ℕ) → S.bytes source.old ≡ Some file
+        → past kind number (at + head_size kind) file ≡ None) }
+    ensures front { OnOk result ((file : List ℕ) → S.bytes source.old ≡ Some file
+        → take (head_size kind) head.new ≡ take (head_size kind) (drop at file)) }
+    ensures fault { IfErr result (λ e. (file : List ℕ) → S.bytes source.old ≡ Some file
+        → IsFault (past kind number (at + head_size kind) file) e) }
     ensures failed { result ≡ Err VlrErr.ReadFailed → Rose (S.faults source.old) (S.faults source.new) }
     ensures later { S.faults source.old ≤ S.faults source.new }
     ensures in_front { IsInFront kind (S.reached source.old) (S.reached source.new) }
@@ -179,10 +190,14 @@ fn read_entry<S: Source>(
     ensures fits { IfOk result (λ vlr. at + (head_size kind + length vlr.payload) < 2 ^ 64) }
     ensures room { IfOk result (λ vlr. before + length vlr.payload ≤ MOST_PAYLOAD) }
     ensures held { IfOk result (IsOf kind) }
-    ensures whole { IfOk result (λ vlr. (file : List ℕ) → S.bytes source.old ≡ Some file → entry_fault kind number at before file ≡ None) }
-    ensures entry { IfOk result (λ vlr. (file : List ℕ) → S.bytes source.old ≡ Some file → vlr ≡ entry_of kind (drop at file)) }
-    ensures size { IfOk result (λ vlr. (file : List ℕ) → S.bytes source.old ≡ Some file → length vlr.payload ≡ payload_length kind (drop at file)) }
-    ensures fault { IfErr result (λ e. (file : List ℕ) → S.bytes source.old ≡ Some file → IsFault (entry_fault kind number at before file) e) }
+    ensures whole { IfOk result (λ vlr. (file : List ℕ) → S.bytes source.old ≡ Some file
+        → entry_fault kind number at before file ≡ None) }
+    ensures entry { IfOk result (λ vlr. (file : List ℕ) → S.bytes source.old ≡ Some file
+        → vlr ≡ entry_of kind (drop at file)) }
+    ensures size { IfOk result (λ vlr. (file : List ℕ) → S.bytes source.old ≡ Some file
+        → length vlr.payload ≡ payload_length kind (drop at file)) }
+    ensures fault { IfErr result (λ e. (file : List ℕ) → S.bytes source.old ≡ Some file
+        → IsFault (entry_fault kind number at before file) e) }
     ensures failed { result ≡ Err VlrErr.ReadFailed → Rose (S.faults source.old) (S.faults source.new) }
     ensures later { S.faults source.old ≤ S.faults source.new }
     ensures in_front { IsInFront kind (S.reached source.old) (S.reached source.new) }
@@ -207,10 +222,12 @@ fn read_list<S: Source>(
     start: u64,
     count: u32,
 ) -> Result<VlrList, VlrErr>
-    ensures ok { IfOk result (λ vlrs. (file : List ℕ) → S.bytes source.old ≡ Some file → entries kind count start file ≡ Ok vlrs) }
+    ensures ok { IfOk result (λ vlrs. (file : List ℕ) → S.bytes source.old ≡ Some file
+        → entries kind count start file ≡ Ok vlrs) }
     ensures count { IfOk result (λ vlrs. length vlrs ≡ count) }
     ensures held { IfOk result (AreHeld (IsOf kind)) }
-    ensures fault { IfErr result (λ e. (file : List ℕ) → S.bytes source.old ≡ Some file → IsRefusal (entries kind count start file) e) }
+    ensures fault { IfErr result (λ e. (file : List ℕ) → S.bytes source.old ≡ Some file
+        → IsRefusal (entries kind count start file) e) }
     ensures failed { result ≡ Err VlrErr.ReadFailed → Rose (S.faults source.old) (S.faults source.new) }
     ensures later { S.faults source.old ≤ S.faults source.new }
     ensures in_front { IsInFront kind (S.reached source.old) (S.reached source.new) }
@@ -248,10 +265,12 @@ pub fn read_vlrs<S: Source>(
     points_at: u64,
     count: u32,
 ) -> Result<VlrList, VlrErr>
-    ensures ok { IfOk result (λ vlrs. (file : List ℕ) → S.bytes source.old ≡ Some file → vlrs_of start points_at count file ≡ Ok vlrs) }
+    ensures ok { IfOk result (λ vlrs. (file : List ℕ) → S.bytes source.old ≡ Some file
+        → vlrs_of start points_at count file ≡ Ok vlrs) }
     ensures count { IfOk result (λ vlrs. length vlrs ≡ count) }
     ensures held { IfOk result AreHeldVlrs }
-    ensures fault { IfErr result (λ e. (file : List ℕ) → S.bytes source.old ≡ Some file → IsRefusal (vlrs_of start points_at count file) e) }
+    ensures fault { IfErr result (λ e. (file : List ℕ) → S.bytes source.old ≡ Some file
+        → IsRefusal (vlrs_of start points_at count file) e) }
     ensures failed { result ≡ Err VlrErr.ReadFailed → Rose (S.faults source.old) (S.faults source.new) }
     ensures later { S.faults source.old ≤ S.faults source.new }
     ensures reached { S.reached source.new ≤ max (S.reached source.old) points_at }
@@ -272,10 +291,12 @@ pub fn read_evlrs<S: Source>(
     at: u64,
     count: u32,
 ) -> Result<VlrList, VlrErr>
-    ensures ok { IfOk result (λ vlrs. (file : List ℕ) → S.bytes source.old ≡ Some file → evlrs_of at count file ≡ Ok vlrs) }
+    ensures ok { IfOk result (λ vlrs. (file : List ℕ) → S.bytes source.old ≡ Some file
+        → evlrs_of at count file ≡ Ok vlrs) }
     ensures count { IfOk result (λ vlrs. length vlrs ≡ count) }
     ensures held { IfOk result AreHeldEvlrs }
-    ensures fault { IfErr result (λ e. (file : List ℕ) → S.bytes source.old ≡ Some file → IsRefusal (evlrs_of at count file) e) }
+    ensures fault { IfErr result (λ e. (file : List ℕ) → S.bytes source.old ≡ Some file
+        → IsRefusal (evlrs_of at count file) e) }
     ensures failed { result ≡ Err VlrErr.ReadFailed → Rose (S.faults source.old) (S.faults source.new) }
     ensures later { S.faults source.old ≤ S.faults source.new }
     ensures unread { count ≡ 0 → S.reached source.new ≡ S.reached source.old }

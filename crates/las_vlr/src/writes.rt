@@ -33,9 +33,12 @@ fn head_of(vlr: &Vlr, size: &[u8]) -> VlrHead
 /// Appends a record, with the length of its payload in these bytes.
 fn write_entry<K: Sink>(vlr: &Vlr, size: &[u8], out: &mut K) -> Result<(), Failed>
     requires { length size.now ≤ 8 }
-    ensures ok { OnOk result (Appends (K.bytes out.old) (head_bytes vlr.now size.now ++ vlr.now.payload) (K.bytes out.new)) }
-    ensures part { OnErr result (AppendsPart (K.bytes out.old) (head_bytes vlr.now size.now ++ vlr.now.payload) (K.bytes out.new)) }
-    ensures count { OnOk result (K.appended out.new ≡ saturating (K.appended out.old) (length (head_bytes vlr.now size.now ++ vlr.now.payload))) }
+    ensures ok { OnOk result (Appends (K.bytes out.old) (head_bytes vlr.now size.now ++ vlr.now.payload)
+        (K.bytes out.new)) }
+    ensures part { OnErr result (AppendsPart (K.bytes out.old)
+        (head_bytes vlr.now size.now ++ vlr.now.payload) (K.bytes out.new)) }
+    ensures count { OnOk result (K.appended out.new
+        ≡ saturating (K.appended out.old) (length (head_bytes vlr.now size.now ++ vlr.now.payload))) }
     ensures no_less { K.appended out.old ≤ K.appended out.new }
     ensures cause { HasCause (K.faults out.old) (K.faults out.new) result }
     ensures sizes { HasSizes vlr.now }
@@ -52,10 +55,12 @@ pub fn write_vlr<K: Sink>(vlr: &Vlr, out: &mut K) -> Result<(), Failed>
     requires { length vlr.now.payload ≤ 65535 }
     ensures ok { OnOk result (Appends (K.bytes out.old) (vlr_bytes vlr.now) (K.bytes out.new)) }
     ensures part { OnErr result (AppendsPart (K.bytes out.old) (vlr_bytes vlr.now) (K.bytes out.new)) }
-    ensures count { OnOk result (K.appended out.new ≡ saturating (K.appended out.old) (length (vlr_bytes vlr.now))) }
+    ensures count { OnOk result (K.appended out.new
+        ≡ saturating (K.appended out.old) (length (vlr_bytes vlr.now))) }
     ensures no_less { K.appended out.old ≤ K.appended out.new }
     ensures cause { HasCause (K.faults out.old) (K.faults out.new) result }
-    ensures is_entry { (points_at : ℕ) (rest : List ℕ) → entry_of (ListKind.Plain points_at) (vlr_bytes vlr.now ++ rest) ≡ vlr.now }
+    ensures is_entry { (points_at : ℕ) (rest : List ℕ)
+        → entry_of (ListKind.Plain points_at) (vlr_bytes vlr.now ++ rest) ≡ vlr.now }
 {
     let size = vlr.payload.as_slice().len() as u16;
     write_entry(vlr, &size.to_le_bytes(), out)
@@ -67,7 +72,8 @@ pub fn write_vlr<K: Sink>(vlr: &Vlr, out: &mut K) -> Result<(), Failed>
 pub fn write_evlr<K: Sink>(vlr: &Vlr, out: &mut K) -> Result<(), Failed>
     ensures ok { OnOk result (Appends (K.bytes out.old) (evlr_bytes vlr.now) (K.bytes out.new)) }
     ensures part { OnErr result (AppendsPart (K.bytes out.old) (evlr_bytes vlr.now) (K.bytes out.new)) }
-    ensures count { OnOk result (K.appended out.new ≡ saturating (K.appended out.old) (length (evlr_bytes vlr.now))) }
+    ensures count { OnOk result (K.appended out.new
+        ≡ saturating (K.appended out.old) (length (evlr_bytes vlr.now))) }
     ensures no_less { K.appended out.old ≤ K.appended out.new }
     ensures cause { HasCause (K.faults out.old) (K.faults out.new) result }
     ensures is_entry { (rest : List ℕ) → entry_of ListKind.Extended (evlr_bytes vlr.now ++ rest) ≡ vlr.now }

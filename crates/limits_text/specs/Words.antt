@@ -1,5 +1,5 @@
 -- the words of a text: names, numbers and signs, and the spaces between them
-use Rattle.std.specs.Prelude.{ℕ, ◌+◌, ◌<◌, ◌≡◌, List, [], ◌∷◌, ◌++◌, take, length, slice_index, Bool, true, false, not, ◌&&◌, ◌||◌, ◌==◌, nat_le, if◌then◌else◌}
+use Rattle.std.specs.Prelude.{ℕ, ◌+◌, ◌<◌, ◌≡◌, List, [], ◌∷◌, ◌++◌, take, length, slice_index, Bool, true, false, not, ◌||◌, ◌==◌, if◌then◌else◌}
 use Rattle.text_bytes.specs.Bytes.{is_space, is_digit, is_letter, is_word}
 use Rattle.decimal_coords.specs.Scanning.{after, run as scan}
 use Rattle.decimal_coords.specs.DecimalOfText.{is_dead}

@@ -136,7 +136,8 @@ pub(crate) fn word_end(text: &[u8], start: usize, kind: WordKind) -> usize
     ensures low { start < result }
     ensures within { result ≤ length text.now }
     ensures cut { IsCut text.now result }
-    ensures lives { kind ≡ WordKind.Number → not (is_dead (run Start (slice_range text.now start result))) ≡ true }
+    ensures lives { kind ≡ WordKind.Number
+        → not (is_dead (run Start (slice_range text.now start result))) ≡ true }
     ensures ascii { kind ≡ WordKind.Number → slice_index text.now (result - 1) < 128 }
     ensures letters { kind ≡ WordKind.Name → slice_index text.now (result - 1) < 128 }
     ensures sign { (b : ℕ) → kind ≡ WordKind.Sign b → slice_range text.now start result ≡ b ∷ [] }

@@ -144,7 +144,8 @@ fn check_word(
     requires kind { kind ≡ kind_from (slice_index text.now place) }
     requires may { is_some (behind control kind) ≡ true }
     requires spaced { spaced ≡ is_gap (front_of (take place text.now)) }
-    requires lives { kind ≡ WordKind.Number → not (is_dead (run Start (slice_range text.now place end))) ≡ true }
+    requires lives { kind ≡ WordKind.Number
+        → not (is_dead (run Start (slice_range text.now place end))) ≡ true }
     requires ascii { kind ≡ WordKind.Number → slice_index text.now (end - 1) < 128 }
     ensures name { kind ≡ WordKind.Name
         → OnOk result (is_name (keyword control) (slice_range text.now place end) ≡ true) }

@@ -108,8 +108,11 @@ struct Binder<'a> {
 impl<'a> Binder<'a> {
     fn expression(&self, expression: &Expr) -> Result<Bound, PipeErr>
         ensures ok { IfOk result (λ b. b ≡ bound self.now.names.now expression.now) }
-        ensures none { OnOk result (refused self.now.stage (bound_in (holds self.now.layout.now) self.now.names.now expression.now) ≡ None) }
-        ensures fault { IfErr result (IsFaultOf (refused self.now.stage (bound_in (holds self.now.layout.now) self.now.names.now expression.now))) }
+        ensures none { OnOk result (refused self.now.stage
+            (bound_in (holds self.now.layout.now) self.now.names.now expression.now) ≡ None) }
+        ensures fault { IfErr result (IsFaultOf
+            (refused self.now.stage (bound_in (holds self.now.layout.now) self.now.names.now
+            expression.now))) }
     {
         match bind_expr(self.alloc, expression, self.layout, self.names) {
             Ok(bound) => Ok(bound),
@@ -120,8 +123,11 @@ impl<'a> Binder<'a> {
     /// The condition of the points that a stage with these options judges or writes.
     fn only(&self, options: &Options) -> Result<Option<Bound>, PipeErr>
         ensures ok { IfOk result (λ b. b ≡ bound_where self.now.names.now (only_of options.now)) }
-        ensures none { OnOk result (where_refused self.now.stage self.now.names.now (holds self.now.layout.now) (only_of options.now) ≡ None) }
-        ensures fault { IfErr result (IsFaultOf (where_refused self.now.stage self.now.names.now (holds self.now.layout.now) (only_of options.now))) }
+        ensures none { OnOk result (where_refused self.now.stage self.now.names.now
+            (holds self.now.layout.now) (only_of options.now) ≡ None) }
+        ensures fault { IfErr result (IsFaultOf
+            (where_refused self.now.stage self.now.names.now (holds self.now.layout.now)
+            (only_of options.now))) }
     {
         match options.only() {
             Some(condition) => Ok(Some(self.expression(condition)?)),
@@ -131,8 +137,11 @@ impl<'a> Binder<'a> {
 
     fn assignment(&self, assignment: &Assign) -> Result<Assignment, PipeErr>
         ensures ok { IfOk result (λ a. a ≡ assign_of self.now.names.now assignment.now) }
-        ensures none { OnOk result (refused self.now.stage (bound_assign (holds self.now.layout.now) self.now.names.now assignment.now) ≡ None) }
-        ensures fault { IfErr result (IsFaultOf (refused self.now.stage (bound_assign (holds self.now.layout.now) self.now.names.now assignment.now))) }
+        ensures none { OnOk result (refused self.now.stage
+            (bound_assign (holds self.now.layout.now) self.now.names.now assignment.now) ≡ None) }
+        ensures fault { IfErr result (IsFaultOf
+            (refused self.now.stage (bound_assign (holds self.now.layout.now) self.now.names.now
+            assignment.now))) }
     {
         match bind_assign(self.alloc, assignment, self.layout, self.names) {
             Ok(bound) => Ok(bound),
@@ -142,8 +151,10 @@ impl<'a> Binder<'a> {
 
     fn assignments(&self, list: &[Assign]) -> Result<Assignments, PipeErr>
         ensures ok { IfOk result (λ b. b ≡ map (assign_of self.now.names.now) list.now) }
-        ensures none { OnOk result (assigns_refused self.now.stage self.now.names.now (holds self.now.layout.now) list.now ≡ None) }
-        ensures fault { IfErr result (IsFaultOf (assigns_refused self.now.stage self.now.names.now (holds self.now.layout.now) list.now)) }
+        ensures none { OnOk result (assigns_refused self.now.stage self.now.names.now
+            (holds self.now.layout.now) list.now ≡ None) }
+        ensures fault { IfErr result (IsFaultOf
+            (assigns_refused self.now.stage self.now.names.now (holds self.now.layout.now) list.now)) }
     {
         let mut bound = Vec::with_capacity(self.alloc, list.len())?;
         for assignment in list {
@@ -154,8 +165,11 @@ impl<'a> Binder<'a> {
 
     fn limit(&self, range: &NamedRange) -> Result<Limit, PipeErr>
         ensures ok { IfOk result (λ limit. limit ≡ limit_of self.now.names.now range.now) }
-        ensures none { OnOk result (refused self.now.stage (bound_dim (holds self.now.layout.now) self.now.names.now range.now.name) ≡ None) }
-        ensures fault { IfErr result (IsFaultOf (refused self.now.stage (bound_dim (holds self.now.layout.now) self.now.names.now range.now.name))) }
+        ensures none { OnOk result (refused self.now.stage
+            (bound_dim (holds self.now.layout.now) self.now.names.now range.now.name) ≡ None) }
+        ensures fault { IfErr result (IsFaultOf
+            (refused self.now.stage (bound_dim (holds self.now.layout.now) self.now.names.now
+            range.now.name))) }
     {
         let dim = bind_dim(self.alloc, self.stage, &range.name, self.layout, self.names)?;
         Ok(Limit {
@@ -166,8 +180,10 @@ impl<'a> Binder<'a> {
 
     fn limits(&self, list: &[NamedRange]) -> Result<Limits, PipeErr>
         ensures ok { IfOk result (λ b. b ≡ map (limit_of self.now.names.now) list.now) }
-        ensures none { OnOk result (ranges_refused self.now.stage self.now.names.now (holds self.now.layout.now) list.now ≡ None) }
-        ensures fault { IfErr result (IsFaultOf (ranges_refused self.now.stage self.now.names.now (holds self.now.layout.now) list.now)) }
+        ensures none { OnOk result (ranges_refused self.now.stage self.now.names.now
+            (holds self.now.layout.now) list.now ≡ None) }
+        ensures fault { IfErr result (IsFaultOf
+            (ranges_refused self.now.stage self.now.names.now (holds self.now.layout.now) list.now)) }
     {
         let mut bound = Vec::with_capacity(self.alloc, list.len())?;
         for range in list {
@@ -179,8 +195,10 @@ impl<'a> Binder<'a> {
     /// The dimension of a name, be it one of numbers or of words.
     fn dim(&self, name: &Name) -> Result<Dim, PipeErr>
         ensures ok { IfOk result (λ dim. dim ≡ dim_named self.now.names.now name.now) }
-        ensures none { OnOk result (dim_refused self.now.stage self.now.names.now (holds self.now.layout.now) name.now ≡ None) }
-        ensures fault { IfErr result (IsFaultOf (dim_refused self.now.stage self.now.names.now (holds self.now.layout.now) name.now)) }
+        ensures none { OnOk result (dim_refused self.now.stage self.now.names.now (holds self.now.layout.now)
+            name.now ≡ None) }
+        ensures fault { IfErr result (IsFaultOf
+            (dim_refused self.now.stage self.now.names.now (holds self.now.layout.now) name.now)) }
     {
         if let Some(dim) = dim_of(name.as_str(), self.names) {
             if self.layout.has(dim) {
@@ -193,8 +211,11 @@ impl<'a> Binder<'a> {
 
     /// Looks whether each column is a dimension.
     fn columns(&self, columns: &[NamedColumn]) -> Result<(), PipeErr>
-        ensures none { OnOk result (first_unbound self.now.names.now (holds self.now.layout.now) columns.now ≡ None) }
-        ensures fault { IfErr result (IsFaultOf (option_map (DimUnknown self.now.stage) (first_unbound self.now.names.now (holds self.now.layout.now) columns.now))) }
+        ensures none { OnOk result (first_unbound self.now.names.now (holds self.now.layout.now) columns.now
+            ≡ None) }
+        ensures fault { IfErr result (IsFaultOf
+            (option_map (DimUnknown self.now.stage)
+            (first_unbound self.now.names.now (holds self.now.layout.now) columns.now))) }
     {
         match unbound_column(self.layout, self.names, columns) {
             Some(name) => {
@@ -210,8 +231,10 @@ impl<'a> Binder<'a> {
     /// What a filter with these options does, where these are its ferries. Stages of other kinds give on what they take, as `merge`.
     fn filter(&self, options: &Options, ferries: Assignments) -> Result<BoundFilter, PipeErr>
         ensures bound { IfOk result (λ b. b ≡ bound_filter self.now.names.now ferries options.now) }
-        ensures ok { OnOk result (filter_refused self.now.stage self.now.names.now (holds self.now.layout.now) options.now ≡ None) }
-        ensures fault { IfErr result (IsFaultOf (filter_refused self.now.stage self.now.names.now (holds self.now.layout.now) options.now)) }
+        ensures ok { OnOk result (filter_refused self.now.stage self.now.names.now (holds self.now.layout.now)
+            options.now ≡ None) }
+        ensures fault { IfErr result (IsFaultOf
+            (filter_refused self.now.stage self.now.names.now (holds self.now.layout.now) options.now)) }
     {
         Ok(match options {
             Options::FiltersRange(o) => BoundFilter::Range(self.limits(o.limits.as_slice())?),
@@ -241,8 +264,10 @@ impl<'a> Binder<'a> {
     /// What a stage with these options does, where these are its ferries.
     fn stage(&self, options: &Options, ferries: Assignments) -> Result<BoundStage, PipeErr>
         ensures bound { IfOk result (λ b. b ≡ bound_with self.now.names.now ferries options.now) }
-        ensures ok { OnOk result (own_refused self.now.stage self.now.names.now (holds self.now.layout.now) options.now ≡ None) }
-        ensures fault { IfErr result (IsFaultOf (own_refused self.now.stage self.now.names.now (holds self.now.layout.now) options.now)) }
+        ensures ok { OnOk result (own_refused self.now.stage self.now.names.now (holds self.now.layout.now)
+            options.now ≡ None) }
+        ensures fault { IfErr result (IsFaultOf
+            (own_refused self.now.stage self.now.names.now (holds self.now.layout.now) options.now)) }
     {
         Ok(match options {
             Options::ReadersLas(_) => BoundStage::Reads,
@@ -284,7 +309,8 @@ pub fn bind(
 ) -> Result<BoundStage, PipeErr>
     ensures bound { IfOk result (λ b. b ≡ bound_stage names.old options.now) }
     ensures names { OnOk result (names.new ≡ names_behind names.old options.now) }
-    ensures layout { OnOk result ((dim : Dimension) → holds layout.new dim ≡ (holds layout.old dim || adds names.old options.now dim)) }
+    ensures layout { OnOk result ((dim : Dimension)
+        → holds layout.new dim ≡ (holds layout.old dim || adds names.old options.now dim)) }
     ensures ok { OnOk result (binding_fault i names.old (holds layout.old) options.now ≡ None) }
     ensures fault { IfErr result (IsFaultOf (binding_fault i names.old (holds layout.old) options.now)) }
     ensures same { OnErr result (layout.new ≡ layout.old) }

@@ -1,16 +1,16 @@
 -- One node between two of its states, turn by turn.
-use Rattle.std.proofs.Common.{◌≡◌, ℕ, zero, suc, ◌+◌, ◌-◌, ◌*◌, ◌<◌, ◌≤◌, Bool, true, false, cond, ◌⊎◌, inl, inr, List, [], ◌∷◌, ◌++◌, length, refl, ap, subst, sym, ◌∙◌, append-nil, append_assoc, arith, Option, Some, None}
+use Rattle.std.proofs.Common.{◌≡◌, ℕ, ◌+◌, ◌-◌, ◌*◌, ◌<◌, ◌≤◌, Bool, true, false, cond, ◌⊎◌, inl, inr, List, [], ◌∷◌, ◌++◌, length, refl, ap, subst, sym, ◌∙◌, append-nil, append_assoc, arith, Option, None}
 use Rattle.std.specs.Prelude.{◌==◌}
 use Rattle.cloud_points.specs.Meaning.{KeepsCutting}
 use Rattle.cloud_points.specs.Marks.{Mark, Item, marks, all_marks, is_end}
 use Rattle.network_theory.specs.Net.{Node, Choice, Quiet, Outcome, turn, taken, IsQuiet, IsWithin, holds_end, owes, works}
 use Rattle.network_theory.specs.Sound.{IsNode}
 use Rattle.network_theory.specs.History.{mark_points, item_points, all_item_points}
-use Rattle.network_theory.specs.Carried.{Carried, from_input, rest_of, joined, only_input}
-use Rattle.network_theory.specs.Between.{IsClosing, Between, QuietBetween}
+use Rattle.network_theory.specs.Carried.{from_input, rest_of, joined, only_input}
+use Rattle.network_theory.specs.Between.{Between, QuietBetween}
 use Rattle.network_theory.proofs.Carries.{carried-nothing, carried-on, at_input, from-same, inputs-stay, tape-took}
 use Rattle.network_theory.proofs.CarriedTurn.{carried-same, none-taken, Carries, turn-carries}
-use Rattle.network_theory.proofs.Keeps.{Moved, turn-moved}
+use Rattle.network_theory.proofs.Keeps.{turn-moved}
 use Rattle.network_theory.proofs.Finals.{closing-turn}
 use Rattle.network_theory.proofs.Rest.{ended-taken}
 use Rattle.network_theory.proofs.Run.{turn-same}

@@ -1,5 +1,5 @@
 -- One node between two of its states.
-use Rattle.std.specs.Prelude.{◌≡◌, ℕ, Bool, true, false, ◌||◌, List, [], ◌++◌, None}
+use Rattle.std.specs.Prelude.{◌≡◌, ℕ, true, false, ◌||◌, List, [], ◌++◌, None}
 use Rattle.cloud_points.specs.Marks.{Mark}
 use Rattle.network_theory.specs.Net.{Node, holds_end}
 use Rattle.network_theory.specs.Carried.{Carried, rest_of, joined}

@@ -36,7 +36,8 @@ fn text_member<'a>(
     members: &'a Map<String, Value>,
     name: &str,
 ) -> Result<Option<&'a str>, Malformed>
-    ensures ok { IfOk result (λ t. option_map (λ s. s.now) t ≡ part as_str name.now (members_view members.now.entries)) }
+    ensures ok { IfOk result (λ t. option_map (λ s. s.now) t
+        ≡ part as_str name.now (members_view members.now.entries)) }
     ensures bad { is_malformed as_str (get_member name.now (members_view members.now.entries)) ≡ is_err result }
 {
     match member(members, name) {
@@ -74,8 +75,10 @@ fn inputs_in(value: &Value) -> Option<&[Value]>
 
 /// The member `inputs`, if it stands.
 fn inputs_member(members: &Map<String, Value>) -> Result<Option<&[Value]>, Malformed>
-    ensures ok { IfOk result (λ t. option_map (λ s. map view s.now) t ≡ part inputs_in (codes "inputs") (members_view members.now.entries)) }
-    ensures bad { is_malformed inputs_in (get_member (codes "inputs") (members_view members.now.entries)) ≡ is_err result }
+    ensures ok { IfOk result (λ t. option_map (λ s. map view s.now) t
+        ≡ part inputs_in (codes "inputs") (members_view members.now.entries)) }
+    ensures bad { is_malformed inputs_in (get_member (codes "inputs") (members_view members.now.entries))
+        ≡ is_err result }
 {
     match member(members, "inputs") {
         None => Ok(None),
@@ -142,7 +145,8 @@ fn retain_options(members: &mut Map<String, Value>)
 
 /// The options of an object.
 pub(crate) fn options_in(members: &Map<String, Value>) -> Result<Map<String, Value>, AllocError>
-    ensures { IfOk result (λ options. members_view options.entries ≡ without_own (members_view members.now.entries)) }
+    ensures { IfOk result (λ options. members_view options.entries
+        ≡ without_own (members_view members.now.entries)) }
 {
     let mut options = members.clone()?;
     retain_options(&mut options);

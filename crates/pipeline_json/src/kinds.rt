@@ -48,7 +48,8 @@ pub(crate) fn is_bad_tag(tag: Option<&str>) -> bool
 
 /// Whether the name of the file is empty, or there is neither it nor a type.
 pub(crate) fn is_unnamed(kind: Option<&str>, filename: Option<&str>) -> bool
-    ensures { result ≡ is_unnamed (option_map (λ s. s.now) kind.entry) (option_map (λ s. s.now) filename.entry) }
+    ensures { result ≡ is_unnamed (option_map (λ s. s.now) kind.entry)
+        (option_map (λ s. s.now) filename.entry) }
 {
     match filename {
         None => kind.is_none(),
@@ -86,7 +87,8 @@ fn inferred(is_end: bool, name: &str) -> Option<KindName>
 
 /// The type of a stage: the one that is named, or else the one that its file name stands for.
 pub(crate) fn kind_of(is_end: bool, kind: Option<&str>, filename: Option<&str>) -> Option<KindName>
-    ensures { result ≡ kind_of is_end (option_map (λ s. s.now) kind.entry) (option_map (λ s. s.now) filename.entry) }
+    ensures { result ≡ kind_of is_end (option_map (λ s. s.now) kind.entry)
+        (option_map (λ s. s.now) filename.entry) }
 {
     match kind {
         Some(kind) => KindName::named(kind),

@@ -43,9 +43,12 @@ fn judged(
     requires few { length earlier.now ≤ 64 }
     requires number { number ≡ length (stages_view earlier.now) }
     ensures ok { IfOk result (λ t. parts_fault (stages_view earlier.now) is_end (parts_view parts.now) ≡ None) }
-    ensures kind { IfOk result (λ t. kind_of is_end (parts_view parts.now).type (parts_view parts.now).filename ≡ Some t.kind) }
-    ensures ins { IfOk result (λ t. t.ins.items ≡ ins_of (stages_view earlier.now) t.kind (parts_view parts.now).inputs) }
-    ensures fault { (f : PipeFault) → IsErrOf result (PipeErr.Fault f) → parts_fault (stages_view earlier.now) is_end (parts_view parts.now) ≡ Some f }
+    ensures kind { IfOk result (λ t. kind_of is_end (parts_view parts.now).type
+        (parts_view parts.now).filename ≡ Some t.kind) }
+    ensures ins { IfOk result (λ t. t.ins.items
+        ≡ ins_of (stages_view earlier.now) t.kind (parts_view parts.now).inputs) }
+    ensures fault { (f : PipeFault) → IsErrOf result (PipeErr.Fault f)
+        → parts_fault (stages_view earlier.now) is_end (parts_view parts.now) ≡ Some f }
 {
     if is_bad_tag(parts.tag) || is_unnamed(parts.kind, parts.filename) {
         return Err(PipeErr::Fault(PipeFault::BadStage(number)));
@@ -106,8 +109,10 @@ fn read_stage(
     requires few { length earlier.now ≤ 64 }
     requires number { number ≡ length (stages_view earlier.now) }
     ensures ok { IfOk result (λ s. stage_fault (stages_view earlier.now) is_end (view value.now) ≡ None) }
-    ensures value { IfOk result (λ s. stage_view s ≡ stage_of (stages_view earlier.now) is_end (view value.now)) }
-    ensures fault { (f : PipeFault) → IsErrOf result (PipeErr.Fault f) → stage_fault (stages_view earlier.now) is_end (view value.now) ≡ Some f }
+    ensures value { IfOk result (λ s. stage_view s
+        ≡ stage_of (stages_view earlier.now) is_end (view value.now)) }
+    ensures fault { (f : PipeFault) → IsErrOf result (PipeErr.Fault f)
+        → stage_fault (stages_view earlier.now) is_end (view value.now) ≡ Some f }
 {
     let Some(parts) = element_parts(value) else {
         return Err(PipeErr::Fault(PipeFault::BadStage(number)));

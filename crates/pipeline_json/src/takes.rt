@@ -142,7 +142,8 @@ pub(crate) fn ins_of(
     inputs: Option<&[Value]>,
 ) -> Result<Vec<u32>, AllocError>
     requires { length earlier.now ≤ 64 }
-    ensures { IfOk result (λ ins. ins.items ≡ ins_of (stages_view earlier.now) kind (option_map (λ s. map view s.now) inputs.entry)) }
+    ensures { IfOk result (λ ins. ins.items
+        ≡ ins_of (stages_view earlier.now) kind (option_map (λ s. map view s.now) inputs.entry)) }
 {
     match inputs {
         Some(items) => places(alloc, earlier, items),

@@ -169,7 +169,8 @@ fn new_record(p: &Point, grid: &Grid) -> Result<[u8; 30], EncodeFault>
 
 /// The bytes of the colours.
 fn colours(p: &Point) -> [u8; 6]
-    ensures { result ≡ to_le_bytes w16 p.now.red ++ (to_le_bytes w16 p.now.green ++ to_le_bytes w16 p.now.blue) }
+    ensures { result ≡ to_le_bytes w16 p.now.red
+        ++ (to_le_bytes w16 p.now.green ++ to_le_bytes w16 p.now.blue) }
 {
     let red = p.red.to_le_bytes();
     let green = p.green.to_le_bytes();
@@ -272,7 +273,8 @@ pub fn encode(format: Format, p: &Point, grid: &Grid, out: &mut [u8]) -> Result<
     requires near { IsNear grid.now }
     ensures ok { IfOk result (λ n. encoded format grid.now p.now ≡ Ok (take n out.new)) }
     ensures size { IfOk result (λ n. n ≡ format_size format) }
-    ensures read_back { IfOk result (λ n. IsOfFormat format grid.now p.now → decoded format grid.now (take n out.new) ≡ p.now) }
+    ensures read_back { IfOk result (λ n. IsOfFormat format grid.now p.now
+        → decoded format grid.now (take n out.new) ≡ p.now) }
     ensures after { IfOk result (λ n. drop n out.new ≡ drop n out.old) }
     ensures refused { IfErr result (λ e. encoded format grid.now p.now ≡ Err e) }
     ensures unchanged { OnErr result (out.new ≡ out.old) }

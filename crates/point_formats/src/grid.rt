@@ -63,7 +63,8 @@ pub(crate) fn coordinate(grid: &Grid, axis: usize, raw: i32) -> i64
 /// The raw number of a coordinate in nanounits, of any size; it is refused exactly where it leaves 32 bits.
 fn raw_number(nano: i64, scale: Scale, off: i64) -> Result<i32, NotHeld>
     requires { IsNearOffset off }
-    ensures { OkIff result (FitsSigned w32 (nearest_step nano scale.nano off)) (nearest_step nano scale.nano off) }
+    ensures { OkIff result (FitsSigned w32 (nearest_step nano scale.nano off))
+        (nearest_step nano scale.nano off) }
 {
     if nano.unsigned_abs() > MOST_NANO {
         return Err(NotHeld);

@@ -93,11 +93,13 @@ impl Files for RecordedFiles {
             × (⟦<MemFiles as Files>⟧.map self.old.files ≡ Some m) × (m name.now ≡ None) }
         ensures no_fault { IsErrOf result Absent
             → ⟦<MemFiles as Files>⟧.faults self.new.files ≡ ⟦<MemFiles as Files>⟧.faults self.old.files }
-        ensures later { ⟦<MemFiles as Files>⟧.faults self.old.files ≤ ⟦<MemFiles as Files>⟧.faults self.new.files }
+        ensures later { ⟦<MemFiles as Files>⟧.faults self.old.files
+            ≤ ⟦<MemFiles as Files>⟧.faults self.new.files }
         ensures failed { IsErrOf result DeviceFailed
             → Rose (⟦<MemFiles as Files>⟧.faults self.old.files) (⟦<MemFiles as Files>⟧.faults self.new.files) }
         ensures map { ⟦<MemFiles as Files>⟧.map self.new.files ≡ ⟦<MemFiles as Files>⟧.map self.old.files }
-        ensures read_to { ⟦<MemFiles as Files>⟧.read_to self.new.files ≡ ⟦<MemFiles as Files>⟧.read_to self.old.files }
+        ensures read_to { ⟦<MemFiles as Files>⟧.read_to self.new.files
+            ≡ ⟦<MemFiles as Files>⟧.read_to self.old.files }
         ensures lent_ok { OnOk result (⟦<MemFiles as Files>⟧.lent self.new.files
             ≡ ⟦<MemFiles as Files>⟧.lent self.old.files + 1) }
         ensures lent_err { OnErr result (⟦<MemFiles as Files>⟧.lent self.new.files
@@ -116,11 +118,13 @@ impl Files for RecordedFiles {
         ensures fresh { IfOk result (λ sink. (⟦<MemOut as Sink>⟧.faults sink ≡ 0)
             × (⟦<MemOut as Sink>⟧.appended sink ≡ 0)) }
         ensures not_absent { IsErrOf result Absent → ⊥ }
-        ensures later { ⟦<MemFiles as Files>⟧.faults self.old.files ≤ ⟦<MemFiles as Files>⟧.faults self.new.files }
+        ensures later { ⟦<MemFiles as Files>⟧.faults self.old.files
+            ≤ ⟦<MemFiles as Files>⟧.faults self.new.files }
         ensures failed { IsErrOf result DeviceFailed
             → Rose (⟦<MemFiles as Files>⟧.faults self.old.files) (⟦<MemFiles as Files>⟧.faults self.new.files) }
         ensures map { ⟦<MemFiles as Files>⟧.map self.new.files ≡ ⟦<MemFiles as Files>⟧.map self.old.files }
-        ensures read_to { ⟦<MemFiles as Files>⟧.read_to self.new.files ≡ ⟦<MemFiles as Files>⟧.read_to self.old.files }
+        ensures read_to { ⟦<MemFiles as Files>⟧.read_to self.new.files
+            ≡ ⟦<MemFiles as Files>⟧.read_to self.old.files }
         ensures lent_ok { OnOk result (⟦<MemFiles as Files>⟧.lent self.new.files
             ≡ ⟦<MemFiles as Files>⟧.lent self.old.files + 1) }
         ensures lent_err { OnErr result (⟦<MemFiles as Files>⟧.lent self.new.files
@@ -142,13 +146,16 @@ impl Files for RecordedFiles {
             ⊎ (⟦<MemFiles as Files>⟧.map self.new.files
             ≡ kept (⟦<MemFiles as Files>⟧.map self.old.files) name.now (⟦<MemOut as Sink>⟧.bytes out))) }
         ensures not_absent { IsErrOf result Absent → ⊥ }
-        ensures later { ⟦<MemFiles as Files>⟧.faults self.old.files ≤ ⟦<MemFiles as Files>⟧.faults self.new.files }
+        ensures later { ⟦<MemFiles as Files>⟧.faults self.old.files
+            ≤ ⟦<MemFiles as Files>⟧.faults self.new.files }
         ensures counted { saturating (⟦<MemFiles as Files>⟧.faults self.old.files) (⟦<MemOut as Sink>⟧.faults out)
             ≤ ⟦<MemFiles as Files>⟧.faults self.new.files }
         ensures failed { IsErrOf result DeviceFailed
             → Rose (⟦<MemFiles as Files>⟧.faults self.old.files) (⟦<MemFiles as Files>⟧.faults self.new.files) }
-        ensures read_to { ⟦<MemFiles as Files>⟧.read_to self.new.files ≡ ⟦<MemFiles as Files>⟧.read_to self.old.files }
-        ensures lent { ⟦<MemFiles as Files>⟧.lent self.new.files ≡ ⟦<MemFiles as Files>⟧.lent self.old.files - 1 }
+        ensures read_to { ⟦<MemFiles as Files>⟧.read_to self.new.files
+            ≡ ⟦<MemFiles as Files>⟧.read_to self.old.files }
+        ensures lent { ⟦<MemFiles as Files>⟧.lent self.new.files
+            ≡ ⟦<MemFiles as Files>⟧.lent self.old.files - 1 }
 
         // The call is noted, unless memory is wanting.
         ensures noted { (IsErrOf result Memory → ⊥) → string_bytes self.new.calls

@@ -252,7 +252,8 @@ fn device_line(place: Place, op: Op) -> Line<'static>
 /// The line of a fault at a stage of the pipeline, in which a name stands between words.
 fn named_line<'a>(stage: u32, before: &str, name: &'a Name, after: &'static str) -> Line<'a>
     requires { length before.now ≤ 40 }
-    ensures { line_bytes result ≡ codes "lasline: pipeline: " ++ (at_stage stage (before.now ++ name.now) ++ after.now) }
+    ensures { line_bytes result ≡ codes "lasline: pipeline: "
+        ++ (at_stage stage (before.now ++ name.now) ++ after.now) }
 {
     let mut text = Text::new();
     text.push_str("lasline: pipeline: ");
@@ -324,8 +325,10 @@ fn refusal_line(refusal: &Refusal) -> Line<'_>
 
 /// Appends three pieces, one after another.
 fn append_all<K: Sink>(before: &[u8], name: &[u8], after: &[u8], out: &mut K) -> Result<(), Failed>
-    ensures ok { OnOk result (Appends (K.bytes out.old) (before.now ++ (name.now ++ after.now)) (K.bytes out.new)) }
-    ensures part { OnErr result (AppendsPart (K.bytes out.old) (before.now ++ (name.now ++ after.now)) (K.bytes out.new)) }
+    ensures ok { OnOk result (Appends (K.bytes out.old) (before.now ++ (name.now ++ after.now))
+        (K.bytes out.new)) }
+    ensures part { OnErr result (AppendsPart (K.bytes out.old) (before.now ++ (name.now ++ after.now))
+        (K.bytes out.new)) }
     ensures cause { HasCause (K.faults out.old) (K.faults out.new) result }
 {
     out.append(before)?;

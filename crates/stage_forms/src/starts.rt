@@ -57,7 +57,8 @@ fn file_form<S: Source>(
 ) -> Result<FileForm, AllocError>
     requires writes { is_writing (role_of options.now) ≡ true }
     requires inside { All (λ j. j < length readers.now) below.now }
-    ensures form { IfOk result (λ form. file_for options.now (record { names = names.now; reads = reads_in readers.now below.now }) ≡ Some form) }
+    ensures form { IfOk result (λ form. file_for options.now
+        (record { names = names.now; reads = reads_in readers.now below.now }) ≡ Some form) }
     ensures good { IfOk result IsFileForm }
 {
     match options {

@@ -62,13 +62,15 @@ impl<K: FileSink> FileWriter<K> {
     pub(crate) fn put(&mut self, points: &[Point]) -> Result<(), PutErr>
         requires { length points.now ≤ MOST_POINTS }
         ensures ok { OnOk result (first_unwritten (file_form self.old) (count_of self.old) points.now ≡ None) }
-        ensures err { IfErr result (IsUnwritten (first_unwritten (file_form self.old) (count_of self.old) points.now)) }
+        ensures err { IfErr result (IsUnwritten
+            (first_unwritten (file_form self.old) (count_of self.old) points.now)) }
         ensures holds { OnOk result ((before : List point_type.Point)
             → file_holds K.bytes self.old before ≡ true → file_holds K.bytes self.new (before ++ points.now) ≡ true) }
         ensures form { file_form self.new ≡ file_form self.old }
         ensures count { OnOk result (count_of self.new ≡ up_to_limit (count_of self.old + length points.now)) }
         ensures uncounted { OnErr result (count_of self.new ≡ count_of self.old) }
-        ensures failed { IfErr result (λ e. e ≡ PutErr.Failed → Rose (K.faults (sink_of self.old)) (K.faults (sink_of self.new))) }
+        ensures failed { IfErr result (λ e. e ≡ PutErr.Failed
+            → Rose (K.faults (sink_of self.old)) (K.faults (sink_of self.new))) }
         ensures later { K.faults (sink_of self.old) ≤ K.faults (sink_of self.new) }
     {
         match self {
@@ -94,7 +96,8 @@ impl<K: FileSink> FileWriter<K> {
     /// among them, and why it has none. It is refused only where the sink failed.
     pub(crate) fn put_up_to(&mut self, points: &[Point]) -> Result<Option<(usize, Reason)>, Failed>
         requires { length points.now ≤ MOST_POINTS }
-        ensures stop { IfOk result (λ stop. stop ≡ first_unwritten (file_form self.old) (count_of self.old) points.now) }
+        ensures stop { IfOk result (λ stop. stop
+            ≡ first_unwritten (file_form self.old) (count_of self.old) points.now) }
         ensures holds { IfOk result (λ stop. stop ≡ None → (before : List point_type.Point)
             → file_holds K.bytes self.old before ≡ true → file_holds K.bytes self.new (before ++ points.now) ≡ true) }
         ensures form { file_form self.new ≡ file_form self.old }

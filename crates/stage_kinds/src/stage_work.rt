@@ -148,8 +148,10 @@ impl<S: Source, K: FileSink> StageWork<S, K> {
         ensures file { OnOk result ((writing : writing_type.Writing) (points : List point_type.Point)
             → writing_of self.old ≡ Some writing → holds_of K.bytes self.old points ≡ true → stops_nowhere writing points ≡ true
             → IsAsTold (told_by K.bytes self.new) (Some (file_bytes writing.form (chosen writing.only points)))) }
-        ensures named { IfErr result (λ op. option_map (λ w. finishing_op w.form) (writing_of self.old) ≡ Some op) }
-        ensures cause { HasCause (faults_of S.faults K.faults self.old) (faults_of S.faults K.faults self.new) result }
+        ensures named { IfErr result (λ op. option_map (λ w. finishing_op w.form) (writing_of self.old)
+            ≡ Some op) }
+        ensures cause { HasCause (faults_of S.faults K.faults self.old) (faults_of S.faults K.faults self.new)
+            result }
     {
         match self {
             StageWork::Writer(writer) => writer.file.finish(),

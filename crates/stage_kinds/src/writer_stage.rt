@@ -75,14 +75,16 @@ impl<K: FileSink> WriterStage<K> {
     /// them, and why. It is refused only where the sink failed.
     fn put_chosen(&mut self, points: &[Point]) -> Result<Option<(usize, Reason)>, Failed>
         requires { length points.now ≤ MOST_POINTS }
-        ensures stop { IfOk result (λ stop. stop ≡ first_stop (writes_of self.old) (count_of self.old.file) points.now) }
+        ensures stop { IfOk result (λ stop. stop
+            ≡ first_stop (writes_of self.old) (count_of self.old.file) points.now) }
         ensures holds { IfOk result (λ stop. stop ≡ None → (before : List point_type.Point) → file_holds K.bytes self.old.file before ≡ true
             → file_holds K.bytes self.new.file (before ++ chosen (only_of self.old) points.now) ≡ true) }
         ensures form { file_form self.new.file ≡ file_form self.old.file }
         ensures count { IfOk result (λ stop. count_of self.new.file
             ≡ up_to_limit (count_of self.old.file + length (chosen (only_of self.old) (points_before stop points.now)))) }
         ensures taken { self.new.taken ≡ self.old.taken }
-        ensures failed { OnErr result (Rose (K.faults (sink_of self.old.file)) (K.faults (sink_of self.new.file))) }
+        ensures failed { OnErr result (Rose (K.faults (sink_of self.old.file))
+            (K.faults (sink_of self.new.file))) }
         ensures later { K.faults (sink_of self.old.file) ≤ K.faults (sink_of self.new.file) }
     {
         if self.taken.only().is_none() {
@@ -120,7 +122,8 @@ impl<K: FileSink> WriterStage<K> {
             ≡ up_to_limit (count_of self.old.file + length (chosen (only_of self.old) (p.now ∷ [])))) }
         ensures holds { OnOk result ((before : List point_type.Point)
             → holds_chosen K.bytes self.old before ≡ true → holds_chosen K.bytes self.new (before ++ p.now ∷ []) ≡ true) }
-        ensures failed { IfErr result (λ e. e ≡ TakeErr.Failed → Rose (K.faults (sink_of self.old.file)) (K.faults (sink_of self.new.file))) }
+        ensures failed { IfErr result (λ e. e ≡ TakeErr.Failed
+            → Rose (K.faults (sink_of self.old.file)) (K.faults (sink_of self.new.file))) }
         ensures later { K.faults (sink_of self.old.file) ≤ K.faults (sink_of self.new.file) }
     {
         self.known_spot();
@@ -152,13 +155,19 @@ impl<K: FileSink> WriterStage<K> {
     /// Writes the points for which the `where` holds, up to the first at which it stops, and lets those before it pass.
     pub(crate) fn on_chunk(&mut self, points: &mut Spread) -> Option<StageFault>
         ensures form { writes_of self.new ≡ writes_of self.old }
-        ensures spot { is_device result ≡ false → spot_in self.new ≡ reached (writing_steps (writes_of self.old)) (spot_in self.old) points.old.items }
-        ensures points { is_device result ≡ false → points.new.items ≡ given (writing_steps (writes_of self.old)) (spot_in self.old) points.old.items }
-        ensures fault { is_device result ≡ false → result ≡ stopped (writing_steps (writes_of self.old)) (spot_in self.old) points.old.items }
+        ensures spot { is_device result ≡ false
+            → spot_in self.new ≡ reached (writing_steps (writes_of self.old)) (spot_in self.old)
+            points.old.items }
+        ensures points { is_device result ≡ false
+            → points.new.items ≡ given (writing_steps (writes_of self.old)) (spot_in self.old)
+            points.old.items }
+        ensures fault { is_device result ≡ false
+            → result ≡ stopped (writing_steps (writes_of self.old)) (spot_in self.old) points.old.items }
         ensures event { is_device result ≡ true → points.new.items ≡ [] }
         ensures holds { is_device result ≡ false → (before : List point_type.Point)
             → holds_chosen K.bytes self.old before ≡ true → holds_chosen K.bytes self.new (before ++ points.old.items) ≡ true }
-        ensures cause { is_device result ≡ true → Rose (K.faults (sink_of self.old.file)) (K.faults (sink_of self.new.file)) }
+        ensures cause { is_device result ≡ true
+            → Rose (K.faults (sink_of self.old.file)) (K.faults (sink_of self.new.file)) }
         ensures named { IsOf (Some op_type.Op.Write) result }
         ensures later { K.faults (sink_of self.old.file) ≤ K.faults (sink_of self.new.file) }
     {

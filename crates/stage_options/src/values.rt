@@ -51,7 +51,8 @@ pub fn value_of<'a>(
     options: &'a Map<String, Value>,
     name: &str,
 ) -> Option<Given<'a>>
-    ensures { option_map given_view result ≡ value_of name.now (option_map (λ s. s.now) filename.entry) (members_view options.now.entries) }
+    ensures { option_map given_view result
+        ≡ value_of name.now (option_map (λ s. s.now) filename.entry) (members_view options.now.entries) }
 {
     if name == "filename" {
         return match filename {
@@ -218,7 +219,8 @@ fn assignments(alloc: Global, values: &[Value]) -> Result<Option<Vec<Assign>>, A
 
 /// The assignments, where there are 1 to 64.
 fn some_and_few(list: Option<Vec<Assign>>) -> Option<Vec<Assign>>
-    ensures { option_map (λ list. list.items) result ≡ option_and_then some_and_few (option_map (λ list. list.items) list) }
+    ensures { option_map (λ list. list.items) result
+        ≡ option_and_then some_and_few (option_map (λ list. list.items) list) }
 {
     let list = list?;
     if list.is_empty() || list.len() > MOST_ASSIGNMENTS {
@@ -284,7 +286,8 @@ impl<'a> Given<'a> {
 
     /// The assignments that are given, by a text or by an array of 1 to 64 texts. Refused only where memory is wanting.
     pub fn assignments(self, alloc: Global) -> Result<Option<Vec<Assign>>, AllocError>
-        ensures { IfOk result (λ o. option_map (λ list. list.items) o ≡ assignments_with (given_view self.entry)) }
+        ensures { IfOk result (λ o. option_map (λ list. list.items) o
+            ≡ assignments_with (given_view self.entry)) }
     {
         match self {
             Given::Json(Value::Array(values)) => {

@@ -77,7 +77,8 @@ fn end_of(stages: &[StageSpec], j: usize) -> usize
 
 /// The greatest stage of each stage's step, stage by stage. Refuses where memory is wanting.
 pub(crate) fn ends_of(alloc: Global, stages: &[StageSpec]) -> Result<Vec<usize>, AllocError>
-    ensures { IfOk result (λ ends. ends.items ≡ map (end_of stages.now) (range_with_len 0 (length stages.now))) }
+    ensures { IfOk result (λ ends. ends.items
+        ≡ map (end_of stages.now) (range_with_len 0 (length stages.now))) }
 {
     let mut ends = Vec::new(alloc);
     for j in 0..stages.len() {

@@ -172,7 +172,8 @@ fn text_in<'a>(
     high: usize,
     name: &str,
 ) -> Option<&'a str>
-    ensures value { option_map (λ s. s.now) result ≡ text_in low high name.now (members_view options.now.entries) }
+    ensures value { option_map (λ s. s.now) result
+        ≡ text_in low high name.now (members_view options.now.entries) }
     ensures high { IfSome result (λ s. length s.now ≤ high) }
 {
     let text = text_of(options, name)?;

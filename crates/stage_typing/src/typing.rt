@@ -64,7 +64,8 @@ fn filters_crop(alloc: Global, options: &Map<String, Value>) -> Result<Options, 
 }
 
 fn filters_assign(alloc: Global, options: &Map<String, Value>) -> Result<Options, AllocError>
-    ensures { IfOk result (λ o. o ≡ typed_as.FiltersAssign (assign_options (members_view options.now.entries))) }
+    ensures { IfOk result (λ o. o ≡ typed_as.FiltersAssign
+        (assign_options (members_view options.now.entries))) }
 {
     let assignments = assignments_in(alloc, options)?;
     let only = where_in(alloc, options)?;
@@ -80,7 +81,8 @@ fn filters_ferry(alloc: Global, options: &Map<String, Value>) -> Result<Options,
 }
 
 fn filters_expression(alloc: Global, options: &Map<String, Value>) -> Result<Options, AllocError>
-    ensures { IfOk result (λ o. o ≡ typed_as.FiltersExpression (expression_options (members_view options.now.entries))) }
+    ensures { IfOk result (λ o. o ≡ typed_as.FiltersExpression
+        (expression_options (members_view options.now.entries))) }
 {
     let expression = expression_in(alloc, options)?;
     let only = where_in(alloc, options)?;
@@ -88,7 +90,8 @@ fn filters_expression(alloc: Global, options: &Map<String, Value>) -> Result<Opt
 }
 
 fn filters_decimation(alloc: Global, options: &Map<String, Value>) -> Result<Options, AllocError>
-    ensures { IfOk result (λ o. o ≡ typed_as.FiltersDecimation (decimation_options (members_view options.now.entries))) }
+    ensures { IfOk result (λ o. o ≡ typed_as.FiltersDecimation
+        (decimation_options (members_view options.now.entries))) }
 {
     let only = where_in(alloc, options)?;
     Ok(Options::FiltersDecimation(DecimationOptions {
@@ -108,7 +111,8 @@ fn filters_head(alloc: Global, options: &Map<String, Value>) -> Result<Options, 
 }
 
 fn filters_returns(alloc: Global, options: &Map<String, Value>) -> Result<Options, AllocError>
-    ensures { IfOk result (λ o. o ≡ typed_as.FiltersReturns (returns_options (members_view options.now.entries))) }
+    ensures { IfOk result (λ o. o ≡ typed_as.FiltersReturns
+        (returns_options (members_view options.now.entries))) }
 {
     let groups = groups_in(options);
     let only = where_in(alloc, options)?;
@@ -131,7 +135,8 @@ fn filters_tail(options: &Map<String, Value>) -> Options
 }
 
 fn filters_groupby(alloc: Global, options: &Map<String, Value>) -> Result<Options, AllocError>
-    ensures { IfOk result (λ o. o ≡ typed_as.FiltersGroupby (groupby_options (members_view options.now.entries))) }
+    ensures { IfOk result (λ o. o ≡ typed_as.FiltersGroupby
+        (groupby_options (members_view options.now.entries))) }
 {
     let dimension = name_in(alloc, options, "dimension")?;
     Ok(Options::FiltersGroupby(GroupbyOptions { dimension }))
@@ -186,7 +191,8 @@ fn typed(
     options: &Map<String, Value>,
 ) -> Result<Options, AllocError>
     requires { IsTrue (is_named kind (option_map (λ s. s.now) filename)) }
-    ensures { IfOk result (λ o. o ≡ typed_of kind (option_map (λ s. s.now) filename.entry) (members_view options.now.entries)) }
+    ensures { IfOk result (λ o. o ≡ typed_of kind (option_map (λ s. s.now) filename.entry)
+        (members_view options.now.entries)) }
 {
     match kind {
         KindName::ReadersLas => readers_las(alloc, filename),
@@ -216,9 +222,12 @@ pub(crate) fn type_options(
     options: &Map<String, Value>,
     i: u32,
 ) -> Result<Options, PipeErr>
-    ensures no_fault { OnOk result (first_fault i kind (option_map (λ s. s.now) filename.entry) (members_view options.now.entries) ≡ None) }
-    ensures ok { IfOk result (λ o. o ≡ typed_of kind (option_map (λ s. s.now) filename.entry) (members_view options.now.entries)) }
-    ensures fault { IfErr result (IsFaultOf (first_fault i kind (option_map (λ s. s.now) filename.entry) (members_view options.now.entries))) }
+    ensures no_fault { OnOk result (first_fault i kind (option_map (λ s. s.now) filename.entry)
+        (members_view options.now.entries) ≡ None) }
+    ensures ok { IfOk result (λ o. o ≡ typed_of kind (option_map (λ s. s.now) filename.entry)
+        (members_view options.now.entries)) }
+    ensures fault { IfErr result (IsFaultOf
+        (first_fault i kind (option_map (λ s. s.now) filename.entry) (members_view options.now.entries))) }
 {
     refuse(alloc, rules_of(kind), filename, options, i)?;
     Ok(typed(alloc, kind, filename, options)?)

@@ -82,14 +82,16 @@ fn fits(alloc: Global, allowed: Allowed, given: Given<'_>) -> Result<bool, Alloc
 
 /// Whether an option is there.
 fn stands(filename: Option<&str>, options: &Map<String, Value>, name: &str) -> bool
-    ensures { result ≡ stands (option_map (λ s. s.now) filename.entry) (members_view options.now.entries) name.now }
+    ensures { result ≡ stands (option_map (λ s. s.now) filename.entry) (members_view options.now.entries)
+        name.now }
 {
     value_of(filename, options, name).is_some()
 }
 
 /// Whether one of these options is there.
 fn any_stands(filename: Option<&str>, options: &Map<String, Value>, names: &[&str]) -> bool
-    ensures { result ≡ list_any (stands (option_map (λ s. s.now) filename.entry) (members_view options.now.entries)) (map (λ s. s.now) names.now) }
+    ensures { result ≡ list_any (stands (option_map (λ s. s.now) filename.entry)
+        (members_view options.now.entries)) (map (λ s. s.now) names.now) }
 {
     for name in names {
         if stands(filename, options, name) {
@@ -117,7 +119,8 @@ fn is_wrong(
 
 /// Whether an option that has to be there isn't.
 fn is_missing(rule: &Rule, filename: Option<&str>, options: &Map<String, Value>) -> bool
-    ensures { result ≡ is_missing ((rule_view rule.now).presence) ((rule_view rule.now).name) (option_map (λ s. s.now) filename.entry) (members_view options.now.entries) }
+    ensures { result ≡ is_missing ((rule_view rule.now).presence) ((rule_view rule.now).name)
+        (option_map (λ s. s.now) filename.entry) (members_view options.now.entries) }
 {
     match rule {
         Rule::Required(name, _) => !stands(filename, options, name),
@@ -196,7 +199,9 @@ fn first_missing(
     filename: Option<&str>,
     options: &Map<String, Value>,
 ) -> Option<&'static str>
-    ensures { option_map (λ s. s.now) result ≡ first_missing (rules_view table.now) (option_map (λ s. s.now) filename.entry) (members_view options.now.entries) }
+    ensures { option_map (λ s. s.now) result
+        ≡ first_missing (rules_view table.now) (option_map (λ s. s.now) filename.entry)
+        (members_view options.now.entries) }
 {
     for rule in table {
         if is_missing(rule, filename, options) {
@@ -226,7 +231,8 @@ fn first_wrong(
 
 /// The first key that is no option's name.
 fn unknown_key<'a>(table: &[Rule], options: &'a Map<String, Value>) -> Option<&'a String>
-    ensures value { option_map (λ k. k.now) result ≡ find (λ k. not (is_known (rules_view table.now) (string_bytes k))) (keys options.now) }
+    ensures value { option_map (λ k. k.now) result
+        ≡ find (λ k. not (is_known (rules_view table.now) (string_bytes k))) (keys options.now) }
     ensures ordered { IsOrdered string_cmp options.now }
 {
     options.keys().find(|k| !is_known(table, k.as_str()))
@@ -234,7 +240,9 @@ fn unknown_key<'a>(table: &[Rule], options: &'a Map<String, Value>) -> Option<&'
 
 /// The least key that is no option's name. The keys ascend.
 fn least_key<'a>(table: &[Rule], options: &'a Map<String, Value>) -> Option<&'a str>
-    ensures { option_map (λ k. k.now) result ≡ least (filter (λ name. not (is_known (rules_view table.now) name)) (names_of (members_view options.now.entries))) }
+    ensures { option_map (λ k. k.now) result
+        ≡ least (filter (λ name. not (is_known (rules_view table.now) name))
+        (names_of (members_view options.now.entries))) }
 {
     match unknown_key(table, options) {
         Some(key) => Some(key.as_str()),
@@ -261,7 +269,9 @@ fn first_unknown<'a>(
     filename: Option<&str>,
     options: &'a Map<String, Value>,
 ) -> Option<&'a str>
-    ensures { option_map (λ s. s.now) result ≡ first_unknown (rules_view table.now) (option_map (λ s. s.now) filename.entry) (members_view options.now.entries) }
+    ensures { option_map (λ s. s.now) result
+        ≡ first_unknown (rules_view table.now) (option_map (λ s. s.now) filename.entry)
+        (members_view options.now.entries) }
 {
     let key = least_key(table, options);
     if filename.is_some() && !is_known(table, "filename") {
@@ -279,8 +289,11 @@ pub(crate) fn refuse(
     options: &Map<String, Value>,
     i: u32,
 ) -> Result<(), PipeErr>
-    ensures ok { OnOk result (fault_by i (rules_view table.now) (option_map (λ s. s.now) filename.entry) (members_view options.now.entries) ≡ None) }
-    ensures fault { IfErr result (IsFaultOf (fault_by i (rules_view table.now) (option_map (λ s. s.now) filename.entry) (members_view options.now.entries))) }
+    ensures ok { OnOk result (fault_by i (rules_view table.now) (option_map (λ s. s.now) filename.entry)
+        (members_view options.now.entries) ≡ None) }
+    ensures fault { IfErr result (IsFaultOf
+        (fault_by i (rules_view table.now) (option_map (λ s. s.now) filename.entry)
+        (members_view options.now.entries))) }
 {
     if let Some(name) = first_unknown(table, filename, options) {
         return Err(PipeErr::Fault(PipeFault::OptionUnknown(i, name_from(alloc, name)?)));

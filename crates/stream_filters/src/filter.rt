@@ -49,7 +49,8 @@ impl Filter {
             ≡ (filter_meaning (filtering_of self.old)).after (spot_of self.old) points.old.items }
         ensures points { points.new.items
             ≡ (filter_meaning (filtering_of self.old)).emit (spot_of self.old) points.old.items }
-        ensures fault { result ≡ (filter_meaning (filtering_of self.old)).fault (spot_of self.old) points.old.items }
+        ensures fault { result ≡ (filter_meaning (filtering_of self.old)).fault (spot_of self.old)
+            points.old.items }
         ensures no_device { is_device result ≡ false }
         ensures unnamed { IsOf None result }
     {
@@ -68,7 +69,8 @@ impl Filter {
     /// Whether the end of a view goes on.
     pub fn on_end_view(&mut self) -> bool
         ensures filtering { filtering_of self.new ≡ filtering_of self.old }
-        ensures spot { ((filter_meaning (filtering_of self.old)).at_view (spot_of self.old)) ≡ (spot_of self.new, result) }
+        ensures spot { ((filter_meaning (filtering_of self.old)).at_view (spot_of self.old))
+            ≡ (spot_of self.new, result) }
     {
         match self {
             Filter::Head(filter) => filter.on_end_view(),
@@ -85,7 +87,8 @@ impl Filter {
 
     /// Whether an end of a view goes before the end of all, which comes next. `cut` says whether that is cut.
     pub fn on_end(&self, cut: bool) -> bool
-        ensures { (filter_meaning (filtering_of self.now)).at_end (spot_of self.now) cut ≡ (spot_of self.now, result) }
+        ensures { (filter_meaning (filtering_of self.now)).at_end (spot_of self.now) cut
+            ≡ (spot_of self.now, result) }
     {
         matches!(self, Filter::Merge) && !cut
     }

@@ -47,11 +47,13 @@ fn judge_point<R: PointRule>(
     spot: &mut Spot,
     p: &mut Point,
 ) -> Result<bool, StageFault>
-    ensures sound { IfOk result (λ goes. (steps_of (R.rule rule.now) (passes only.now)).fault spot.old p.old ≡ None) }
+    ensures sound { IfOk result (λ goes. (steps_of (R.rule rule.now) (passes only.now)).fault spot.old p.old
+        ≡ None) }
     ensures becomes { IfOk result (λ goes. (steps_of (R.rule rule.now) (passes only.now)).becomes spot.old p.old
         ≡ keeps goes p.new) }
     ensures next { OnOk result (spot.new ≡ (steps_of (R.rule rule.now) (passes only.now)).next spot.old p.old) }
-    ensures fault { IfErr result (λ f. (steps_of (R.rule rule.now) (passes only.now)).fault spot.old p.old ≡ Some f) }
+    ensures fault { IfErr result (λ f. (steps_of (R.rule rule.now) (passes only.now)).fault spot.old p.old
+        ≡ Some f) }
     ensures stays { OnErr result (spot.new ≡ spot.old) }
 {
     match passes(only, p) {
@@ -93,7 +95,8 @@ pub(crate) fn judge_each<R: PointRule>(
     spot: &mut Spot,
     points: &mut [Point],
 ) -> (usize, Option<StageFault>)
-    ensures gives { take result.0 points.new ≡ given (steps_of (R.rule rule.now) (passes only.now)) spot.old points.old }
+    ensures gives { take result.0 points.new
+        ≡ given (steps_of (R.rule rule.now) (passes only.now)) spot.old points.old }
     ensures reaches { spot.new ≡ reached (steps_of (R.rule rule.now) (passes only.now)) spot.old points.old }
     ensures stops { result.1 ≡ stopped (steps_of (R.rule rule.now) (passes only.now)) spot.old points.old }
 {

@@ -76,7 +76,8 @@ impl WriterWhere {
 
     /// The place of the point that is written after k others, where so many are written.
     pub fn place_of(&self, points: &[Point], k: usize) -> Option<usize>
-        ensures there { IfSome result (λ at. IsPlaceOf (λ p. is_true (passes self.now.only p)) points.now k at) }
+        ensures there { IfSome result (λ at.
+            IsPlaceOf (λ p. is_true (passes self.now.only p)) points.now k at) }
         ensures few { IfNone result (length (filter (λ p. is_true (passes self.now.only p)) points.now) ≤ k) }
     {
         let mut passed = 0;

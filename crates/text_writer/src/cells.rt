@@ -130,7 +130,8 @@ fn put_whole(point: &Point, dim: Dim, line: &mut [u8], end: usize) -> usize
     requires within { end ≤ length line.old }
     ensures start { result ≤ end }
     ensures short { end ≤ result + 21 }
-    ensures written { kind_of dim ≡ Whole → drop result line.new ≡ fixed_text (get point.now dim) 0 ++ drop end line.old }
+    ensures written { kind_of dim ≡ Whole
+        → drop result line.new ≡ fixed_text (get point.now dim) 0 ++ drop end line.old }
 {
     write_digits(whole_of(point, dim) as u64, line, end)
 }

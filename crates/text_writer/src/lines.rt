@@ -58,7 +58,8 @@ fn put_fields(point: &Point, form: &TextForm, line: &mut [u8], end: usize) -> us
     ensures start { result ≤ end }
     ensures first { 0 < length form.now.columns → result + length form.now.delimiter ≤ end }
     ensures short { end ≤ result + 29 * length form.now.columns }
-    ensures written { drop result line.new ≡ flat_map (λ c. form.now.delimiter ++ cell point.now c) form.now.columns ++ drop end line.old }
+    ensures written { drop result line.new
+        ≡ flat_map (λ c. form.now.delimiter ++ cell point.now c) form.now.columns ++ drop end line.old }
 {
     let columns = form.columns.as_slice();
     let delimiter = form.delimiter.as_str().as_bytes();
