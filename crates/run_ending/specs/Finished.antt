@@ -4,7 +4,6 @@ use Rattle.file_devices.specs.Counts.{Rose}
 use Rattle.file_devices.specs.Told.{IsAsTold}
 use Rattle.file_devices.specs.declared.devices.Op.{Op}
 use Rattle.cloud_points.specs.declared.point.Point.{Point}
-use Rattle.cloud_points.specs.Flows.{points}
 use Rattle.stage_kinds.specs.declared.stage_work.StageWork.{StageWork}
 use Rattle.stage_kinds.specs.declared.file_form.Writing.{Writing}
 use Rattle.stage_kinds.specs.Files.{chosen, file_bytes, finishing_op}

@@ -23,7 +23,7 @@ use Rattle.run_report.specs.declared.report.StageCount.{StageCount}
 use Rattle.answer_model.specs.Values.{Opened, stage_at, options_at, row_at, setting_at, stage_input, stage_fault, count_at, counts_of}
 use Rattle.answer_model.proofs.Least.{least-nowhere}
 use Rattle.stage_runs.specs.Works.{AreNewStages, ReadersTell}
-use Rattle.stage_runs.specs.Parts.{AreLater as AreLaterNodes}
+use Rattle.stage_runs.specs.Parts.{AreLaterNodes}
 use Rattle.stage_runs.proofs.Places.{mapped-at, map-at}
 use Rattle.stage_kinds.specs.Files.{chosen}
 use Rattle.stage_forms.proofs.Works.{writes-form, writer-row, wrote-is}

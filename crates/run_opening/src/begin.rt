@@ -12,6 +12,8 @@ ghost use Rattle.held_devices.specs.Holding.{there, all_there, all_held};
 ghost use Rattle.run_outcome.specs.Cause.{CanBegin, IsCause, IsEarly};
 ghost use Rattle.run_opening.specs.Opening.{IsUncreated};
 
+use crate::bind::BoundStages;
+use cloud_points::Layout;
 use file_devices::{DeviceErr, Files, Op};
 use held_devices::{give_back, release_works};
 use las_reader::LasReader;
@@ -65,6 +67,7 @@ fn begin_work<F: Files>(
     files: &mut F,
     reader: Option<LasReader<F::In>>,
     form: StageForm,
+    layout: &Layout,
     stage: &StageSpec,
     number: u32,
 ) -> Result<StageWork<F::In, F::Out>, Refusal>
@@ -87,7 +90,7 @@ fn begin_work<F: Files>(
             StageForm::Reads => unreachable!(),
             StageForm::Filters(filter) => Ok(StageWork::Filter(filter)),
             StageForm::Gathers(gathering) => {
-                Ok(StageWork::Collector(Collector::new(alloc, gathering)))
+                Ok(StageWork::Collector(Collector::new(alloc, layout, gathering)))
             }
             StageForm::Writes(writing) => match stage.options.role() {
                 Role::Writes(name) => open_writer(alloc, files, writing, name, number),
@@ -98,23 +101,24 @@ fn begin_work<F: Files>(
     Ok(StageWork::Reader(reader))
 }
 
-/// The works of a tree's stages at their start, over their opened readers: the files of the writers are created in the order of
+/// The works of a tree's stages at their start, made of this, over their opened readers: the files of the writers are created in the order of
 /// the stages; the first one that can't be created or begun is the last one that is tried. Then all is given back.
 pub(crate) fn begin_works<F: Files>(
     alloc: Global,
     files: &mut F,
     readers: Vec<Option<LasReader<F::In>>>,
-    forms: Vec<StageForm>,
+    bound: BoundStages,
     stages: &[StageSpec],
 ) -> Result<Vec<StageWork<F::In, F::Out>>, Refusal>
     requires opened { AreOpened F.In.Source (F.map files.old) stages.now readers.items }
     requires count { length readers.items ≡ length stages.now }
-    requires fits { FitRoles stages.now forms.items }
-    requires forms { length forms.items ≡ length stages.now }
+    requires fits { FitRoles stages.now bound.forms.items }
+    requires forms { length bound.forms.items ≡ length stages.now }
+    requires layouts { length bound.layouts.items ≡ length stages.now }
     requires few { length stages.now ≤ 64 }
     requires come { (m : Names) → F.map files.old ≡ Some m → CanBegin m stages.now }
     ensures ok { IfOk result (λ works. AreBegun F.In.Source F.Out.Sink (F.map files.old)
-        stages.now readers.items forms.items works.items) }
+        stages.now readers.items bound.forms.items works.items) }
     ensures count { IfOk result (λ works. length works.items ≡ length stages.now) }
     ensures err { IfErr result (IsCause (Rose (F.faults files.old) (F.faults files.new))
         (F.map files.old) stages.now) }
@@ -131,12 +135,21 @@ pub(crate) fn begin_works<F: Files>(
         return Err(Refusal::Memory);
     };
     let mut readers = readers;
+    let BoundStages { forms, layouts } = bound;
     let mut forms = forms;
     readers.reverse();
     let mut at = 0;
     while let Some(reader) = readers.pop() {
         let form = replace(&mut forms[at], StageForm::Reads);
-        match begin_work(alloc, files, reader, form, &stages[at], at as u32) {
+        match begin_work(
+            alloc,
+            files,
+            reader,
+            form,
+            &layouts[at],
+            &stages[at],
+            at as u32,
+        ) {
             Ok(work) => works.push_reserved(work),
             Err(refusal) => {
                 give_back(files, readers);

@@ -13,7 +13,7 @@ ghost use Rattle.stage_forms.specs.Starts.{form_for};
 ghost use Rattle.run_opening.specs.Begun.{AreForms, AreNamesBound, FitRoles, IsForm, IsUnbound};
 ghost use Rattle.run_opening.specs.Binding.{IsUnboundAt};
 
-use cloud_points::ExtraNames;
+use cloud_points::{ExtraNames, Layout};
 use file_devices::Source;
 use las_reader::LasReader;
 use name_binding::bind;
@@ -60,20 +60,28 @@ fn bind_stage<S: Source>(
     }
 }
 
+/// What the works of stages are made of, and the dimensions of the points that each gives on.
+#[derive(Drop)]
+pub(crate) struct BoundStages {
+    pub forms: Vec<StageForm>,
+    pub layouts: Vec<Layout>,
+}
+
 /// Binds the names of dimensions in the options of a tree's stages, in their order, over their opened readers, and answers what
 /// each stage's work is made of. It is refused with the fault of the first stage that has one, and else only where memory is wanting.
 pub(crate) fn bind_stages<S: Source>(
     alloc: Global,
     stages: &[StageSpec],
     readers: &[Option<LasReader<S>>],
-) -> Result<Vec<StageForm>, Refusal>
+) -> Result<BoundStages, Refusal>
     requires tree { IsTree (shapes stages.now) }
     requires few { length stages.now ≤ 64 }
     requires count { length readers.now ≡ length stages.now }
     requires fit { AreReaders stages.now readers.now }
-    ensures forms { IfOk result (λ forms. AreForms stages.now readers.now forms.items) }
-    ensures fits { IfOk result (λ forms. FitRoles stages.now forms.items) }
-    ensures count { IfOk result (λ forms. length forms.items ≡ length stages.now) }
+    ensures forms { IfOk result (λ bound. AreForms stages.now readers.now bound.forms.items) }
+    ensures fits { IfOk result (λ bound. FitRoles stages.now bound.forms.items) }
+    ensures count { IfOk result (λ bound. length bound.forms.items ≡ length stages.now) }
+    ensures layouts { IfOk result (λ bound. length bound.layouts.items ≡ length stages.now) }
     ensures bound { OnOk result (AreNamesBound stages.now readers.now (length stages.now)) }
     ensures err { IfErr result (IsUnbound stages.now readers.now) }
 {
@@ -83,14 +91,19 @@ pub(crate) fn bind_stages<S: Source>(
     let Ok(mut forms) = Vec::with_capacity(alloc, stages.len()) else {
         return Err(Refusal::Memory);
     };
+    let Ok(mut layouts) = Vec::with_capacity(alloc, stages.len()) else {
+        return Err(Refusal::Memory);
+    };
     let mut names = ExtraNames::none(alloc);
     for i in 0..stages.len() {
         let Ok(mut below) = next_below(alloc, stages, readers, belows.as_slice()) else {
             return Err(Refusal::Memory);
         };
         let form = bind_stage(alloc, &stages[i], i as u32, &mut below, &mut names, readers)?;
+        let layout = below.layout;
         forms.push_reserved(form);
         belows.push_reserved(below);
+        layouts.push_reserved(layout);
     }
-    Ok(forms)
+    Ok(BoundStages { forms, layouts })
 }

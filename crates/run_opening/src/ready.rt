@@ -41,12 +41,12 @@ pub fn ready_works<F: Files>(
     ensures later { F.faults files.old ≤ F.faults files.new }
 {
     let readers = open_readers(alloc, files, stages)?;
-    let forms = match bind_stages(alloc, stages, readers.as_slice()) {
-        Ok(forms) => forms,
+    let bound = match bind_stages(alloc, stages, readers.as_slice()) {
+        Ok(bound) => bound,
         Err(refusal) => {
             give_back(files, readers);
             return Err(refusal);
         }
     };
-    begin_works(alloc, files, readers, forms, stages)
+    begin_works(alloc, files, readers, bound, stages)
 }

@@ -11,7 +11,7 @@ use cloud_points::{PointFault, StageFault};
 use expr_eval::Bound;
 use name_binding::BoundFilter;
 use set_filters::{Filtered, filter_views};
-use std::alloc::{AllocError, Global};
+use std::alloc::AllocError;
 use stream_filters::{Condition, Crop, Filter, Head};
 use whole_filters::Views;
 
@@ -64,16 +64,13 @@ pub(crate) fn of_point(fault: Option<PointFault>) -> Option<StageFault>
 }
 
 /// What a filter makes of whole views, up to the first point that can't be judged.
-pub(crate) fn filter_all(
-    alloc: Global,
-    filter: Filter,
-    views: Views,
-) -> Result<StageOutput, AllocError>
+pub(crate) fn filter_all(filter: Filter, views: Views) -> Result<StageOutput, AllocError>
     ensures value { IfOk result (λ given. given.views ≡ filtered (filtering_of filter) views) }
-    ensures fault { IfOk result (λ given. given.fault ≡ option_map stage.Point (filtered_stop (filtering_of filter) views)) }
+    ensures fault { IfOk result (λ given. given.fault
+        ≡ option_map stage.Point (filtered_stop (filtering_of filter) views)) }
 {
     let (filter, only) = parts_of(filter);
-    let Filtered { views, fault } = filter_views(alloc, &filter, &only, views)?;
+    let Filtered { views, fault } = filter_views(&filter, &only, views)?;
     Ok(StageOutput {
         views,
         fault: of_point(fault),

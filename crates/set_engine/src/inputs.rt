@@ -5,6 +5,7 @@ ghost use Rattle.cloud_points.specs.Flows.{join_all};
 ghost use Rattle.pipeline_json.specs.Lists.{has, times};
 ghost use Rattle.set_engine.specs.Taking.{value_in};
 
+use cloud_points::Layout;
 use std::alloc::{AllocError, Global};
 use std::mem::replace;
 use whole_filters::Views;
@@ -18,11 +19,13 @@ pub(crate) fn take_joined(
     requires inside { All (λ j. j < length values.old) places.now }
     requires once { (j : ℕ) → times j places.now ≤ 1 }
     ensures joined { IfOk result (λ views. views ≡ join_all (map (value_in values.old) places.now)) }
-    ensures others { OnOk result ((j : ℕ) → has places.now j ≡ false → slice_get values.new j ≡ slice_get values.old j) }
+    ensures others { OnOk result ((j : ℕ) → has places.now j ≡ false
+        → slice_get values.new j ≡ slice_get values.old j) }
 {
-    let mut joined = Views::none(alloc);
+    let none = Layout::none();
+    let mut joined = Views::none(alloc, &none);
     for place in places {
-        let value = replace(&mut values[*place as usize], Views::none(alloc));
+        let value = replace(&mut values[*place as usize], Views::none(alloc, &none));
         joined.append(value)?;
     }
     Ok(joined)

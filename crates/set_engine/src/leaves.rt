@@ -7,12 +7,16 @@ ghost use Rattle.file_devices.specs.Counts.{Rose};
 ghost use Rattle.set_engine.specs.Stops.{IsCaused};
 
 use crate::output::StageOutput;
-use cloud_points::{MOST_POINTS, Make, Spread, Work};
+use cloud_points::{Layout, MOST_POINTS, Make, Spread, Work};
 use std::alloc::{AllocError, Global};
 use whole_filters::Views;
 
-/// All that a leaf gives, as whole views, and the fault at its end. Refuses for want of memory alone.
-pub(crate) fn leaf_views<W: Work>(alloc: Global, leaf: &mut W) -> Result<StageOutput, AllocError>
+/// All that a leaf gives, as whole views of a layout, and the fault at its end. Refuses for want of memory alone.
+pub(crate) fn leaf_views<W: Work>(
+    alloc: Global,
+    layout: &Layout,
+    leaf: &mut W,
+) -> Result<StageOutput, AllocError>
     requires { W.leaf leaf.old ≡ true }
     ensures ok { IfOk result (λ given. is_device given.fault ≡ false
         → W.tells leaf.old ≡ true → W.told leaf.old ≡ flow_marks given.views) }
@@ -25,7 +29,7 @@ pub(crate) fn leaf_views<W: Work>(alloc: Global, leaf: &mut W) -> Result<StageOu
     ensures later { W.faults leaf.old ≤ W.faults leaf.new }
 {
     let mut points = Box::new(alloc, Spread::new())?;
-    let mut views = Views::none(alloc);
+    let mut views = Views::none(alloc, layout);
     'giving: loop {
         match leaf.make(MOST_POINTS, &mut points) {
             Make::Points => views.push_all(points.as_slice())?,

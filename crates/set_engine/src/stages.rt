@@ -15,12 +15,22 @@ use crate::filters::filter_all;
 use crate::leaves::leaf_views;
 use crate::output::StageOutput;
 use crate::writers::written_views;
+use cloud_points::Layout;
 use file_devices::{FileSink, Source};
+use point_formats::dims;
 use stage_kinds::StageWork;
 use std::alloc::{AllocError, Global};
 use std::mem::replace;
 use stream_filters::Filter;
 use whole_filters::{Views, gather};
+
+/// The dimensions of the points that a reader gives.
+fn layout_of<S: Source, K: FileSink>(work: &StageWork<S, K>) -> Layout {
+    match work {
+        StageWork::Reader(reader) => dims(reader.header().format),
+        _ => Layout::none(),
+    }
+}
 
 /// What a stage gives on for the views that it takes: a reader gives those of its file, and a writer takes their points. At the first
 /// point with a fault, and where its device fails, it gives what it has by then. A filter's work is used up. Refuses for want of
@@ -38,12 +48,12 @@ pub(crate) fn stage_views<S: Source, K: FileSink>(
     ensures after { IsAfter (faults_of S.faults K.faults) work.old work.new }
 {
     match work {
-        StageWork::Reader(_) | StageWork::Views(_) => leaf_views(alloc, work),
-        StageWork::Filter(filter) => filter_all(alloc, replace(filter, Filter::Merge), taken),
+        StageWork::Reader(_) | StageWork::Views(_) => leaf_views(alloc, &layout_of(work), work),
+        StageWork::Filter(filter) => filter_all(replace(filter, Filter::Merge), taken),
         StageWork::Collector(collector) => Ok(StageOutput {
             views: gather(alloc, taken, collector.gathering())?,
             fault: None,
         }),
-        StageWork::Writer(writer) => written_views(alloc, writer, taken),
+        StageWork::Writer(writer) => written_views(writer, taken),
     }
 }

@@ -15,12 +15,12 @@ ghost use Rattle.stage_meanings.specs.Filtering.{filtered, filtered_stop, stop_i
 ghost use Rattle.whole_filters.specs.Held.{view_at};
 
 use crate::output::StageOutput;
-use cloud_points::{Point, StageFault};
+use cloud_points::StageFault;
 use file_devices::{FileSink, Op};
 use stage_kinds::{TakeErr, WriterStage};
 use stage_meanings::Reason;
-use std::alloc::{AllocError, Global};
-use whole_filters::Views;
+use std::alloc::AllocError;
+use whole_filters::{Rows, Views};
 
 /// Why a writer doesn't take all points of a view.
 #[derive(Clone, Copy, Debug, PartialEq, Eq)]
@@ -43,7 +43,7 @@ struct Halt {
 /// at the greatest u64. It stops at the first point that the writer doesn't take.
 fn write_view<K: FileSink>(
     writer: &mut WriterStage<K>,
-    view: &[Point],
+    view: &Rows,
     before: u64,
 ) -> Result<u64, WriteErr>
     ensures ok { IfOk result (λ next. next ≡ up_to_limit (before + length view.now)) }
@@ -62,14 +62,10 @@ fn write_view<K: FileSink>(
     ensures later { K.faults (sink_of writer.old.file) ≤ K.faults (sink_of writer.new.file) }
 {
     let mut number = before;
-    let mut place = 0;
-    for p in view {
-        match writer.take(p) {
-            Ok(()) => {
-                number = number.saturating_add(1);
-                place += 1;
-            }
-            Err(TakeErr::Refused(reason)) => return Err(WriteErr::Refused(place, number, reason)),
+    for k in 0..view.len() {
+        match writer.take(&view.get(k)) {
+            Ok(()) => number = number.saturating_add(1),
+            Err(TakeErr::Refused(reason)) => return Err(WriteErr::Refused(k, number, reason)),
             Err(TakeErr::Failed) => return Err(WriteErr::Failed),
         }
     }
@@ -106,31 +102,26 @@ fn write_all<K: FileSink>(writer: &mut WriterStage<K>, views: &Views) -> Result<
 }
 
 /// What stands before the point at this place of a view, cut off there.
-fn before_point(
-    alloc: Global,
-    views: &Views,
-    view: usize,
-    place: usize,
-) -> Result<Views, AllocError>
+fn before_point(views: &Views, view: usize, place: usize) -> Result<Views, AllocError>
     requires view { view ≤ length views.now.views }
     requires place { place < length (view_at views.now view) }
     ensures { IfOk result (λ given. given ≡ upto views.now (number_in views.now view place)) }
 {
-    let mut given = Views::none(alloc);
+    let mut given = views.like();
     for v in 0..view {
-        given.push_all(views.view(v))?;
+        given.push_view(views.view(v))?;
         given.end_view()?;
     }
-    given.push_all(&views.view(view)[..place])?;
+    given.push_first(views.view(view), place)?;
     given.set_cut();
     Ok(given)
 }
 
 /// What a writer gives on whose device failed: nothing, cut off.
-fn write_failed(alloc: Global) -> StageOutput
+fn write_failed(taken: &Views) -> StageOutput
     ensures { result.fault ≡ Some (stage.Device Op.Write) }
 {
-    let mut views = Views::none(alloc);
+    let mut views = taken.like();
     views.set_cut();
     StageOutput {
         views,
@@ -141,7 +132,6 @@ fn write_failed(alloc: Global) -> StageOutput
 /// Has a writer that wrote none yet take all points of whole views, up to the first one that it doesn't take. It gives on those that
 /// stand before that one, cut off there, and all where it takes all. Refuses for want of memory alone.
 pub(crate) fn written_views<K: FileSink>(
-    alloc: Global,
     writer: &mut WriterStage<K>,
     views: Views,
 ) -> Result<StageOutput, AllocError>
@@ -161,9 +151,9 @@ pub(crate) fn written_views<K: FileSink>(
     };
     match halt.why {
         WriteErr::Refused(place, number, reason) => Ok(StageOutput {
-            views: before_point(alloc, &views, halt.view, place)?,
+            views: before_point(&views, halt.view, place)?,
             fault: Some(StageFault::Point(reason.at(number))),
         }),
-        WriteErr::Failed => Ok(write_failed(alloc)),
+        WriteErr::Failed => Ok(write_failed(&views)),
     }
 }

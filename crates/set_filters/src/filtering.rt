@@ -13,7 +13,7 @@ use crate::viewing::filter_view;
 use cloud_points::PointFault;
 use expr_eval::Bound;
 use name_binding::BoundFilter;
-use std::alloc::{AllocError, Global};
+use std::alloc::AllocError;
 use whole_filters::Views;
 
 /// What a filter gave for whole views, and where it stopped.
@@ -27,14 +27,14 @@ pub struct Filtered {
 }
 
 /// All points in one view; of cut views only an open one.
-fn merge(alloc: Global, views: &Views) -> Result<Views, AllocError>
+fn merge(views: &Views) -> Result<Views, AllocError>
     ensures { IfOk result (λ given. given ≡ merged views.now) }
 {
-    let mut given = Views::none(alloc);
+    let mut given = views.like();
     for v in 0..views.views() {
-        given.push_all(views.view(v))?;
+        given.push_view(views.view(v))?;
     }
-    given.push_all(views.view(views.views()))?;
+    given.push_view(views.view(views.views()))?;
     if views.is_cut() {
         given.set_cut();
     } else {
@@ -45,7 +45,6 @@ fn merge(alloc: Global, views: &Views) -> Result<Views, AllocError>
 
 /// What a filter makes of a part of views, of each view by itself.
 fn filter_part(
-    alloc: Global,
     filter: &BoundFilter,
     only: &Option<Bound>,
     views: &Views,
@@ -55,13 +54,19 @@ fn filter_part(
     ensures { IfOk result (λ given. given
         ≡ map_views (on_view (rule_of filter.now) (passes only.now)) (part views.now span)) }
 {
-    let mut given = Views::none(alloc);
+    let mut given = views.like();
     for v in 0..span.views {
-        filter_view(filter, only, views.view(v), &mut given)?;
+        let view = views.view(v);
+        filter_view(filter, only, view, view.len(), &mut given)?;
         given.end_view()?;
     }
-    let last = &views.view(span.views)[..span.points];
-    filter_view(filter, only, last, &mut given)?;
+    filter_view(
+        filter,
+        only,
+        views.view(span.views),
+        span.points,
+        &mut given,
+    )?;
     if span.cut {
         given.set_cut();
     }
@@ -77,7 +82,6 @@ fn filter_part(
 ///
 /// It is refused for want of memory alone. The views that it takes are dropped.
 pub fn filter_views(
-    alloc: Global,
     filter: &BoundFilter,
     only: &Option<Bound>,
     views: Views,
@@ -87,12 +91,12 @@ pub fn filter_views(
 {
     if let BoundFilter::Merge = filter {
         return Ok(Filtered {
-            views: merge(alloc, &views)?,
+            views: merge(&views)?,
             fault: None,
         });
     }
     let stop = first_stop(filter, only, &views);
-    let given = filter_part(alloc, filter, only, &views, before_stop(&views, stop))?;
+    let given = filter_part(filter, only, &views, before_stop(&views, stop))?;
     Ok(Filtered {
         views: given,
         fault: fault_of(&views, stop),

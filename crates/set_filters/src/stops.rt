@@ -13,7 +13,7 @@ use cloud_points::{Point, PointFault};
 use expr_eval::Bound;
 use name_binding::BoundFilter;
 use stage_meanings::Reason;
-use whole_filters::Views;
+use whole_filters::{Rows, Views};
 
 /// A point that can't be judged.
 #[derive(Clone, Copy, Debug)]
@@ -52,11 +52,11 @@ fn why(filter: &BoundFilter, only: &Option<Bound>, p: &Point) -> Option<Reason>
 }
 
 /// The first of these points that can't be judged, by its place.
-fn first_in(filter: &BoundFilter, only: &Option<Bound>, points: &[Point]) -> Option<(usize, Reason)>
+fn first_in(filter: &BoundFilter, only: &Option<Bound>, points: &Rows) -> Option<(usize, Reason)>
     ensures { result ≡ first_from (why (rule_of filter.now) (passes only.now)) 0 points.now }
 {
-    for (k, p) in points.iter().enumerate() {
-        if let Some(reason) = why(filter, only, p) {
+    for k in 0..points.len() {
+        if let Some(reason) = why(filter, only, &points.get(k)) {
             return Some((k, reason));
         }
     }
@@ -65,7 +65,8 @@ fn first_in(filter: &BoundFilter, only: &Option<Bound>, points: &[Point]) -> Opt
 
 /// The first point of all views that can't be judged.
 pub(crate) fn first_stop(filter: &BoundFilter, only: &Option<Bound>, views: &Views) -> Option<Stop>
-    ensures stop { stop_of (rule_of filter.now) (passes only.now) views.now ≡ option_map (numbered views.now) result }
+    ensures stop { stop_of (rule_of filter.now) (passes only.now) views.now
+        ≡ option_map (numbered views.now) result }
     ensures there { IfSome result (IsIn views.now) }
 {
     for view in 0..views.views() {
@@ -101,7 +102,8 @@ fn number_at(views: &Views, view: usize, place: usize) -> u64
 /// The fault of a point that can't be judged.
 pub(crate) fn fault_of(views: &Views, stop: Option<Stop>) -> Option<PointFault>
     requires { IfSome stop (IsIn views.now) }
-    ensures { result ≡ option_map (λ s. point_fault (up_to_limit s.0) s.1) (option_map (numbered views.now) stop) }
+    ensures { result ≡ option_map (λ s. point_fault (up_to_limit s.0) s.1)
+        (option_map (numbered views.now) stop) }
 {
     match stop {
         Some(stop) => Some(stop.reason.at(number_at(views, stop.view, stop.place))),

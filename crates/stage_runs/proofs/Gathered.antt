@@ -17,7 +17,7 @@ use Rattle.stage_kinds.specs.Gathers.{IsGathered}
 use Rattle.stage_kinds.specs.Held.{op_of, op_on, held_by}
 use Rattle.stage_kinds.specs.Stages.{is_leaf, is_short}
 use Rattle.stage_forms.specs.Starts.{IsCollecting}
-use Rattle.stage_runs.specs.Parts.{IsNewLeaf, IsLater, IsLeafRun, IsGatheredAt, AreSameOrLater, Besides}
+use Rattle.stage_runs.specs.Parts.{IsNewLeaf, IsLaterNode, IsLeafRun, IsGatheredAt, AreSameOrLater, Besides}
 use Rattle.stage_runs.proofs.Later.{leaf-later, set-later, steps-later}
 
 module _ {S K : Type 0} where
@@ -81,14 +81,14 @@ module _ {S K : Type 0} (s : source.Ghosts S) (k : sink.Ghosts K) (nodes : List 
     elsewhere : (i : ℕ) → (i ≡ at → ⊥) → slice_get (slice_set emptied at now) i ≡ slice_get nodes i
     elsewhere i other = slice_get-set_other emptied at i now other ∙ slice_get-set_other nodes at i empty other
 
-    pub lent-later : IsLater s k n now → AreSameOrLater s k nodes (slice_set emptied at now)
+    pub lent-later : IsLaterNode s k n now → AreSameOrLater s k nodes (slice_set emptied at now)
     lent-later later = record {
       count = length-set emptied at now ∙ length-set nodes at empty;
       each = λ i x m e f. elim (eqb_tells i at) [
         | inl p ↦ (
             let old : n ≡ x = same_Some n x (sym here ∙ ap (slice_get nodes) (sym p.1) ∙ e) in
             let new : now ≡ m = same_Some now m (sym there ∙ ap (slice_get (slice_set emptied at now)) (sym p.1) ∙ f) in
-            inr (subst (λ y. IsLater s k y m) old (subst (IsLater s k n) new later)))
+            inr (subst (λ y. IsLaterNode s k y m) old (subst (IsLaterNode s k n) new later)))
         | inr p ↦ inl (same_Some m x (sym f ∙ elsewhere i p.1 ∙ e))
       ];
     }

@@ -21,7 +21,7 @@ use Rattle.stage_runs.specs.declared.rooms.PartRoom.{PartRoom}
 use Rattle.stage_runs.specs.declared.rooms.StageRoom.{StageRoom}
 use Rattle.stage_runs.specs.Works.{as_works, ins_of, AreNewStages}
 use Rattle.stage_runs.specs.Ran.{AreRanStages}
-use Rattle.stage_runs.specs.Parts.{gathers_of, AreLater, Besides, IsNewLeaf, IsPartRun, IsLeafRun, AreRunBefore, AreTurned, ByParts}
+use Rattle.stage_runs.specs.Parts.{gathers_of, AreLaterNodes, Besides, IsNewLeaf, IsPartRun, IsLeafRun, AreRunBefore, AreTurned, ByParts}
 use Rattle.stage_runs.specs.Rooms.{IsRoom, IsLastRoom, IsStageRoom}
 use Rattle.stage_runs.specs.Short.{RanShort, SomeGathers}
 use Rattle.stage_runs.proofs.Asked.{fresh-before, root-inputs, last-leaf}
@@ -54,7 +54,7 @@ module _ {S K E : Type 0} (s : source.Ghosts S) (k : sink.Ghosts K) (fits : ℕ 
   pub last-room : {held : PartRoom S K E} → room.last ≡ Some held → (part : List (List ℕ)) × (root : ℕ) × (queue : ℕ) × IsRoom s k fits part root queue held
   last-room {held} e = (_, _, _, (roomy held e).1)
 
-  module _ (tree : IsTree (shapes stages)) {old now : List (Node (StageWork S K))} (new : AreNewStages s k stages old) (later : AreLater s k old now)
+  module _ (tree : IsTree (shapes stages)) {old now : List (Node (StageWork S K))} (new : AreNewStages s k stages old) (later : AreLaterNodes s k old now)
       (done : AreRunBefore s k stages room.plan.homes.items old (length stages) now) (besides : Besides S K) where
     abbrev homes : List ℕ
     homes = room.plan.homes.items

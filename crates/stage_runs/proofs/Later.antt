@@ -19,7 +19,7 @@ use Rattle.stage_kinds.specs.declared.stage_work.StageWork.TheVariants.{Reader, 
 use Rattle.stage_kinds.specs.Held.{op_of, faults_of}
 use Rattle.stage_runs.specs.Works.{as_works}
 use Rattle.cloud_points.specs.Flows.{empty_flow}
-use Rattle.stage_runs.specs.Parts.{IsLater, AreLater, AreSameOrLater, AreStandIns, IsNewLeaf, Gives}
+use Rattle.stage_runs.specs.Parts.{IsLaterNode, AreLaterNodes, AreSameOrLater, AreStandIns, IsNewLeaf, Gives}
 
 -- ---- lists
 
@@ -63,7 +63,7 @@ rose-back a b c l r = omega (arith, l, r)
 
 module _ {S K : Type 0} (s : source.Ghosts S) (k : sink.Ghosts K) where
   -- a node without a fault is later than itself
-  pub itself : (n : Node (StageWork S K)) → n.fault ≡ None → IsLater s k n n
+  pub itself : (n : Node (StageWork S K)) → n.fault ≡ None → IsLaterNode s k n n
   itself n none = record {
     op = refl;
     faults = omega arith;
@@ -71,7 +71,7 @@ module _ {S K : Type 0} (s : source.Ghosts S) (k : sink.Ghosts K) where
     named = subst (IsOf (op_of n.work)) (sym none) tt;
   }
 
-  pub later-on : (n m l : Node (StageWork S K)) → IsLater s k n m → IsLater s k m l → IsLater s k n l
+  pub later-on : (n m l : Node (StageWork S K)) → IsLaterNode s k n m → IsLaterNode s k m l → IsLaterNode s k n l
   later-on n m l first second = record {
     op = second.op ∙ first.op;
     faults = (let a = first.faults in let b = second.faults in omega (arith, a, b));
@@ -81,7 +81,7 @@ module _ {S K : Type 0} (s : source.Ghosts S) (k : sink.Ghosts K) where
 
   -- nodes that took turns are later
   pub ran-later : (ins : List (List ℕ)) (nodes ended : List (Node (StageWork S K))) → ((i : ℕ) (n : Node (StageWork S K)) → slice_get nodes i ≡ Some n → IsFresh (shown (as_works s k) (children ins i) n))
-      → IsRanTree (as_works s k) ins nodes ended → AreLater s k nodes ended
+      → IsRanTree (as_works s k) ins nodes ended → AreLaterNodes s k nodes ended
   ran-later ins nodes ended fresh ran = record {
     count = ran.count;
     each = λ i n m e f.
@@ -90,21 +90,21 @@ module _ {S K : Type 0} (s : source.Ghosts S) (k : sink.Ghosts K) where
         record { op = calm.op; faults = calm.faults; cause = calm.cause none; named = calm.named none };
   }
 
-  pub same-later : (ins : List (List ℕ)) (nodes : List (Node (StageWork S K))) → ((i : ℕ) (n : Node (StageWork S K)) → slice_get nodes i ≡ Some n → IsFresh (shown (as_works s k) (children ins i) n)) → AreLater s k nodes nodes
+  pub same-later : (ins : List (List ℕ)) (nodes : List (Node (StageWork S K))) → ((i : ℕ) (n : Node (StageWork S K)) → slice_get nodes i ≡ Some n → IsFresh (shown (as_works s k) (children ins i) n)) → AreLaterNodes s k nodes nodes
   same-later ins nodes fresh = record {
     count = refl;
-    each = λ i n m e f. subst (IsLater s k n) (same_Some n m (sym e ∙ f)) (itself n (fresh i n e).fault);
+    each = λ i n m e f. subst (IsLaterNode s k n) (same_Some n m (sym e ∙ f)) (itself n (fresh i n e).fault);
   }
 
   -- one step more
-  pub step-later : (old now next : List (Node (StageWork S K))) → AreLater s k old now → AreSameOrLater s k now next → AreLater s k old next
+  pub step-later : (old now next : List (Node (StageWork S K))) → AreLaterNodes s k old now → AreSameOrLater s k now next → AreLaterNodes s k old next
   step-later old now next first second = record {
     count = second.count ∙ first.count;
     each = λ i n l e f.
         let m = some_at now i (let a = slice_get_within next i l f in let b = second.count in omega (arith, a, b)) in
         let was = first.each i n m.0 e m.1 in
         elim (second.each i m.0 l m.1 f) [
-          | inl same ↦ subst (IsLater s k n) (sym same) was
+          | inl same ↦ subst (IsLaterNode s k n) (sym same) was
           | inr x ↦ later-on n m.0 l was x
         ];
   }
@@ -116,8 +116,8 @@ module _ {S K : Type 0} (s : source.Ghosts S) (k : sink.Ghosts K) where
     each = λ i n l e f.
         let m = some_at now i (let a = slice_get_within next i l f in let b = second.count in omega (arith, a, b)) in
         elim (second.each i m.0 l m.1 f) [
-          | inl same ↦ elim (first.each i n m.0 e m.1) [ inl was ↦ inl (same ∙ was) | inr x ↦ inr (subst (IsLater s k n) (sym same) x) ]
-          | inr y ↦ elim (first.each i n m.0 e m.1) [ inl was ↦ inr (subst (λ x. IsLater s k x l) was y) | inr x ↦ inr (later-on n m.0 l x y) ]
+          | inl same ↦ elim (first.each i n m.0 e m.1) [ inl was ↦ inl (same ∙ was) | inr x ↦ inr (subst (IsLaterNode s k n) (sym same) x) ]
+          | inr y ↦ elim (first.each i n m.0 e m.1) [ inl was ↦ inr (subst (λ x. IsLaterNode s k x l) was y) | inr x ↦ inr (later-on n m.0 l x y) ]
         ];
   }
 
@@ -135,20 +135,20 @@ module _ {S K : Type 0} (s : source.Ghosts S) (k : sink.Ghosts K) where
   }
 
   -- a node is exchanged for a later one
-  pub set-later : (nodes : List (Node (StageWork S K))) (at : ℕ) (was is : Node (StageWork S K)) → slice_get nodes at ≡ Some was → IsLater s k was is → AreSameOrLater s k nodes (slice_set nodes at is)
+  pub set-later : (nodes : List (Node (StageWork S K))) (at : ℕ) (was is : Node (StageWork S K)) → slice_get nodes at ≡ Some was → IsLaterNode s k was is → AreSameOrLater s k nodes (slice_set nodes at is)
   set-later nodes at was is e later = record {
     count = length-set nodes at is;
     each = λ i n m f g. elim (eqb_tells i at) [
       | inl p ↦ (
           let old : was ≡ n = same_Some was n (sym e ∙ ap (slice_get nodes) (sym p.1) ∙ f) in
           let new : is ≡ m = same_Some is m (sym (slice_get-set_same nodes at is (slice_get_within nodes at was e)) ∙ ap (slice_get (slice_set nodes at is)) (sym p.1) ∙ g) in
-          inr (subst (λ x. IsLater s k x m) old (subst (IsLater s k was) new later)))
+          inr (subst (λ x. IsLaterNode s k x m) old (subst (IsLaterNode s k was) new later)))
       | inr p ↦ inl (same_Some m n (sym g ∙ slice_get-set_other nodes at i is p.1 ∙ f))
     ];
   }
 
   -- a leaf in the place of a work without a device
-  pub leaf-later : (was is : Node (StageWork S K)) → op_of was.work ≡ None → op_of is.work ≡ None → is.fault ≡ None → IsLater s k was is
+  pub leaf-later : (was is : Node (StageWork S K)) → op_of was.work ≡ None → op_of is.work ≡ None → is.fault ≡ None → IsLaterNode s k was is
   leaf-later was is gone none sound = record {
     op = none ∙ sym gone;
     faults = (let z = no-faults was.work gone in omega (arith, z));

@@ -22,7 +22,7 @@ use Rattle.stage_runs.specs.declared.plan.Plan.{Plan}
 use Rattle.stage_runs.specs.declared.rooms.PartRoom.{PartRoom}
 use Rattle.stage_runs.specs.Works.{as_works}
 use Rattle.stage_forms.specs.Starts.{IsCollecting}
-use Rattle.stage_runs.specs.Parts.{IsExchanged, IsRenewed, IsNewLeaf, IsLater, AreLater, AreSameOrLater, is_own, IsNet, IsPartRun, Besides}
+use Rattle.stage_runs.specs.Parts.{IsExchanged, IsRenewed, IsNewLeaf, IsLaterNode, AreLaterNodes, AreSameOrLater, is_own, IsNet, IsPartRun, Besides}
 use Rattle.stage_runs.specs.Rooms.{IsRoom}
 use Rattle.stage_runs.specs.Short.{RanShort, NoneShort}
 use Rattle.stage_runs.proofs.Part.{same-number, other-number}
@@ -46,7 +46,7 @@ lent-over given homes home root size one other one_after other_after many same l
 
 module _ {S K : Type 0} (s : source.Ghosts S) (k : sink.Ghosts K) where
   -- what is later than a node is later than another one over the same work
-  later-work : (x n m : Node (StageWork S K)) → x.work ≡ n.work → IsLater s k x m → IsLater s k n m
+  later-work : (x n m : Node (StageWork S K)) → x.work ≡ n.work → IsLaterNode s k x m → IsLaterNode s k n m
   later-work x n m e later = record {
     op = later.op ∙ ap op_of e;
     faults = subst (λ w. faults_of s.faults k.faults w ≤ faults_of s.faults k.faults m.work) e later.faults;
@@ -154,7 +154,7 @@ module _ {S K : Type 0} (s : source.Ghosts S) (k : sink.Ghosts K) where
 
       -- ---- back again
 
-      module _ {ended : List (Node (StageWork S K))} (later : AreLater s k renewed ended) {after rest : List (Node (StageWork S K))}
+      module _ {ended : List (Node (StageWork S K))} (later : AreLaterNodes s k renewed ended) {after rest : List (Node (StageWork S K))}
           (returned : IsExchanged (is_own given home (length ended - 1)) (length ended) left ended after rest) where
         second : IsExchanged (is_own homes home root) (root + 1) left ended after rest
         second = lent-over given homes home root (length ended) left ended after rest (later.count ∙ renewed-size) same returned
@@ -187,7 +187,7 @@ module _ {S K : Type 0} (s : source.Ghosts S) (k : sink.Ghosts K) where
               ap (λ (y : Node (StageWork S K)). y.work) (same_Some x n (sym d ∙ own-net i less (less-home i less o) ∙ e)))
         ]
 
-        own-later : (i : ℕ) (n m : Node (StageWork S K)) → i ≤ root → is_own homes home root i ≡ true → slice_get nodes i ≡ Some n → slice_get after i ≡ Some m → IsLater s k n m
+        own-later : (i : ℕ) (n m : Node (StageWork S K)) → i ≤ root → is_own homes home root i ≡ true → slice_get nodes i ≡ Some n → slice_get after i ≡ Some m → IsLaterNode s k n m
         own-later i n m l o e f =
             let g = sym (back i l o) ∙ f in
             let x = before i m g in
@@ -209,7 +209,7 @@ module _ {S K : Type 0} (s : source.Ghosts S) (k : sink.Ghosts K) where
           ];
         }
           where
-            by_own : (i : ℕ) (n m : Node (StageWork S K)) → i ≤ root → slice_get nodes i ≡ Some n → slice_get after i ≡ Some m → (b : Bool) → is_own homes home root i ≡ b → (m ≡ n) ⊎ IsLater s k n m
+            by_own : (i : ℕ) (n m : Node (StageWork S K)) → i ≤ root → slice_get nodes i ≡ Some n → slice_get after i ≡ Some m → (b : Bool) → is_own homes home root i ≡ b → (m ≡ n) ⊎ IsLaterNode s k n m
             by_own i n m l e f true o = inr (own-later i n m l o e f)
             by_own i n m l e f false o = inl (same_Some m n (sym f ∙ other i o ∙ e))
 

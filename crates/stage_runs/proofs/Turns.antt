@@ -19,7 +19,7 @@ use Rattle.answer_model.specs.Values.{IsDown, role_at}
 use Rattle.answer_model.proofs.Values.{tree-down}
 use Rattle.stage_runs.specs.Works.{as_works, ins_of, AreNewStages}
 use Rattle.stage_runs.specs.declared.plan.Plan.{Plan}
-use Rattle.stage_runs.specs.Parts.{gathers_of, AreLater, IsPartRun, IsGatheredAt, AreRunBefore, AreTurned, Besides}
+use Rattle.stage_runs.specs.Parts.{gathers_of, AreLaterNodes, IsPartRun, IsGatheredAt, AreRunBefore, AreTurned, Besides}
 use Rattle.stage_forms.specs.Starts.{IsCollecting}
 use Rattle.stage_runs.specs.Short.{SomeGathers}
 use Rattle.stage_runs.proofs.Asked.{fresh-before, root-inputs, root-collects}
@@ -101,7 +101,7 @@ module _ {S K : Type 0} (s : source.Ghosts S) (k : sink.Ghosts K) (stages : List
 
   -- ---- one stage more
 
-  module _ (w : ℕ) {now : List (Node (StageWork S K))} (later : AreLater s k old now) (done : Done w now) (inside : w < length stages)
+  module _ (w : ℕ) {now : List (Node (StageWork S K))} (later : AreLaterNodes s k old now) (done : Done w now) (inside : w < length stages)
       {read : Bool} (reads : read ≡ slice_index_or plan.gathers.items w read) where
     count : length now ≡ length stages
     count = later.count ∙ new.count

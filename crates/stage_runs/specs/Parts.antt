@@ -57,15 +57,15 @@ Besides S K = List (List ℕ) → List (Node (StageWork S K)) → List (Node (St
 
 module _ {S K : Type 0} (s : source.Ghosts S) (k : sink.Ghosts K) where
   -- the node of a stage later: it holds the device that it held, whose count of faults didn't fall, and where that failed, it rose
-  pub record IsLater (old new : Node (StageWork S K)) : Type 0 where
+  pub record IsLaterNode (old new : Node (StageWork S K)) : Type 0 where
     pub op : op_of new.work ≡ op_of old.work
     pub faults : faults_of s.faults k.faults old.work ≤ faults_of s.faults k.faults new.work
     pub cause : is_device new.fault ≡ true → Rose (faults_of s.faults k.faults old.work) (faults_of s.faults k.faults new.work)
     pub named : IsOf (op_of old.work) new.fault
 
-  pub record AreLater (old new : List (Node (StageWork S K))) : Type 0 where
+  pub record AreLaterNodes (old new : List (Node (StageWork S K))) : Type 0 where
     pub count : length new ≡ length old
-    pub each : (i : ℕ) (n m : Node (StageWork S K)) → slice_get old i ≡ Some n → slice_get new i ≡ Some m → IsLater n m
+    pub each : (i : ℕ) (n m : Node (StageWork S K)) → slice_get old i ≡ Some n → slice_get new i ≡ Some m → IsLaterNode n m
 
   -- a leaf without a device that had no turn yet
   pub record IsNewLeaf (n : Node (StageWork S K)) : Type 0 where
@@ -82,7 +82,7 @@ module _ {S K : Type 0} (s : source.Ghosts S) (k : sink.Ghosts K) where
   -- each node is as it was, or a later one
   pub record AreSameOrLater (old new : List (Node (StageWork S K))) : Type 0 where
     pub count : length new ≡ length old
-    pub each : (i : ℕ) (n m : Node (StageWork S K)) → slice_get old i ≡ Some n → slice_get new i ≡ Some m → (m ≡ n) ⊎ IsLater n m
+    pub each : (i : ℕ) (n m : Node (StageWork S K)) → slice_get old i ≡ Some n → slice_get new i ≡ Some m → (m ≡ n) ⊎ IsLaterNode n m
 
   -- so many leaves that give nothing
   pub record AreStandIns (size : ℕ) (nodes : List (Node (StageWork S K))) : Type 0 where

@@ -6,9 +6,10 @@ ghost use Rattle.network_theory.specs.Forest.{IsForest};
 ghost use Rattle.network_solo.specs.Trees.{AreFresh, IsRanTree};
 ghost use Rattle.stage_kinds.specs.Stages.{is_short};
 ghost use Rattle.stage_runs.specs.Works.{as_works};
-ghost use Rattle.stage_runs.specs.Parts.{AreLater, AreStandIns, Gives, HoldNoDevice, IsLater, IsNewLeaf};
+ghost use Rattle.stage_runs.specs.Parts.{AreLaterNodes, AreStandIns, Gives, HoldNoDevice, IsLaterNode, IsNewLeaf};
 ghost use Rattle.stage_runs.specs.Short.{NoneShort, RanShort, SomeShort};
 
+use cloud_points::Layout;
 use file_devices::{FileSink, Source};
 use network_core::{InsList, Node, NodeList};
 use network_solo::Scheduler;
@@ -24,7 +25,7 @@ pub(crate) fn stand_in<S: Source, K: FileSink>(alloc: Global, chunk: usize) -> N
     ensures leaf { IsNewLeaf S.Source K.Sink result }
     ensures gives { Gives S.Source K.Sink empty_flow result }
 {
-    let views = HeldViews::new(Views::none(alloc));
+    let views = HeldViews::new(Views::none(alloc, &Layout::none()));
     Node::new(StageWork::Views(views), 0, chunk)
 }
 
@@ -59,7 +60,7 @@ fn any_short<S: Source, K: FileSink>(nodes: &[Node<StageWork<S, K>>]) -> bool
 }
 
 /// The nodes of a net that took turns until all were done, and whether each had memory enough.
-pub(crate) struct Ran<S, K: FileSink> {
+pub(crate) struct RanNet<S, K: FileSink> {
     pub(crate) nodes: Vec<Node<StageWork<S, K>>>,
     pub(crate) enough: bool,
 }
@@ -81,14 +82,14 @@ pub(crate) fn run_net<S: Source, K: FileSink, T: Scheduler<StageWork<S, K>>>(
     nodes: Vec<Node<StageWork<S, K>>>,
     ins: InsList,
     edges: T::Edges,
-) -> Ran<S, K>
+) -> RanNet<S, K>
     requires sound { T.sound scheduler.now }
     requires some { 0 < length nodes.items }
     requires few { length nodes.items ≤ 64 }
     requires fresh { AreFresh (as_works S.Source K.Sink) ins nodes.items }
     requires forest { IsForest ins (length nodes.items - 1) }
     requires edges { (queue : ℕ) × T.fits (length nodes.items) queue edges }
-    ensures later { AreLater S.Source K.Sink nodes.items result.nodes.items }
+    ensures later { AreLaterNodes S.Source K.Sink nodes.items result.nodes.items }
     ensures ran { IsRanTree (as_works S.Source K.Sink) ins nodes.items result.nodes.items }
     ensures over { (queue : ℕ) → T.fits (length nodes.items) queue edges
         → T.besides queue ins nodes.items result.nodes.items }
@@ -97,7 +98,7 @@ pub(crate) fn run_net<S: Source, K: FileSink, T: Scheduler<StageWork<S, K>>>(
 {
     let nodes = scheduler.run(NodeList::new(nodes), ins, edges).into_vec();
     let enough = !any_short(&nodes);
-    Ran { nodes, enough }
+    RanNet { nodes, enough }
 }
 
 /// A node that took turns alone until it was done, and whether there was memory enough.
@@ -117,7 +118,7 @@ pub(crate) fn run_alone<S: Source, K: FileSink, T: Scheduler<StageWork<S, K>>>(
     requires leaf { IsNewLeaf S.Source K.Sink node }
     requires room { 0 < queue }
     requires small { queue ≤ 64 }
-    ensures later { IsLater S.Source K.Sink node result.node }
+    ensures later { IsLaterNode S.Source K.Sink node result.node }
     ensures ran { result.enough ≡ true
         → IsRanTree (as_works S.Source K.Sink) ([] ∷ []) (node ∷ []) (result.node ∷ []) }
     ensures over { result.enough ≡ true → T.besides queue ([] ∷ []) (node ∷ []) (result.node ∷ []) }
@@ -136,7 +137,7 @@ pub(crate) fn run_alone<S: Source, K: FileSink, T: Scheduler<StageWork<S, K>>>(
         return Alone { node, enough };
     };
     nodes.push_reserved(node);
-    let Ran { mut nodes, enough } = run_net(scheduler, nodes, InsList::new(ins), edges);
+    let RanNet { mut nodes, enough } = run_net(scheduler, nodes, InsList::new(ins), edges);
     let Some(node) = nodes.pop() else {
         unreachable!()
     };

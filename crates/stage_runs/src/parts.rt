@@ -8,7 +8,7 @@ ghost use Rattle.stage_runs.specs.Parts.{is_own, IsExchanged, IsGatheredAt, IsLe
 ghost use Rattle.stage_runs.specs.Rooms.{IsRoom, part_of};
 ghost use Rattle.stage_runs.specs.Short.{RanShort};
 
-use crate::nets::{Alone, Ran, let_go, run_alone, run_net, stand_in};
+use crate::nets::{Alone, RanNet, let_go, run_alone, run_net, stand_in};
 use crate::plan::Plan;
 use crate::rooms::PartRoom;
 use crate::sizes::Sizes;
@@ -99,7 +99,7 @@ pub(crate) fn run_part<S: Source, K: FileSink, T: Scheduler<StageWork<S, K>>>(
     let homes = plan.homes.as_slice();
     lend(nodes, &mut net, homes, home);
     renew_root(&mut net, ins.children(root).len() as u32, sizes.chunk);
-    let Ran {
+    let RanNet {
         nodes: mut net,
         enough,
     } = run_net(scheduler, net, ins, edges);

@@ -43,7 +43,8 @@ impl Plan {
         requires { IsTree (shapes stages.now) }
         ensures ins { IfOk result (λ plan. plan.ins ≡ ins_of stages.now) }
         ensures gathers { IfOk result (λ plan. plan.gathers.items ≡ gathers_of stages.now) }
-        ensures homes { IfOk result (λ plan. AreHomes (gathers_of stages.now) (ins_of stages.now) plan.homes.items) }
+        ensures homes { IfOk result (λ plan.
+            AreHomes (gathers_of stages.now) (ins_of stages.now) plan.homes.items) }
     {
         let ins = ins_of(alloc, stages)?;
         let gathers = gathers_of(alloc, stages)?;

@@ -1,10 +1,12 @@
 -- The next part of what a held list gives.
 use Rattle.std.proofs.Common.{◌≡◌, ℕ, zero, suc, ◌+◌, ◌-◌, ◌≤◌, ◌<◌, Bool, true, false, List, [], ◌∷◌, ◌++◌, length, map, take, drop, refl, ap, sym, ◌∙◌, append_assoc, arith, true≢false}
-use Rattle.std.specs.Prelude.{min, slice_index_or}
+use Rattle.std.specs.Prelude.{min, nat_lt, if◌then◌else◌, slice_index_or, slice_set}
+use Rattle.std.proofs.lemmas.Bool.{lt-ltb, le-ltb}
 use Rattle.cloud_points.specs.declared.point.Point.{Point}
 use Rattle.cloud_points.specs.Flows.{Flow}
 use Rattle.cloud_points.specs.Marks.{Mark, At, View_end, End, view_marks, flow_marks}
 use Rattle.network_theory.specs.Net.{count_views, count_points}
+use Rattle.whole_filters.specs.Held.{without_first}
 use Rattle.view_works.specs.Giving.{marks_from, still_gives}
 
 map_append : {A B : Type 0} (f : A → B) (x y : List A) → map f (x ++ y) ≡ map f x ++ map f y
@@ -43,6 +45,23 @@ from_start (w ∷ ws) last cut = sym (append_assoc (map At w) (View_end ∷ view
 -- all of it
 pub all-given : (f : Flow Point) → marks_from f.views f.open_view f.cut 0 0 ≡ flow_marks f
 all-given f = from_start f.views f.open_view f.cut ∙ sym (append_assoc (view_marks f.views) (map At f.open_view) (End f.cut ∷ []))
+
+-- without what was given of a view, what is left is the same
+without-given : (v k : ℕ) (vs : List (List Point)) (last rest : List Point) (cut : Bool) → v ≤ length vs
+    → (v < length vs → rest ≡ last) → (v ≡ length vs → rest ≡ drop k last)
+    → marks_from (slice_set vs v (drop k (slice_index_or vs v last))) rest cut v 0 ≡ marks_from vs last cut v k
+without-given zero k [] last rest cut h inside behind = ap (λ ps. map At ps ++ End cut ∷ []) (behind refl)
+without-given (suc v) k [] last rest cut h inside behind = absurd (omega (arith, h))
+without-given zero k (w ∷ ws) last rest cut h inside behind = ap (λ ps. marks_from (drop k w ∷ ws) ps cut 0 0) (inside (omega arith))
+without-given (suc v) k (w ∷ ws) last rest cut h inside behind =
+    without-given v k ws last rest cut (omega (arith, h)) (λ l. inside (omega (arith, l))) (λ e. behind (ap suc e))
+
+pub here-let-go : (ended : Bool) (f : Flow Point) (v k : ℕ) → v ≤ length f.views → still_gives ended (without_first v k f) v 0 ≡ still_gives ended f v k
+here-let-go true f v k h = refl
+here-let-go false f v k h =
+    let rest : Bool → List Point = λ b. if b then f.open_view else drop k f.open_view in
+    without-given v k f.views f.open_view (rest (nat_lt v (length f.views))) f.cut h
+    (λ l. ap rest (lt-ltb v (length f.views) l)) (λ e. ap rest (le-ltb v (length f.views) (omega (arith, e))))
 
 split : (n k : ℕ) (w : List Point) (ms : List (Mark Point)) → map At (drop k w) ++ ms ≡ map At (take n (drop k w)) ++ (map At (drop (k + n) w) ++ ms)
 split n k w ms =

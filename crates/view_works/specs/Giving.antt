@@ -5,6 +5,7 @@ use Rattle.cloud_points.specs.declared.faults.StageFault.{StageFault}
 use Rattle.cloud_points.specs.Meaning.{Meaning, KeepsCutting}
 use Rattle.cloud_points.specs.declared.point.Point.{Point}
 use Rattle.cloud_points.specs.Flows.{Flow}
+use Rattle.view_works.specs.declared.held.HeldViews.{HeldViews}
 use Rattle.cloud_points.specs.Marks.{Mark, At, View_end, End, view_marks}
 
 -- the marks from point k of view v on
@@ -17,6 +18,10 @@ marks_from (w ∷ ws) last cut (suc v) k = marks_from ws last cut v k
 abbrev pub still_gives : Bool → Flow Point → ℕ → ℕ → List (Mark Point)
 still_gives true f v k = []
 still_gives false f v k = marks_from f.views f.open_view f.cut v k
+
+-- what a leaf still gives
+abbrev pub left_of : HeldViews → List (Mark Point)
+left_of h = still_gives h.ended h.views h.view h.at
 
 module _ {S : Type 0} where
   -- a leaf takes nothing, and gives nothing for what it would take, whatever its state is

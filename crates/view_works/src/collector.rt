@@ -1,7 +1,7 @@
 //! A root that keeps what it takes.
 
 use crate::HeldViews;
-use cloud_points::Spread;
+use cloud_points::{Layout, Spread};
 use std::alloc::{AllocError, Global};
 use whole_filters::{Gathering, Views, gather};
 
@@ -23,22 +23,24 @@ impl Collector {
     ghost use Rattle.view_works.specs.Giving.{still_gives};
     ghost use Rattle.whole_filters.specs.Gathered.{gathered};
 
-    /// One that holds nothing yet, of a stage that makes this of whole views.
-    pub fn new(alloc: Global, gathering: Gathering) -> Collector
+    /// One that holds nothing yet, of a stage that makes this of whole views. It keeps points in rows that have the
+    /// dimensions of the layout.
+    pub fn new(alloc: Global, layout: &Layout, gathering: Gathering) -> Collector
         ensures views { result.views ≡ empty_flow }
         ensures short { result.short ≡ false }
         ensures gathering { result.gathering ≡ gathering }
     {
         Collector {
             gathering,
-            views: Views::none(alloc),
+            views: Views::none(alloc, layout),
             short: false,
         }
     }
 
     /// Takes points of the open view, which go on. Where memory is wanting they don't.
     pub fn on_chunk(&mut self, points: &mut Spread)
-        ensures state { ran_short self.old.short self.new.short ≡ false → state_of self.new ≡ collecting.after (state_of self.old) points.old.items }
+        ensures state { ran_short self.old.short self.new.short ≡ false
+            → state_of self.new ≡ collecting.after (state_of self.old) points.old.items }
         ensures points { ran_short self.old.short self.new.short ≡ false → points.new.items ≡ points.old.items }
         ensures event { ran_short self.old.short self.new.short ≡ true → points.new.items ≡ [] }
         ensures stays_short { self.old.short ≡ true → self.new.short ≡ true }
@@ -54,7 +56,8 @@ impl Collector {
 
     /// Ends the open view.
     pub fn on_end_view(&mut self)
-        ensures state { ran_short self.old.short self.new.short ≡ false → state_of self.new ≡ (collecting.at_view (state_of self.old)).0 }
+        ensures state { ran_short self.old.short self.new.short ≡ false
+            → state_of self.new ≡ (collecting.at_view (state_of self.old)).0 }
         ensures stays_short { self.old.short ≡ true → self.new.short ≡ true }
     {
         if !self.short && self.views.end_view().is_err() {
@@ -89,7 +92,8 @@ impl Collector {
     /// What the stage makes of the flow that it took, as a leaf that gives it. It is refused only where memory is wanting, or was as
     /// the flow came.
     pub fn gather(self, alloc: Global) -> Result<HeldViews, AllocError>
-        ensures gives { IfOk result (λ given. still_gives given.ended given.views given.view given.at ≡ flow_marks (gathered self.gathering self.views)) }
+        ensures gives { IfOk result (λ given. still_gives given.ended given.views given.view given.at
+            ≡ flow_marks (gathered self.gathering self.views)) }
         ensures kept { IfOk result (λ given. self.short ≡ false) }
         ensures begins { IfOk result (λ given. given.ended ≡ false) }
     {

@@ -3,8 +3,11 @@
 ghost use Rattle.std.specs.Prelude.{◌≤◌, length};
 ghost use Rattle.whole_filters.specs.Held.{view_at};
 
-use cloud_points::{Make, Spread, put_points};
+use cloud_points::{Make, Spread};
 use whole_filters::Views;
+
+/// So many points of a view are given before their memory is let go.
+const MOST_GIVEN: usize = 4096;
 
 /// A leaf that gives the views that it holds, and then their end, which is cut where they are.
 #[derive(Drop)]
@@ -24,12 +27,12 @@ impl HeldViews {
     ghost use Rattle.cloud_points.specs.declared.faults.Make.{Make};
     ghost use Rattle.cloud_points.specs.Marks.{flow_marks, marks, views_in};
     ghost use Rattle.network_theory.specs.Net.{count_views, count_points};
-    ghost use Rattle.view_works.specs.Giving.{still_gives};
+    ghost use Rattle.view_works.specs.Giving.{left_of};
     ghost use Rattle.whole_filters.specs.Held.{view_at};
 
     /// One that gives all of these views.
     pub fn new(views: Views) -> HeldViews
-        ensures gives { still_gives result.ended result.views result.view result.at ≡ flow_marks views }
+        ensures gives { left_of result ≡ flow_marks views }
         ensures begins { result.ended ≡ false }
     {
         HeldViews {
@@ -49,20 +52,63 @@ impl HeldViews {
         ensures most { array_vec_len into.new ≤ chunk }
         ensures empty { gives_points result ≡ false → into.new.items ≡ [] }
         ensures no_fault { made_fault result ≡ None }
-        ensures part { self.old.ended ≡ false → still_gives self.old.ended self.old.views self.old.view self.old.at
-            ≡ marks (made result into.new.items) ++ still_gives self.new.ended self.new.views self.new.view self.new.at }
+        ensures part { self.old.ended ≡ false → left_of self.old
+            ≡ marks (made result into.new.items) ++ left_of self.new }
         ensures ended { gives_end result ≡ true → self.new.ended ≡ true }
         ensures goes_on { gives_end result ≡ false → self.new.ended ≡ self.old.ended }
-        ensures again { self.old.ended ≡ true → (result ≡ Make.End self.old.views.cut None) × (self.new ≡ self.old) }
-        ensures fewer_points { count_points (still_gives self.new.ended self.new.views self.new.view self.new.at) + array_vec_len into.new
-            ≤ count_points (still_gives self.old.ended self.old.views self.old.view self.old.at) }
-        ensures fewer_views { count_views (still_gives self.new.ended self.new.views self.new.view self.new.at) + views_in (made result into.new.items)
-            ≤ count_views (still_gives self.old.ended self.old.views self.old.view self.old.at) }
+        ensures again { self.old.ended ≡ true
+            → (result ≡ Make.End self.old.views.cut None) × (self.new ≡ self.old) }
+        ensures fewer_points { count_points (left_of self.new) + array_vec_len into.new
+            ≤ count_points (left_of self.old) }
+        ensures fewer_views { count_views (left_of self.new) + views_in (made result into.new.items)
+            ≤ count_views (left_of self.old) }
     {
         if self.ended {
             into.clear();
             return Make::End(self.views.is_cut(), None);
         }
+        if self.at >= MOST_GIVEN || self.is_view_given() {
+            self.let_go();
+        }
+        self.give(chunk, into)
+    }
+
+    /// Whether all points of the current view were given, and some.
+    fn is_view_given(&self) -> bool {
+        self.at > 0 && self.at == self.views.len(self.view)
+    }
+
+    /// Lets go of the points that were given of the current view.
+    fn let_go(&mut self)
+        ensures gives { left_of self.new
+            ≡ left_of self.old }
+        ensures ended { self.new.ended ≡ self.old.ended }
+    {
+        self.views.let_go(self.view, self.at);
+        self.at = 0;
+    }
+
+    /// Puts the next points in place of what the spread held, or answers an end and leaves the spread empty. None was
+    /// answered for all yet.
+    fn give(&mut self, chunk: usize, into: &mut Spread) -> Make
+        requires some { 0 < chunk }
+        requires most { chunk ≤ 64 }
+        requires begun { self.old.ended ≡ false }
+        ensures some { gives_points result ≡ true → 0 < array_vec_len into.new }
+        ensures most { array_vec_len into.new ≤ chunk }
+        ensures empty { gives_points result ≡ false → into.new.items ≡ [] }
+        ensures no_fault { made_fault result ≡ None }
+        ensures part { left_of self.old
+            ≡ marks (made result into.new.items) ++ left_of self.new }
+        ensures ended { gives_end result ≡ true → self.new.ended ≡ true }
+        ensures goes_on { gives_end result ≡ false → self.new.ended ≡ self.old.ended }
+        ensures fewer_points { count_points (left_of self.new)
+            + array_vec_len into.new
+            ≤ count_points (left_of self.old) }
+        ensures fewer_views { count_views (left_of self.new)
+            + views_in (made result into.new.items)
+            ≤ count_views (left_of self.old) }
+    {
         let next = self.lay(chunk, into);
         if next > self.at {
             self.at = next;
@@ -81,14 +127,16 @@ impl HeldViews {
     /// behind them.
     fn lay(&self, chunk: usize, into: &mut Spread) -> usize
         requires { chunk ≤ 64 }
-        ensures place { result ≡ self.now.at + min chunk (length (view_at self.now.views self.now.view) - self.now.at) }
-        ensures points { into.new.items ≡ take (min chunk (length (view_at self.now.views self.now.view) - self.now.at)) (drop self.now.at (view_at self.now.views self.now.view)) }
+        ensures place { result ≡ self.now.at + min chunk
+            (length (view_at self.now.views self.now.view) - self.now.at) }
+        ensures points { into.new.items ≡ take
+            (min chunk (length (view_at self.now.views self.now.view) - self.now.at))
+            (drop self.now.at (view_at self.now.views self.now.view)) }
     {
         let view = self.views.view(self.view);
         let left = view.len() - self.at;
         let count = if left < chunk { left } else { chunk };
-        let next = self.at + count;
-        put_points(into, &view[self.at..next]);
-        next
+        view.copy_into(self.at, count, into);
+        self.at + count
     }
 }

@@ -10,6 +10,8 @@ ghost use Rattle.whole_filters.specs.declared.gathering.Gathering.{Gathering};
 
 /// A collector that took a flow holds just that flow, and gave it on.
 pub fn collectors_keep_their_flow()
-    ensures holds { (g : Gathering) (f : Flow Point) → state_after collecting (g, Some empty_flow) f ≡ (g, Some f) }
-    ensures gives { (g : Gathering) (f : Flow Point) → made_of collecting (g, Some empty_flow) f ≡ flow_marks f }
+    ensures holds { (g : Gathering) (f : Flow Point)
+        → state_after collecting (g, Some empty_flow) f ≡ (g, Some f) }
+    ensures gives { (g : Gathering) (f : Flow Point)
+        → made_of collecting (g, Some empty_flow) f ≡ flow_marks f }
 {}

@@ -1,10 +1,12 @@
 -- A sort of entries stands for a sort of their points.
-use Rattle.std.proofs.Common.{◌≡◌, ℕ, ◌<◌, Bool, true, false, cond, List, [], ◌∷◌, length, get_or, map, refl, ap, sym, ◌∙◌, subst, arith}
-use Rattle.std.specs.Prelude.{ℤ, int_lt, pos, ◌-ℤ◌}
+use Rattle.std.proofs.Common.{◌≡◌, ℕ, ◌+◌, ◌<◌, Bool, true, false, cond, List, [], ◌∷◌, ◌++◌, length, length-append, get_or, map, ⊎_elim, refl, ap, sym, ◌∙◌, subst, arith}
+use Rattle.std.specs.Prelude.{ℤ, int_lt, pos, ◌-ℤ◌, slice_get, Some}
 use Rattle.std.specs.Cmp.{IsStrictWeakOrder}
 use Rattle.std.specs.List.{range_with_len}
 use Rattle.std.specs.List.Sorted.{IsPermutation}
-use Rattle.std.proofs.lemmas.List.{same_lists, get_or-map, get_or_default, length-map, map-id}
+use Rattle.std.proofs.lemmas.Bool.{cases_eq}
+use Rattle.std.proofs.lemmas.List.{same_lists, get_or-map, get_or_default, get_or_push, get_or_append_left, length-map, map-id}
+use Rattle.std.proofs.lemmas.Option.{get_or_from_slice_get}
 use Rattle.std.proofs.lemmas.List.FromFn.{fill_by_all}
 use Rattle.std.proofs.lemmas.List.Sorted.{IsPermutation-map}
 use Rattle.std.proofs.lemmas.Int.{ints}
@@ -14,7 +16,7 @@ use Rattle.cloud_points.specs.declared.point.Point.{Point}
 use Rattle.whole_filters.specs.Whole.{before, insert_by, sorted_by}
 use Rattle.whole_filters.specs.Places.{AreKeyed, middle_of, short_key, turned}
 use Rattle.whole_filters.specs.declared.places.Entry.{Entry}
-use Rattle.whole_filters.proofs.Sorting.{Each, each_at, each-insert, before-order}
+use Rattle.whole_filters.proofs.Sorting.{Each, each_at, each-sorted, before-order}
 
 map-map : {A B C : Type 0} (f : B → C) (g : A → B) (xs : List A) → map f (map g xs) ≡ map (λ x. f (g x)) xs
 map-map f g [] = refl
@@ -30,13 +32,9 @@ module _ {E P : Type 0} (f : E → P) (lt : E → E → Bool) (order : IsStrictW
       go true ih = ap (λ z. f x ∷ z) ih
       go false ih = refl
 
-  each-sorted : (es : List E) → Each Q es → Each Q (sorted_by lt es)
-  each-sorted [] qs = tt
-  each-sorted (e ∷ es) qs = each-insert lt order Q e (sorted_by lt es) qs.0 (each-sorted es qs.1)
-
   sorted_by-map : (es : List E) → Each Q es → sorted_by less (map f es) ≡ map f (sorted_by lt es)
   sorted_by-map [] qs = refl
-  sorted_by-map (e ∷ es) qs = ap (insert_by less (f e)) (sorted_by-map es qs.1) ∙ insert_by-map e (sorted_by lt es) qs.0 (each-sorted es qs.1)
+  sorted_by-map (e ∷ es) qs = ap (insert_by less (f e)) (sorted_by-map es qs.1) ∙ insert_by-map e (sorted_by lt es) qs.0 (each-sorted lt order Q es qs.1)
 
 -- numbers stand as they do once the same is taken from each, and the other way round once they are turned
 moved : (m : ℕ) (a b : ℤ) → int_lt (a -ℤ pos m) (b -ℤ pos m) ≡ int_lt a b
@@ -48,6 +46,27 @@ turned_round a b = grind (arith, ints)
 shifted : (down : Bool) (m : ℕ) (a b : ℤ) → int_lt (turned down (a -ℤ pos m)) (turned down (b -ℤ pos m)) ≡ cond down (int_lt b a) (int_lt a b)
 shifted true m a b = turned_round (a -ℤ pos m) (b -ℤ pos m) ∙ moved m b a
 shifted false m a b = moved m a b
+
+-- the entry of the next point behind the others
+pub keyed_next : (dim : Dim) (down : Bool) (points : List Point) (n : ℕ) (es : List Entry) → AreKeyed dim down points n es → (p : Point) → slice_get points n ≡ Some p
+    → (entry : Entry) → entry.key ≡ turned down (short_key dim (key_of p dim)) → entry.place ≡ n → (more : List Entry) → more ≡ es ++ entry ∷ [] → AreKeyed dim down points (n + 1) more
+keyed_next dim down points n es keyed p here entry key place more behind = record {
+  each = omega (arith, ap length behind, length-append es (entry ∷ []), keyed.each);
+  key = λ k d e l. ⊎_elim
+      (λ q. ap (λ (x : Entry). x.key) (last k e q) ∙ key ∙ ap (λ z. turned down (short_key dim (key_of z dim))) (sym (ap (λ j. get_or points j d) q ∙ get_or_from_slice_get points n p d here)))
+      (λ q. ap (λ (x : Entry). x.key) (first k e l q) ∙ keyed.key k d e (omega (arith, l, q)))
+      (cases_eq k n);
+  place = λ k e l. ⊎_elim
+      (λ q. ap (λ (x : Entry). x.place) (last k e q) ∙ place ∙ sym q)
+      (λ q. ap (λ (x : Entry). x.place) (first k e l q) ∙ keyed.place k e (omega (arith, l, q)))
+      (cases_eq k n);
+}
+  where
+    last : (k : ℕ) (e : Entry) → k ≡ n → get_or more k e ≡ entry
+    last k e q = ap (λ z. get_or z k e) behind ∙ get_or_push es entry e k (keyed.each ∙ sym q)
+
+    first : (k : ℕ) (e : Entry) → k < n + 1 → (k ≡ n → ⊥) → get_or more k e ≡ get_or es k e
+    first k e l q = ap (λ z. get_or z k e) behind ∙ get_or_append_left es (entry ∷ []) e k (omega (arith, l, q, keyed.each))
 
 none : Entry
 none = record { key = pos 0; place = 0 }

@@ -22,7 +22,7 @@ pub fn groupby(alloc: Global, views: Views, dim: Dim) -> Result<Views, AllocErro
     requires { views.cut ≡ false → views.open_view ≡ [] }
     ensures { IfOk result (λ made. made ≡ whole_set (groups (λ p. key_of p dim)) views) }
 {
-    let mut made = Views::none(alloc);
+    let mut made = views.like();
     if views.cut {
         made.set_cut();
         return Ok(made);
@@ -37,21 +37,22 @@ fn parts_of_each(alloc: Global, views: Vec<Rows>, dim: Dim) -> Result<Vec<Rows>,
 {
     let mut made = Vec::new(alloc);
     for view in views {
-        let mut parts = parts_of(alloc, view.as_slice(), dim)?;
+        let mut parts = parts_of(alloc, &view, dim)?;
         made.append(&mut parts)?;
     }
     Ok(made)
 }
 
 // The points of one view in their groups, each copied once.
-fn parts_of(alloc: Global, points: &[Point], dim: Dim) -> Result<Vec<Rows>, AllocError>
-    ensures { IfOk result (λ made. made.items ≡ groups (λ p. key_of p dim) points.now) }
+fn parts_of(alloc: Global, view: &Rows, dim: Dim) -> Result<Vec<Rows>, AllocError>
+    ensures { IfOk result (λ made. made.items ≡ groups (λ p. key_of p dim) view.now) }
 {
     let mut places = BTreeMap::new(alloc);
     let mut made = Vec::new(alloc);
-    for p in points {
-        let place = place_of(&mut places, p, dim, made.len())?;
-        put_at(alloc, &mut made, place, p)?;
+    for k in 0..view.len() {
+        let p = view.get(k);
+        let place = place_of(&mut places, &p, dim, made.len())?;
+        put_at(view, &mut made, place, &p)?;
     }
     Ok(made)
 }
@@ -63,7 +64,8 @@ fn place_of(
     dim: Dim,
     next: usize,
 ) -> Result<usize, AllocError>
-    ensures place { IfOk result (λ place. place ≡ unwrap_or (tree.get int_cmp places.old (key_of p.now dim)) next) }
+    ensures place { IfOk result (λ place. place
+        ≡ unwrap_or (tree.get int_cmp places.old (key_of p.now dim)) next) }
     ensures places { IfOk result (λ place. (q : ℤ) → tree.get int_cmp places.new q
         ≡ (if int_eq (key_of p.now dim) q then Some place else tree.get int_cmp places.old q)) }
 {
@@ -75,15 +77,15 @@ fn place_of(
     Ok(next)
 }
 
-// Puts a point behind those of the group at a place; behind the last group it makes one of its own.
-fn put_at(alloc: Global, made: &mut Vec<Rows>, place: usize, p: &Point) -> Result<(), AllocError>
+// Puts a point of a view behind those of the group at a place; behind the last group it makes one of its own.
+fn put_at(view: &Rows, made: &mut Vec<Rows>, place: usize, p: &Point) -> Result<(), AllocError>
     requires { place ≤ length made.old.items }
     ensures { OnOk result (made.new.items ≡ with_point place p.now made.old.items) }
 {
     if place < made.len() {
         return made[place].push(p);
     }
-    let mut group = Rows::none(alloc);
+    let mut group = view.like();
     group.push(p)?;
     made.push(group)?;
     Ok(())

@@ -25,8 +25,10 @@ pub fn sort_laws()
 /// The groups of a view hold each of its points once; no group is empty; each value of the key has one group, and a value
 /// that comes later stands behind those that came before.
 pub fn group_laws()
-    ensures each_point_once { (key : Point → ℤ) (view : List Point) → IsPermutation view (all_of (groups key view)) }
-    ensures not_empty { (key : Point → ℤ) (view : List Point) → All (λ group. 0 < length group) (groups key view) }
+    ensures each_point_once { (key : Point → ℤ) (view : List Point)
+        → IsPermutation view (all_of (groups key view)) }
+    ensures not_empty { (key : Point → ℤ) (view : List Point)
+        → All (λ group. 0 < length group) (groups key view) }
     ensures all_values { (v : ℤ) (vs : List ℤ) → list_any (int_eq v) (distinct vs) ≡ list_any (int_eq v) vs }
     ensures values_once { (vs : List ℤ) → AllPairs (λ v w. int_eq v w ≡ false) (distinct vs) }
     ensures in_order { (vs : List ℤ) (v : ℤ)

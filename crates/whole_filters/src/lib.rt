@@ -14,5 +14,6 @@ pub use gathering::{Gathering, gather};
 pub use grouping::groupby;
 pub use laws::{group_laws, sort_laws};
 pub use ordering::sort;
+pub use rows::Rows;
 pub use tailing::tail;
 pub use views::Views;

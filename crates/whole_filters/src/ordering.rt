@@ -21,19 +21,19 @@ pub fn sort(alloc: Global, views: &mut Views, dim: Dim, down: bool) -> Result<()
     ensures refused { OnErr result (SamePoints views.old views.new) }
 {
     if views.cut {
-        *views = Views::none(alloc);
+        *views = views.like();
         views.set_cut();
         return Ok(());
     }
-    sort_each(&mut views.complete, dim, down)
+    sort_each(alloc, &mut views.complete, dim, down)
 }
 
-fn sort_each(views: &mut Vec<Rows>, dim: Dim, down: bool) -> Result<(), AllocError>
+fn sort_each(alloc: Global, views: &mut Vec<Rows>, dim: Dim, down: bool) -> Result<(), AllocError>
     ensures ok { OnOk result (views.new.items ≡ flat_map (sorted (λ p. key_of p dim) down) views.old.items) }
     ensures refused { OnErr result (EachRearranged views.old.items views.new.items) }
 {
     for k in 0..views.len() {
-        views[k].sort(dim, down)?;
+        views[k].sort(alloc, dim, down)?;
     }
     Ok(())
 }

@@ -1,7 +1,6 @@
 //! The order of the points of a view: their keys and places are sorted, and each point then moves to its place.
 
 ghost use Rattle.std.specs.Prelude.{◌≡◌, false, IfOk, OnOk, OnErr, List, ℕ, length, map, get_or};
-ghost use Rattle.std.specs.Ordering.{is_lt};
 ghost use Rattle.std.specs.List.{range_with_len};
 ghost use Rattle.std.specs.List.Sorted.{IsPermutation};
 ghost use Rattle.cloud_points.specs.Points.{key_of};
@@ -9,15 +8,16 @@ ghost use Rattle.cloud_points.specs.declared.point.Point.{Point};
 ghost use Rattle.whole_filters.specs.Whole.{before, sorted_by};
 ghost use Rattle.whole_filters.specs.Places.{AreKeyed, AreInverse, short_key, turned};
 
+use crate::rows::Rows;
 use cloud_points::{Dim, Point};
 use std::alloc::{AllocError, Global};
-use std::cmp::Ordering;
 
 /// The middle of the keys of times, which are 64 bits without a sign.
 const MIDDLE: i128 = 1 << 63;
 
-/// The key of a point in 64 bits, turned round where the order is downwards, and the place where the point stands.
-#[derive(Clone, Copy)]
+/// The key of a point in 64 bits, turned round where the order is downwards, and the place where the point stands. Entries
+/// are in the order of their keys, and those of one key in that of their places.
+#[derive(Clone, Copy, PartialEq, Eq, PartialOrd, Ord)]
 struct Entry {
     key: i64,
     place: usize,
@@ -26,10 +26,10 @@ struct Entry {
 const _: () = prove!(size_of::<Entry>() == 16);
 
 /// Orders points by their keys, upwards or downwards; those of one key stay in their order. It is refused for want of
-/// memory alone. Beside the points it takes room for their keys and places, and gives it back.
+/// memory alone. Beside the points it takes at most 24 bytes for each of them, and gives that room back.
 pub fn put_in_order(
     alloc: Global,
-    points: &mut [Point],
+    points: &mut Rows,
     dim: Dim,
     down: bool,
 ) -> Result<(), AllocError>
@@ -42,24 +42,26 @@ pub fn put_in_order(
     Ok(())
 }
 
-// The places at which the points stand, in the order of their keys.
-fn order_of(alloc: Global, points: &[Point], dim: Dim, down: bool) -> Result<Vec<usize>, AllocError>
-    ensures each_once { IfOk result (λ places. IsPermutation (range_with_len 0 (length points.now)) places.items) }
+// The places at which the points stand, in the order of their keys. Entries with places that rise are sorted in place, and
+// need not be sorted stably for that.
+fn order_of(alloc: Global, points: &Rows, dim: Dim, down: bool) -> Result<Vec<usize>, AllocError>
+    ensures each_once { IfOk result (λ places.
+        IsPermutation (range_with_len 0 (length points.now)) places.items) }
     ensures in_order { IfOk result (λ places. (d : Point) → map (λ k. get_or points.now k d) places.items
         ≡ sorted_by (before (λ p. key_of p dim) down) points.now) }
 {
     let mut entries = keyed(alloc, points, dim, down)?;
-    entries.sort_by(|a, b| order(a, b))?;
+    entries.sort_unstable();
     places_of(alloc, entries.as_slice())
 }
 
 // The keys of points, with the places where they stand.
-fn keyed(alloc: Global, points: &[Point], dim: Dim, down: bool) -> Result<Vec<Entry>, AllocError>
+fn keyed(alloc: Global, points: &Rows, dim: Dim, down: bool) -> Result<Vec<Entry>, AllocError>
     ensures { IfOk result (λ entries. AreKeyed dim down points.now (length points.now) entries.items) }
 {
     let mut entries = Vec::with_capacity(alloc, points.len())?;
     for place in 0..points.len() {
-        entries.push(entry_of(&points[place], place, dim, down))?;
+        entries.push(entry_of(&points.get(place), place, dim, down))?;
     }
     Ok(entries)
 }
@@ -95,13 +97,6 @@ fn entry_of(p: &Point, place: usize, dim: Dim, down: bool) -> Entry
     }
 }
 
-// How two entries stand by their keys.
-fn order(a: &Entry, b: &Entry) -> Ordering
-    ensures { is_lt result ≡ before (λ e. e.key) false a.now b.now }
-{
-    a.key.cmp(&b.key)
-}
-
 // The places of entries, in the order of these.
 fn places_of(alloc: Global, entries: &[Entry]) -> Result<Vec<usize>, AllocError>
     ensures { IfOk result (λ places. places.items ≡ map (λ e. e.place) entries.now) }
@@ -127,7 +122,7 @@ fn inverse_of(alloc: Global, places: &[usize]) -> Result<Vec<usize>, AllocError>
 
 // Moves each point to its place. The sources say where the points stand that go to each place, and the targets where the
 // point at each place goes.
-fn arrange(points: &mut [Point], sources: &mut [usize], targets: &mut [usize])
+fn arrange(points: &mut Rows, sources: &mut [usize], targets: &mut [usize])
     requires inverse { AreInverse 0 sources.old targets.old }
     requires each_point { length sources.old ≡ length points.old }
     ensures { (d : Point) → points.new ≡ map (λ k. get_or points.old k d) sources.old }

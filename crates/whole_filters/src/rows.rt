@@ -1,18 +1,19 @@
 //! The points of one held view.
 
-ghost use Rattle.std.specs.Prelude.{◌≡◌, ◌-◌, ◌++◌, ◌∷◌, [], drop, length, OnOk, OnErr};
+ghost use Rattle.std.specs.Prelude.{◌≡◌, ◌+◌, ◌-◌, ◌<◌, ◌≤◌, ◌++◌, ◌∷◌, [], Some, take, drop, length, slice_get, swap, OnOk, OnErr};
 ghost use Rattle.cloud_points.specs.Points.{key_of};
 ghost use Rattle.whole_filters.specs.Whole.{before, sorted_by};
 
 use crate::places::put_in_order;
-use cloud_points::{Dim, Point};
+use cloud_points::{Dim, Layout, Point, Spread};
+use packed_chunk::PackedRows;
 use std::alloc::{AllocError, Global};
 use std::marker::Model;
 
-/// A growing list of points.
+/// The points of a held view, in packed rows: each takes the bytes of its layout's dimensions.
 #[derive(Drop)]
 pub struct Rows {
-    points: Vec<Point>,
+    packed: PackedRows,
 }
 
 impl Model for Rows {
@@ -21,16 +22,25 @@ impl Model for Rows {
 
     ghost Value = { List Point };
 
-    ghost view = { λ rows. rows.points.items };
+    ghost view = { λ rows. rows.packed.points };
 }
 
 impl Rows {
-    /// No points.
-    pub fn none(alloc: Global) -> Rows
+    /// No points, in rows of a layout.
+    pub fn none(alloc: Global, layout: &Layout) -> Rows
         ensures { result ≡ [] }
     {
         Rows {
-            points: Vec::new(alloc),
+            packed: PackedRows::new(alloc, layout),
+        }
+    }
+
+    /// No points, in rows of the same layout.
+    pub fn like(&self) -> Rows
+        ensures { result ≡ [] }
+    {
+        Rows {
+            packed: self.packed.like(),
         }
     }
 
@@ -39,8 +49,7 @@ impl Rows {
         ensures ok { OnOk result (self.new ≡ self.old ++ p.now ∷ []) }
         ensures refused { OnErr result (self.new ≡ self.old) }
     {
-        self.points.push(*p)?;
-        Ok(())
+        self.packed.push_any(p)
     }
 
     /// Puts points at the end. It is refused for want of memory alone.
@@ -48,7 +57,7 @@ impl Rows {
         ensures ok { OnOk result (self.new ≡ self.old ++ points.now) }
         ensures refused { OnErr result (self.new ≡ self.old) }
     {
-        self.points.extend_from_slice(points)
+        self.packed.push_all(points)
     }
 
     /// Puts the points of another list at the end. Where there are none yet it takes that list over, and copies nothing.
@@ -57,37 +66,98 @@ impl Rows {
         ensures ok { OnOk result (self.new ≡ self.old ++ later) }
         ensures refused { OnErr result (self.new ≡ self.old) }
     {
-        if self.points.is_empty() {
-            *self = later;
-            return Ok(());
+        self.packed.append(later.packed)
+    }
+
+    /// Puts the points of another view at the end, all of them or none. It is refused for want of memory alone.
+    pub fn push_view(&mut self, view: &Rows) -> Result<(), AllocError>
+        ensures ok { OnOk result (self.new ≡ self.old ++ view.now) }
+        ensures refused { OnErr result (self.new ≡ self.old) }
+    {
+        self.push_first(view, view.len())
+    }
+
+    /// Puts the first `count` points of another view at the end, all of them or none. It is refused for want of memory
+    /// alone.
+    pub fn push_first(&mut self, other: &Rows, count: usize) -> Result<(), AllocError>
+        requires { count ≤ length other.now }
+        ensures ok { OnOk result (self.new ≡ self.old ++ take count other.now) }
+        ensures refused { OnErr result (self.new ≡ self.old) }
+    {
+        let len = self.len();
+        if self.push_front(other, count).is_err() {
+            self.packed.truncate(len);
+            return Err(AllocError);
         }
-        self.push_all(later.as_slice())
+        Ok(())
+    }
+
+    // The same, but some of the points may be there where it is refused.
+    fn push_front(&mut self, other: &Rows, count: usize) -> Result<(), AllocError>
+        requires { count ≤ length other.now }
+        ensures ok { OnOk result (self.new ≡ self.old ++ take count other.now) }
+        ensures refused { OnErr result (take (length self.old) self.new ≡ self.old) }
+    {
+        for k in 0..count {
+            self.push(&other.get(k))?;
+        }
+        Ok(())
     }
 
     /// Orders the points by their keys, upwards or downwards; those of one key stay in their order. It is refused for want
     /// of memory alone.
-    pub fn sort(&mut self, dim: Dim, down: bool) -> Result<(), AllocError>
+    pub fn sort(&mut self, alloc: Global, dim: Dim, down: bool) -> Result<(), AllocError>
         ensures ok { OnOk result (self.new ≡ sorted_by (before (λ p. key_of p dim) down) self.old) }
         ensures refused { OnErr result (self.new ≡ self.old) }
     {
-        let alloc = *self.points.allocator();
-        put_in_order(alloc, self.points.as_mut_slice(), dim, down)
+        put_in_order(alloc, self, dim, down)
+    }
+
+    /// The points at two places change place.
+    pub fn swap(&mut self, a: usize, b: usize)
+        requires a { a < length self.old }
+        requires b { b < length self.old }
+        ensures { self.new ≡ swap self.old a b }
+    {
+        self.packed.swap(a, b);
     }
 
     /// Keeps the last `count` points, and all where there are no more.
     pub fn keep_last(&mut self, count: u64)
         ensures { self.new ≡ drop (length self.old - count) self.old }
     {
-        let len = self.points.len() as u64;
-        if count < len {
-            self.points.drain(..(len - count) as usize);
-        }
+        self.packed.keep_last(count);
     }
 
-    /// Lends the points.
-    pub fn as_slice(&self) -> &[Point]
-        ensures { result.now ≡ self.now }
+    /// Lets go of the first `count` points, and of their memory.
+    pub fn let_go(&mut self, count: usize)
+        requires { count ≤ length self.old }
+        ensures { self.new ≡ drop count self.old }
     {
-        self.points.as_slice()
+        self.packed.let_go_before(count);
+    }
+
+    /// How many points there are.
+    pub fn len(&self) -> usize
+        ensures { result ≡ length self.now }
+    {
+        self.packed.len()
+    }
+
+    /// The point at a place, counted from 0.
+    pub fn get(&self, k: usize) -> Point
+        requires { k < length self.now }
+        ensures { slice_get self.now k ≡ Some result }
+    {
+        self.packed.get(k)
+    }
+
+    /// Puts `count` points from a place on in place of what the spread held.
+    pub fn copy_into(&self, from: usize, count: usize, into: &mut Spread)
+        requires inside { from + count ≤ length self.now }
+        requires few { count ≤ 64 }
+        ensures { into.new.items ≡ take count (drop from self.now) }
+    {
+        self.packed.copy_into(from, count, into);
     }
 }

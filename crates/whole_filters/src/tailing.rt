@@ -13,7 +13,7 @@ pub fn tail(views: &mut Views, count: u64)
     ensures { views.new ≡ whole_set (last_of count) views.old }
 {
     if views.cut {
-        *views = Views::none(views.alloc);
+        *views = views.like();
         views.set_cut();
         return;
     }

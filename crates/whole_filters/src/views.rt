@@ -1,18 +1,20 @@
 //! Held views.
 
-ghost use Rattle.std.specs.Prelude.{◌≡◌, ◌≤◌, ◌<◌, ◌++◌, ◌∷◌, [], length, slice_get, true, Some, OnOk, OnErr};
-ghost use Rattle.cloud_points.specs.Flows.{empty_flow, join};
-ghost use Rattle.whole_filters.specs.Held.{view_at};
+ghost use Rattle.std.specs.Prelude.{◌≡◌, ◌≤◌, ◌<◌, ◌++◌, ◌∷◌, [], take, length, slice_get, true, Some, OnOk, OnErr};
+ghost use Rattle.cloud_points.specs.Flows.{empty_flow, first_with, join, open_with};
+ghost use Rattle.whole_filters.specs.Held.{view_at, without_first};
 
 use crate::rows::Rows;
-use cloud_points::Point;
+use cloud_points::{Layout, Point};
 use std::alloc::{AllocError, Global};
 use std::marker::Model;
 
-/// Views of points that are held whole, and an open view behind them: the flow that came so far.
+/// Views of points that are held whole, and an open view behind them: the flow that came so far. The points stand in packed
+/// rows, so each takes the bytes of its dimensions alone.
 #[derive(Drop)]
 pub struct Views {
-    pub(crate) alloc: Global,
+    alloc: Global,
+    layout: Layout,
     pub(crate) complete: Vec<Rows>,
     pub(crate) last: Rows,
     pub(crate) cut: bool,
@@ -28,16 +30,25 @@ impl Model for Views {
 }
 
 impl Views {
-    /// No views, an open one without points, and not cut.
-    pub fn none(alloc: Global) -> Views
+    /// No views, an open one without points, and not cut. The layout should have the dimensions of the points that come: the
+    /// rows of a view to which a point with others comes are laid anew under a wider one.
+    pub fn none(alloc: Global, layout: &Layout) -> Views
         ensures { result ≡ empty_flow }
     {
         Views {
             alloc,
+            layout: *layout,
             complete: Vec::new(alloc),
-            last: Rows::none(alloc),
+            last: Rows::none(alloc, layout),
             cut: false,
         }
+    }
+
+    /// No views, for points of the same layout.
+    pub fn like(&self) -> Views
+        ensures { result ≡ empty_flow }
+    {
+        Views::none(self.alloc, &self.layout)
     }
 
     /// Puts a point at the end of the open view. It is refused for want of memory alone.
@@ -57,6 +68,26 @@ impl Views {
         self.last.push_all(points)
     }
 
+    /// Puts the points of another view at the end of the open view, all of them or none. It is refused for want of memory
+    /// alone.
+    pub fn push_view(&mut self, view: &Rows) -> Result<(), AllocError>
+        ensures ok { OnOk result (self.new ≡ record self.old { open_view = self.old.open_view ++ view.now }) }
+        ensures refused { OnErr result (self.new ≡ self.old) }
+    {
+        self.last.push_view(view)
+    }
+
+    /// Puts the first `count` points of another view at the end of the open view, all of them or none. It is refused for
+    /// want of memory alone.
+    pub fn push_first(&mut self, view: &Rows, count: usize) -> Result<(), AllocError>
+        requires { count ≤ length view.now }
+        ensures ok { OnOk result (self.new
+            ≡ record self.old { open_view = self.old.open_view ++ take count view.now }) }
+        ensures refused { OnErr result (self.new ≡ self.old) }
+    {
+        self.last.push_first(view, count)
+    }
+
     /// Ends the open view, which is then complete; the next one is open and empty. It is refused for want of memory alone.
     pub fn end_view(&mut self) -> Result<(), AllocError>
         ensures ok { OnOk result (self.new ≡ record self.old {
@@ -66,7 +97,8 @@ impl Views {
         ensures refused { OnErr result (self.new ≡ self.old) }
     {
         self.complete.reserve(1)?;
-        let ended = std::mem::replace(&mut self.last, Rows::none(self.alloc));
+        let next = Rows::none(self.alloc, &self.layout);
+        let ended = std::mem::replace(&mut self.last, next);
         self.complete.push_reserved(ended);
         Ok(())
     }
@@ -77,26 +109,37 @@ impl Views {
         ensures ok { OnOk result (self.new ≡ join self.old later) }
         ensures refused { OnErr result (self.new ≡ self.old) }
     {
-        let mut views = later.complete;
-        self.complete.reserve(views.len())?;
-        if views.is_empty() {
-            self.last.append(later.last)?;
-        } else {
-            self.last.append(views.remove(0))?;
-            let ended = std::mem::replace(&mut self.last, later.last);
-            self.complete.push_reserved(ended);
-            // Its room was made above.
-            self.complete.append(&mut views)?;
-        }
+        self.append_views(later.complete, later.last)?;
         self.cut = self.cut || later.cut;
         Ok(())
+    }
+
+    // Puts complete views and an open one behind these; the first of them goes on with the points of the open view here.
+    fn append_views(&mut self, views: Vec<Rows>, last: Rows) -> Result<(), AllocError>
+        ensures ok { OnOk result (self.new ≡ record self.old {
+          views = self.old.views ++ first_with self.old.open_view views.items;
+          open_view = open_with self.old.open_view views.items last;
+        }) }
+        ensures refused { OnErr result (self.new ≡ self.old) }
+    {
+        let mut views = views;
+        if views.is_empty() {
+            return self.last.append(last);
+        }
+        self.complete.reserve(views.len())?;
+        let first = views.remove(0);
+        self.last.append(first)?;
+        let ended = std::mem::replace(&mut self.last, last);
+        self.complete.push_reserved(ended);
+        // Its room was made above.
+        self.complete.append(&mut views)
     }
 
     /// Drops the points of the open view.
     pub(crate) fn drop_open(&mut self)
         ensures { self.new ≡ record self.old { open_view = [] } }
     {
-        self.last = Rows::none(self.alloc);
+        self.last = Rows::none(self.alloc, &self.layout);
     }
 
     /// Marks the views as cut off.
@@ -113,15 +156,28 @@ impl Views {
         self.complete.len()
     }
 
-    /// Lends the points of the view at a place.
-    pub fn view(&self, v: usize) -> &[Point]
+    /// Lends the view at a place.
+    pub fn view(&self, v: usize) -> &Rows
         requires { v ≤ length self.now.views }
         ensures { result.now ≡ view_at self.now v }
     {
         if v < self.complete.len() {
-            self.complete[v].as_slice()
+            &self.complete[v]
         } else {
-            self.last.as_slice()
+            &self.last
+        }
+    }
+
+    /// Lets go of the first `count` points of the view at place v, and of their memory.
+    pub fn let_go(&mut self, v: usize, count: usize)
+        requires view { v ≤ length self.old.views }
+        requires inside { count ≤ length (view_at self.old v) }
+        ensures { self.new ≡ without_first v count self.old }
+    {
+        if v < self.complete.len() {
+            self.complete[v].let_go(count);
+        } else {
+            self.last.let_go(count);
         }
     }
 
@@ -139,7 +195,7 @@ impl Views {
         requires place { k < length (view_at self.now v) }
         ensures { slice_get (view_at self.now v) k ≡ Some result }
     {
-        self.view(v)[k]
+        self.view(v).get(k)
     }
 
     /// Whether the views are cut off.

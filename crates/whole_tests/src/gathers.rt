@@ -3,7 +3,7 @@
 ghost use Rattle.std.specs.Prelude.{◌≡◌, [], OnOk};
 
 use crate::views::are_told;
-use cloud_points::{Dim, Point};
+use cloud_points::{Dim, Layout, Point};
 use std::alloc::{AllocError, Global};
 use whole_filters::{Gathering, Views, gather};
 
@@ -70,8 +70,22 @@ fn hold(held: &mut Views, view: &[(i64, i64)]) -> Result<(), AllocError>
     held.end_view()
 }
 
-fn gathered(alloc: Global, views: Held, how: Gathering) -> Result<Views, AllocError> {
-    let mut held = Views::none(alloc);
+/// A layout with these dimensions.
+fn layout_of(dims: &[Dim]) -> Layout {
+    let mut layout = Layout::none();
+    for dim in dims {
+        layout.add(*dim);
+    }
+    layout
+}
+
+fn gathered(
+    alloc: Global,
+    layout: &Layout,
+    views: Held,
+    how: Gathering,
+) -> Result<Views, AllocError> {
+    let mut held = Views::none(alloc, layout);
     for view in views {
         hold(&mut held, view)?;
     }
@@ -80,15 +94,18 @@ fn gathered(alloc: Global, views: Held, how: Gathering) -> Result<Views, AllocEr
 
 #[test]
 fn views_are_gathered(rt: HostRuntime) -> Result<(), AllocError> {
-    for (views, how, told) in ROWS {
-        let held = gathered(rt.alloc(), views, how)?;
-        assert!(rt; are_told(&held, told), "{how:?} {told:?}");
+    // Of the second layout the rows are laid anew under a wider one.
+    for layout in [layout_of(&[Dim::X, Dim::Z]), layout_of(&[Dim::X])] {
+        for (views, how, told) in ROWS {
+            let held = gathered(rt.alloc(), &layout, views, how)?;
+            assert!(rt; are_told(&held, told), "{how:?} {told:?}");
+        }
     }
     Ok(())
 }
 
 fn by_time(alloc: Global, down: bool) -> Result<Views, AllocError> {
-    let mut held = Views::none(alloc);
+    let mut held = Views::none(alloc, &layout_of(&[Dim::X, Dim::GpsTime]));
     for (x, word) in TIMES {
         let mut point = Point::zero();
         (point.x, point.gps_time) = (x, word);
@@ -108,7 +125,7 @@ fn times_stand_in_the_order_of_their_words(rt: HostRuntime) -> Result<(), AllocE
 }
 
 fn of_cut(alloc: Global, how: Gathering) -> Result<Views, AllocError> {
-    let mut held = Views::none(alloc);
+    let mut held = Views::none(alloc, &layout_of(&[Dim::X, Dim::Z]));
     hold(&mut held, &BOTH)?;
     held.push(&Point::zero())?;
     held.set_cut();

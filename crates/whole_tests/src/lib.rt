@@ -4,4 +4,6 @@
 #[cfg(test)]
 mod gathers;
 #[cfg(test)]
+mod layouts;
+#[cfg(test)]
 mod views;

@@ -2,7 +2,7 @@ use Rattle.std.proofs.Common.{List, map, length, Ok, Err, OnErr, ap, sym, subst,
 use Rattle.network_core.specs.declared.node.Node.{Node}
 use Rattle.network_core.specs.Shown.{work_of}
 use Rattle.stage_kinds.specs.Held.{faults_of}
-use Rattle.stage_runs.specs.Parts.{AreLater as AreLaterNodes}
+use Rattle.stage_runs.specs.Parts.{AreLaterNodes}
 use Rattle.stage_runs.specs.Ran.{AreRanStages}
 use Rattle.stage_runs.specs.Short.{SomeGathers}
 use Rattle.stage_runs.proofs.Lending.{slice-back}

@@ -83,7 +83,7 @@ loop-reader-preserved g c =
     let reader-here = get_or_from_slice_get c.args.readers.items c.loop-reader.at c.in-Some.reader None p.0 in
     let form-there = sym (now.left_forms c.loop-reader.at (omega arith)) ∙ slice_get_read c.loop-reader.forms.items (length c.loop-reader.forms.items) c.loop-reader.at c.index_mut.result.now refl
     (let a = n.0 in let b = c.requires.count in let d = now.forms in omega (arith, a, b, d)) c.index_mut.ensures.value in
-    let form-here = c.replace-form.ensures.value ∙ sym (get_or_from_slice_get c.args.forms.items c.loop-reader.at c.index_mut.result.now Reads form-there) in
+    let form-here = c.replace-form.ensures.value ∙ sym (get_or_from_slice_get c.args.bound.forms.items c.loop-reader.at c.index_mut.result.now Reads form-there) in
     let one = subst (λ f. IsWork g.F.In.Source g.F.Out.Sink (files.map c.args.files.now) c.loop-reader.at o (slice_index_or c.args.readers.items c.loop-reader.at None) f c.in-Ok-begin_work.work) form-here
     (subst (λ r. IsWork g.F.In.Source g.F.Out.Sink (files.map c.args.files.now) c.loop-reader.at o r c.replace-form.result c.in-Ok-begin_work.work) (sym reader-here)
     (subst (λ x. IsWork g.F.In.Source g.F.Out.Sink (files.map c.args.files.now) c.loop-reader.at x c.in-Some.reader c.replace-form.result c.in-Ok-begin_work.work) (ap (λ (s : StageSpec). s.options) (sym (stage-is c.args.stages.now c.loop-reader.at c.index-stages-at.result at)))
@@ -93,7 +93,7 @@ loop-reader-preserved g c =
     record {
       left = p.1;
       count = n.1;
-      begun = λ i w e. each-push (λ j v. IsWork g.F.In.Source g.F.Out.Sink (files.map c.args.files.now) j (options_at c.args.stages.now j) (slice_index_or c.args.readers.items j None) (slice_index_or c.args.forms.items j Reads) v) c.loop-reader.works.items c.in-Ok-begin_work.work c.loop-reader.at size now.begun one i w (ap (λ xs. slice_get xs i) (sym pushed) ∙ e);
+      begun = λ i w e. each-push (λ j v. IsWork g.F.In.Source g.F.Out.Sink (files.map c.args.files.now) j (options_at c.args.stages.now j) (slice_index_or c.args.readers.items j None) (slice_index_or c.args.bound.forms.items j Reads) v) c.loop-reader.works.items c.in-Ok-begin_work.work c.loop-reader.at size now.begun one i w (ap (λ xs. slice_get xs i) (sym pushed) ∙ e);
       forms = length-set c.loop-reader.forms.items c.loop-reader.at c.replace-form.new.dest ∙ now.forms;
       left_forms = λ j le. slice_get-set_other c.loop-reader.forms.items c.loop-reader.at j c.replace-form.new.dest (λ e. absurd (omega (arith, le, e))) ∙ now.left_forms j (omega (arith, le));
       works = (let a = c.push_reserved.ensures.len in let b = now.works in omega (arith, a, b));

@@ -10,9 +10,9 @@ invariant-loop-reader g l =
     record {
       left : reverse l.readers.items ≡ drop l.at l.fn.readers.items;
       count : l.at + vec_len l.readers ≡ length l.fn.readers.items;
-      begun : AreBegun g.F.In.Source g.F.Out.Sink (files.map l.fn.files) l.stages l.fn.readers.items l.fn.forms.items l.works.items;
+      begun : AreBegun g.F.In.Source g.F.Out.Sink (files.map l.fn.files) l.stages l.fn.readers.items l.fn.bound.forms.items l.works.items;
       forms : length l.forms.items ≡ length l.stages;
-      left_forms : (j : ℕ) → l.at ≤ j → slice_get l.forms.items j ≡ slice_get l.fn.forms.items j;
+      left_forms : (j : ℕ) → l.at ≤ j → slice_get l.forms.items j ≡ slice_get l.fn.bound.forms.items j;
       works : vec_len l.works ≡ l.at;
       room : length l.stages ≤ vec_capacity l.works;
       map : files.map l.files ≡ files.map l.fn.files;

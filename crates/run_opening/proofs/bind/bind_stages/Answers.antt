@@ -93,6 +93,8 @@ loop-i-preserved g c =
           (subst (λ v. All (λ m. m < length readers) v.items) (sym done.readers) c.in-Ok-next_below.ensures.inside) k x (ap (λ xs. slice_get xs k) (sym belows_are) ∙ e);
       count = (let a = c.push_reserved.ensures.len in let n = now.count in omega (arith, a, n));
       belows_count = (let a = c.push_reserved-in-loop-i.ensures.len in let n = now.belows_count in omega (arith, a, n));
+      layouts_count = (let a = c.push_reserved-in-loop-i-2.ensures.len in let n = now.layouts_count in omega (arith, a, n));
+      layouts_room = (let a = c.push_reserved-in-loop-i-2.ensures.capacity in let n = now.layouts_room in omega (arith, a, n));
       room = (let a = c.push_reserved.ensures.capacity in let n = now.room in omega (arith, a, n));
       belows_room = (let a = c.push_reserved-in-loop-i.ensures.capacity in let n = now.belows_room in omega (arith, a, n));
     }

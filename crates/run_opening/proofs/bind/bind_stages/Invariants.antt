@@ -16,5 +16,7 @@ invariant-loop-i g l = record {
   count : vec_len l.forms ≡ l.i;
   belows_count : vec_len l.belows ≡ l.i;
   room : length l.stages ≤ vec_capacity l.forms;
+  layouts_count : vec_len l.layouts ≡ l.i;
+  layouts_room : length l.stages ≤ vec_capacity l.layouts;
   belows_room : length l.stages ≤ vec_capacity l.belows;
 }

@@ -37,7 +37,7 @@ returns-clause-ready g c =
     let files = g.F.Files in
     let stages = c.args.stages.now in
     let readers = c.in_ok-readers.readers.items in
-    let forms = c.in-Ok.forms.items in
+    let forms = c.in-Ok.bound.forms.items in
     if-ok2 c.begin_works.result c.begin_works.ensures.ok c.begin_works.ensures.count (λ works begun count.
     are-ready g.F.In.Source g.F.Out.Sink (files.map c.args.files.now) stages readers forms works.items count c.in_ok-readers.ensures.count c.in-Ok.ensures.count
     (subst (λ rs. AreForms stages rs forms) c.as_slice.ensures.value c.in-Ok.ensures.forms) c.in_ok-readers.ensures.ok

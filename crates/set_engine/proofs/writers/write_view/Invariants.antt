@@ -6,13 +6,12 @@ use Rattle.stage_kinds.specs.Stages.{first_stop, holds_chosen, only_of, writes_o
 use Rattle.set_engine.proofs.writers.write_view.Given as goal
 
 -- the points before this one were taken
-abbrev pub invariant-loop-p : goal.invariant-loop-p
-invariant-loop-p g l =
+abbrev pub invariant-loop-k : goal.invariant-loop-k
+invariant-loop-k g l =
     let sink = g.K.Sink in
-    let before = take l.p-index l.view in
+    let before = take l.k l.view in
     record {
-      place : l.place ≡ l.p-index;
-      number : l.number ≡ up_to_limit (l.before + l.p-index);
+      number : l.number ≡ up_to_limit (l.before + l.k);
       form : writes_of l.writer ≡ writes_of l.fn.writer;
       none : (k : ℕ) → count_of l.fn.writer.file ≡ up_to_limit k → first_stop (writes_of l.fn.writer) (up_to_limit k) before ≡ None;
       count : (k : ℕ) → count_of l.fn.writer.file ≡ up_to_limit k → count_of l.writer.file ≡ up_to_limit (k + length (chosen (only_of l.fn.writer) before));

@@ -5,7 +5,7 @@ use Rattle.network_solo.specs.Trees.{IsRanTree}
 use Rattle.network_theory.specs.Forest.{IsForest, children}
 use Rattle.network_theory.specs.Opening.{IsFresh}
 use Rattle.stage_runs.specs.Works.{as_works}
-use Rattle.stage_runs.specs.Parts.{AreLater}
+use Rattle.stage_runs.specs.Parts.{AreLaterNodes}
 use Rattle.stage_runs.proofs.Later.{only-one, alone-forest, alone-fresh}
 use Rattle.stage_runs.proofs.nets.run_alone.Goals as goal
 
@@ -33,7 +33,7 @@ returns-clause-later g c =
     let one : c.push_reserved-2.new.self.items ≡ c.args.node ∷ [] = c.push_reserved-2.ensures.items ∙ ap (λ (xs : List (Node _)). xs ++ c.args.node ∷ []) c.in-Ok-with_capacity.ensures.items in
     let size = ap (λ (ns : List (Node _)). length ns) one in
     let back : c.run_net-nodes.result.nodes.items ≡ c.in-Some.node ∷ [] = only-one c.pop.new.self.items c.run_net-nodes.result.nodes.items c.in-Some.node c.in-Some.ensures.items (c.run_net-nodes.ensures.later.count ∙ size) in
-    let later = subst (λ (ns : List (Node _)). AreLater g.S.Source g.K.Sink (c.args.node ∷ []) ns) back (subst (λ (ns : List (Node _)). AreLater g.S.Source g.K.Sink ns c.run_net-nodes.result.nodes.items) one c.run_net-nodes.ensures.later) in
+    let later = subst (λ (ns : List (Node _)). AreLaterNodes g.S.Source g.K.Sink (c.args.node ∷ []) ns) back (subst (λ (ns : List (Node _)). AreLaterNodes g.S.Source g.K.Sink ns c.run_net-nodes.result.nodes.items) one c.run_net-nodes.ensures.later) in
     later.each 0 c.args.node c.in-Some.node refl refl
 
 pub returns-clause-ran : goal.returns-clause-ran

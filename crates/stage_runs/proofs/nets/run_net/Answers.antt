@@ -5,7 +5,7 @@ use Rattle.network_solo.specs.Trees.{AreFresh, IsRanTree}
 use Rattle.network_theory.specs.Forest.{children}
 use Rattle.network_theory.specs.Opening.{IsFresh}
 use Rattle.stage_runs.specs.Works.{as_works}
-use Rattle.stage_runs.specs.Parts.{AreLater}
+use Rattle.stage_runs.specs.Parts.{AreLaterNodes}
 use Rattle.stage_runs.proofs.Later.{ran-later, not-short}
 use Rattle.stage_runs.proofs.Short.{is-short, short-ran}
 use Rattle.stage_runs.proofs.nets.run_net.Goals as goal
@@ -14,7 +14,7 @@ pub run-requires-clause-fresh : goal.run-requires-clause-fresh
 run-requires-clause-fresh g c = subst (AreFresh (as_works g.S.Source g.K.Sink) c.args.ins) (sym c.new.ensures) c.requires.fresh
 
 pub returns-clause-later : goal.returns-clause-later
-returns-clause-later g c = subst (AreLater g.S.Source g.K.Sink c.args.nodes.items) (sym c.into_vec-nodes.ensures)
+returns-clause-later g c = subst (AreLaterNodes g.S.Source g.K.Sink c.args.nodes.items) (sym c.into_vec-nodes.ensures)
     (ran-later g.S.Source g.K.Sink c.args.ins c.args.nodes.items c.run.result c.requires.fresh
     (subst (λ (ns : List (Node _)). IsRanTree (as_works g.S.Source g.K.Sink) c.args.ins ns c.run.result) c.new.ensures c.run.ensures.ran))
 

@@ -3,7 +3,7 @@ use Rattle.network_core.specs.declared.node.Node.{Node}
 use Rattle.network_solo.specs.Trees.{IsRanTree}
 use Rattle.stage_kinds.specs.Held.{op_of}
 use Rattle.stage_runs.specs.Works.{as_works}
-use Rattle.stage_runs.specs.Parts.{IsLater, IsLeafRun, IsNewLeaf, AreSameOrLater}
+use Rattle.stage_runs.specs.Parts.{IsLaterNode, IsLeafRun, IsNewLeaf, AreSameOrLater}
 use Rattle.stage_runs.proofs.Answered.{on-ok}
 use Rattle.stage_runs.proofs.Gathered.{here, stand-in-op, lent-later, lent-run}
 use Rattle.stage_runs.proofs.parts.run_leaf.Goals as goal
@@ -27,7 +27,7 @@ returns-clause-later g c =
     subst (λ x. AreSameOrLater g.S.Source g.K.Sink nodes (slice_set (slice_set nodes c.args.at x) c.args.at c.replace.new.dest)) (sym c.replace-node.ensures.after)
     (subst (λ x. AreSameOrLater g.S.Source g.K.Sink nodes (slice_set (slice_set nodes c.args.at c.stand_in-empty.result) c.args.at x)) (sym c.replace.ensures.after)
     (lent-later g.S.Source g.K.Sink nodes c.args.at c.requires.inside n c.index-nodes-at.is c.stand_in-empty.result c.stand_in-empty.ensures.leaf c.run_alone-node.result.node
-    (subst (λ x. IsLater g.S.Source g.K.Sink x c.run_alone-node.result.node) (c.replace-node.ensures.value ∙ sym c.index-nodes-at.is) c.run_alone-node.ensures.later)))
+    (subst (λ x. IsLaterNode g.S.Source g.K.Sink x c.run_alone-node.result.node) (c.replace-node.ensures.value ∙ sym c.index-nodes-at.is) c.run_alone-node.ensures.later)))
 
 pub returns-clause-run : goal.returns-clause-run
 returns-clause-run g c =

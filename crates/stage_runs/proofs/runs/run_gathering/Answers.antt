@@ -2,7 +2,7 @@ use Rattle.std.proofs.Common.{◌≡◌, ◌+◌, ◌<◌, length, refl, ap, sym
 use Rattle.network_theory.specs.Opening.{IsFresh}
 use Rattle.network_core.specs.Shown.{shown}
 use Rattle.stage_runs.specs.Works.{as_works, ins_of}
-use Rattle.stage_runs.specs.Parts.{AreLater, AreRunBefore, AreTurned}
+use Rattle.stage_runs.specs.Parts.{AreLaterNodes, AreRunBefore, AreTurned}
 use Rattle.stage_runs.proofs.Answered.{always-on-err}
 use Rattle.stage_runs.proofs.Forests.{children-are}
 use Rattle.stage_runs.proofs.Later.{same-later, step-later}
@@ -131,12 +131,12 @@ loop-at-preserved g c =
     let now = c.loop-at.nodes in
     let at = c.loop-at.at in
     elim c.if-index.branch [
-      | then-index+in_ok-room+in_ok-run_part+in_ok-gather_at w ↦ subst (λ ns. record { later : AreLater s k old ns; done : AreRunBefore s k stages homes old (at + 1) ns; turned : AreTurned s k stages homes old besides (at + 1) ns }) (sym w.nodes-is) (record {
+      | then-index+in_ok-room+in_ok-run_part+in_ok-gather_at w ↦ subst (λ ns. record { later : AreLaterNodes s k old ns; done : AreRunBefore s k stages homes old (at + 1) ns; turned : AreTurned s k stages homes old besides (at + 1) ns }) (sym w.nodes-is) (record {
         later = step-later s k old w.run_part.new.nodes w.gather_at.new.nodes (step-later s k old now w.run_part.new.nodes c.loop-at.invariant.later w.run_part.ensures.later) w.gather_at.ensures.later;
         done = taken-turn g.S.Source g.K.Sink c.args.stages.now c.requires.tree c.requires.new c.args.plan.now c.requires.gathers c.requires.ins c.requires.homes (g.T.Scheduler.besides c.args.sizes.queue) c.loop-at.at c.loop-at.invariant.later c.loop-at.invariant.done c.loop-at-test.true c.index.ensures w.if-index.true w.in_ok-run_part.ensures.run w.in_ok-gather_at.ensures.gathered;
         turned = turned-on g.S.Source g.K.Sink c.args.stages.now c.requires.tree c.requires.new c.args.plan.now c.requires.gathers c.requires.ins c.requires.homes (g.T.Scheduler.besides c.args.sizes.queue) c.loop-at.at c.loop-at.invariant.later c.loop-at.invariant.done c.loop-at-test.true c.index.ensures w.if-index.true w.in_ok-run_part.ensures.run w.in_ok-gather_at.ensures.gathered c.loop-at.invariant.turned;
       })
-      | else-index w ↦ subst (λ ns. record { later : AreLater s k old ns; done : AreRunBefore s k stages homes old (at + 1) ns; turned : AreTurned s k stages homes old besides (at + 1) ns }) (sym w.nodes-is) (record {
+      | else-index w ↦ subst (λ ns. record { later : AreLaterNodes s k old ns; done : AreRunBefore s k stages homes old (at + 1) ns; turned : AreTurned s k stages homes old besides (at + 1) ns }) (sym w.nodes-is) (record {
         later = c.loop-at.invariant.later;
         done = skipped g.S.Source g.K.Sink c.args.stages.now c.requires.tree c.requires.new c.args.plan.now c.requires.gathers c.requires.ins c.requires.homes (g.T.Scheduler.besides c.args.sizes.queue) c.loop-at.at c.loop-at.invariant.later c.loop-at.invariant.done c.loop-at-test.true c.index.ensures w.if-index.false;
         turned = turned-over g.S.Source g.K.Sink c.args.stages.now c.requires.tree c.requires.new c.args.plan.now c.requires.gathers c.requires.ins c.requires.homes (g.T.Scheduler.besides c.args.sizes.queue) c.loop-at.at c.loop-at.invariant.later c.loop-at.invariant.done c.loop-at-test.true c.index.ensures w.if-index.false c.loop-at.invariant.turned;

@@ -1,5 +1,6 @@
-use Rattle.std.proofs.Common.{◌≡◌, length, get_or, ◌<◌, refl, sym, ◌∙◌, arith}
+use Rattle.std.proofs.Common.{◌≡◌, length, get_or, ◌<◌, refl, ap, sym, ◌∙◌, arith}
 use Rattle.std.proofs.lemmas.List.{same_lists, length-map, get_or-map, get_or_default, length-set}
+use Rattle.std.proofs.lemmas.List.Edits.{length-swap}
 use Rattle.whole_filters.proofs.Moving.{inverse_next, here_next, left_next}
 use Rattle.whole_filters.proofs.places.arrange.Goals as goal
 
@@ -17,12 +18,12 @@ loop-place-preserved c =
     let all : length i.sources ≡ length i.points = omega (arith, i.invariant.sources_kept, c.requires.each_point, i.invariant.points_kept) in
     record {
       inverse = inverse_next i.sources i.targets i.place _ _ inside refl refl i.invariant.inverse;
-      points_kept = omega (arith, c.swap.ensures.len, i.invariant.points_kept);
+      points_kept = ap length c.swap.ensures ∙ length-swap i.points i.place (get_or i.sources i.place 0) ∙ i.invariant.points_kept;
       sources_kept = omega (arith, length-set i.sources (get_or i.targets i.place 0) (get_or i.sources i.place 0), i.invariant.sources_kept);
       here = λ k d l. here_next i.sources i.targets i.place _ _ inside refl refl i.invariant.inverse.here i.invariant.inverse.there
-          i.points c.swap.new.self d (λ j. get_or c.args.points.now (get_or c.args.sources.now j 0) d) all c.swap.ensures.after
+          i.points c.swap.new.self d (λ j. get_or c.args.points.now (get_or c.args.sources.now j 0) d) all c.swap.ensures
           (λ j a b. i.invariant.left j d a (omega (arith, b, i.invariant.points_kept))) (λ j b. i.invariant.here j d b) k l;
       left = λ k d a b. left_next i.sources i.targets i.place _ _ inside refl refl i.invariant.inverse.here i.invariant.inverse.there
-          i.points c.swap.new.self d (λ j. get_or c.args.points.now (get_or c.args.sources.now j 0) d) all c.swap.ensures.after
+          i.points c.swap.new.self d (λ j. get_or c.args.points.now (get_or c.args.sources.now j 0) d) all c.swap.ensures
           (λ j a b. i.invariant.left j d a (omega (arith, b, i.invariant.points_kept))) k a (omega (arith, b, i.invariant.points_kept));
     }

@@ -1,0 +1,15 @@
+pub mod Sizes
+pub mod Groups
+pub mod Widths
+pub mod Reading
+pub mod Returning
+pub mod Within
+pub mod Fronts
+pub mod CellByCell
+pub mod Listed
+pub mod Standing
+pub mod Growing
+pub mod Moving
+pub mod Wider
+pub mod Behind
+pub mod Exchanging

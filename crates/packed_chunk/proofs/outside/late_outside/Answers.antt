@@ -1,0 +1,24 @@
+use Rattle.std.proofs.Common.{◌∙◌}
+use Rattle.packed_chunk.proofs.outside.late_outside.Goals as goal
+
+pub returns : goal.returns
+returns c = λ none.
+    let none4 = c.find-5.ensures.before none in
+    let none3 = c.find-4.ensures.before none4 in
+    let none2 = c.find-3.ensures.before none3 in
+    let none1 = c.find-2.ensures.before none2 in (
+      λ lacks. c.find.ensures.here none1 (c.has.ensures ∙ lacks),
+      (
+        λ lacks. c.find-2.ensures.here none2 (c.has-2.ensures ∙ lacks),
+        (
+          λ lacks. c.find-3.ensures.here none3 (c.has-3.ensures ∙ lacks),
+          (
+            λ lacks. c.find-4.ensures.here none4 (c.has-4.ensures ∙ lacks),
+            (
+              λ lacks. c.find-5.ensures.here none (c.has-5.ensures ∙ lacks),
+              tt,
+            ),
+          ),
+        ),
+      ),
+    )
