@@ -15,7 +15,7 @@ mod shape;
 pub use area::Area;
 pub use boxes::in_box;
 pub use discs::{Disc, in_disc};
-pub use intervals::in_interval;
+pub use intervals::{Ends, in_interval};
 pub use laws::{rectangles_are_boxes, rings_are_round, rings_lie_in_their_extent};
 pub use limits::{Limit, Limits};
 pub use polygons::in_polygon;

@@ -1,10 +1,11 @@
 //! Limits of dimensions.
 
-ghost use Rattle.std.specs.Prelude.{◌≡◌, ◌||◌};
+ghost use Rattle.std.specs.Prelude.{◌≡◌, ◌||◌, IfSome};
 ghost use Rattle.std.specs.List.{list_all};
 ghost use Rattle.cloud_points.specs.Layouts.{holds};
 ghost use Rattle.cloud_points.specs.declared.dims.Dim.{Dim as Dimension};
 ghost use Rattle.cloud_points.specs.Points.{get};
+ghost use Rattle.cloud_points.specs.declared.point.Point.{Point as PointSeen};
 ghost use Rattle.geo_tests.specs.Limits.{is_within, one_holds, in_limits};
 ghost use Rattle.geo_tests.specs.Tests.{in_interval};
 
@@ -88,11 +89,29 @@ impl Limits {
         Limits { items }
     }
 
+    /// These limits, in their order.
+    pub fn as_slice(&self) -> &[Limit]
+        ensures { result.now ≡ self.now }
+    {
+        self.items.as_slice()
+    }
+
+    /// The limit of which a point is to be within, where there is no other.
+    pub fn alone(&self) -> Option<Limit>
+        ensures { IfSome result (λ limit. (p : PointSeen)
+            → in_limits p self.now ≡ in_interval (get p limit.dim) limit.interval) }
+    {
+        match self.as_slice() {
+            [limit] => Some(*limit),
+            _ => None,
+        }
+    }
+
     /// Whether a point is within them: of each dimension that is named one of its limits holds.
     pub fn hold(&self, p: &Point) -> bool
         ensures { result ≡ in_limits p.now self.now }
     {
-        match self.items.as_slice() {
+        match self.as_slice() {
             // Most ranges name one, which needs no set.
             [limit] => limit.holds(p),
             limits => has_all(limits, &dims_within(limits, p)),

@@ -1,3 +1,4 @@
 pub mod Moving
 pub mod Judging
 pub mod Places
+pub mod Marking

@@ -1,14 +1,16 @@
-//! The one loop of all filters.
+//! How filters judge the points of a chunk.
 
-ghost use Rattle.std.specs.Prelude.{◌≡◌, ◌≤◌, ◌<◌, ◌+◌, ◌++◌, if◌then◌else◌, [], ◌∷◌, List, Some, None, Ok, Err, OnOk, OnErr, IfOk, IfErr, take, drop, length};
+ghost use Rattle.std.specs.Prelude.{◌≡◌, ◌≤◌, ◌<◌, ◌+◌, ◌++◌, if◌then◌else◌, [], ◌∷◌, List, Some, None, Ok, Err, OnOk, OnErr, IfOk, IfErr, IfSome, take, drop, length};
 ghost use Rattle.std.specs.List.{cons_option};
 ghost use Rattle.cloud_points.specs.declared.point.Point.{Point};
 ghost use Rattle.stage_meanings.specs.Conditions.{passes};
 ghost use Rattle.stage_meanings.specs.Filters.{keeps, fault_at};
-ghost use Rattle.stage_meanings.specs.ByRule.{judged, steps_of};
+ghost use Rattle.stage_meanings.specs.ByRule.{judged, steps_of, spot_past, IsWithin};
 ghost use Rattle.stage_meanings.specs.Steps.{given, reached, stopped};
+ghost use Rattle.stream_filters.specs.Masks.{IsMaskOf};
 
 use crate::PointRule;
+use crate::masks::keep_marked;
 use crate::rules::passes;
 use cloud_points::{Point, StageFault};
 use expr_eval::Bound;
@@ -69,7 +71,7 @@ fn judge_point<R: PointRule>(
 }
 
 /// Moves the point down behind those that are kept, if it goes on, and answers how many are kept then.
-fn move_down(points: &mut [Point], kept: usize, at: usize, goes: bool) -> usize
+pub(crate) fn move_down(points: &mut [Point], kept: usize, at: usize, goes: bool) -> usize
     requires below { kept ≤ at }
     requires there { at < length points.old }
     ensures kept { (p : Point) → (rest : List Point) → drop at points.old ≡ p ∷ rest → take result points.new
@@ -89,7 +91,7 @@ fn move_down(points: &mut [Point], kept: usize, at: usize, goes: bool) -> usize
 
 /// Judges the points one after the other, up to the first fault. Those that go on come to stand first; answered are how many
 /// they are, and the fault.
-pub(crate) fn judge_each<R: PointRule>(
+fn judge_each<R: PointRule>(
     rule: &R,
     only: &Option<Bound>,
     spot: &mut Spot,
@@ -108,4 +110,48 @@ pub(crate) fn judge_each<R: PointRule>(
         }
     }
     (kept, None)
+}
+
+/// The mask of the points that go on, where all pass and the rule only tests each by itself.
+fn mask_by<R: PointRule>(rule: &R, only: &Option<Bound>, points: &[Point]) -> Option<u64>
+    requires { length points.now ≤ 64 }
+    ensures all_pass { IfSome result (λ mask. only.now ≡ None) }
+    ensures mask { IfSome result (λ mask. IsMaskOf (R.rule rule.now) mask points.now) }
+{
+    match only {
+        Some(_) => None,
+        None => rule.mask(points),
+    }
+}
+
+/// Goes on behind so many points, which all pass.
+fn pass_all(spot: &mut Spot, points: usize)
+    ensures past { spot.new ≡ spot_past points points spot.old }
+    ensures within { IsWithin spot.old }
+{
+    spot.number = spot.number.saturating_add(points as u64);
+    spot.place = spot.place.saturating_add(points as u64);
+}
+
+/// Judges the points, at most 64, up to the first fault: at once where they need no more than a test, and else one after the other.
+/// Those that go on come to stand first; answered are how many they are, and the fault.
+pub(crate) fn judge_chunk<R: PointRule>(
+    rule: &R,
+    only: &Option<Bound>,
+    spot: &mut Spot,
+    points: &mut [Point],
+) -> (usize, Option<StageFault>)
+    requires { length points.old ≤ 64 }
+    ensures gives { take result.0 points.new
+        ≡ given (steps_of (R.rule rule.now) (passes only.now)) spot.old points.old }
+    ensures reaches { spot.new ≡ reached (steps_of (R.rule rule.now) (passes only.now)) spot.old points.old }
+    ensures stops { result.1 ≡ stopped (steps_of (R.rule rule.now) (passes only.now)) spot.old points.old }
+{
+    match mask_by(rule, only, points) {
+        Some(mask) => {
+            pass_all(spot, points.len());
+            (keep_marked(points, mask), None)
+        }
+        None => judge_each(rule, only, spot, points),
+    }
 }

@@ -3,7 +3,9 @@
 
 mod filter;
 mod judge;
+mod masks;
 mod point_filter;
+mod ranges;
 mod rules;
 mod writer_where;
 

@@ -6,7 +6,7 @@ ghost use Rattle.stage_meanings.specs.ByRule.{rule_meaning, spot_anew, spot_at};
 ghost use Rattle.stage_meanings.specs.Conditions.{passes};
 
 use crate::PointRule;
-use crate::judge::judge_each;
+use crate::judge::judge_chunk;
 use cloud_points::{Spread, StageFault};
 use expr_eval::Bound;
 use stage_meanings::Spot;
@@ -58,7 +58,7 @@ impl<R: PointRule> PointFilter<R> {
         ensures no_device { is_device result ≡ false }
         ensures unnamed { IsOf None result }
     {
-        let (kept, fault) = judge_each(
+        let (kept, fault) = judge_chunk(
             &self.rule,
             &self.only,
             &mut self.spot,

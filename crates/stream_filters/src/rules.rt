@@ -1,12 +1,15 @@
 //! What a filter does with a point that passes its `where`.
 
-ghost use Rattle.std.specs.Prelude.{◌≡◌, ℕ, Result, Ok, Err, OnOk, IfOk, IfErr};
+ghost use Rattle.std.specs.Prelude.{◌≡◌, ◌≤◌, ℕ, Result, Ok, Err, OnOk, IfOk, IfErr, IfSome, length};
 ghost use Rattle.stage_meanings.specs.Filters.{Rule, keeps};
 ghost use Rattle.stage_meanings.specs.ByRule.{judged};
 ghost use Rattle.geo_tests.specs.Tests.{different};
 ghost use Rattle.stage_meanings.specs.Conditions.{passes};
 ghost use Rattle.stage_meanings.specs.Rules.{is_below, is_step, is_grouped, put, assigned};
+ghost use Rattle.stream_filters.specs.Masks.{IsMaskOf};
 
+use crate::masks::{PointTest, mask_of};
+use crate::ranges::mask_of_limit;
 use cloud_points::{Dim, Point};
 use expr_eval::{Assignment, Assignments, Bound, holds, value};
 use geo_tests::{Limits, Shape};
@@ -24,6 +27,15 @@ pub trait PointRule {
     fn judge(&self, place: u64, p: &mut Point) -> Result<bool, Reason>
         ensures ok { IfOk result (λ goes. judged (rule self.now) place p.old ≡ Ok (keeps goes p.new)) }
         ensures refused { IfErr result (λ r. judged (rule self.now) place p.old ≡ Err r) };
+
+    /// Of at most 64 points those that go on, as a mask whose lowest bit is the first one's, where the rule only tests each by
+    /// itself. None where they are to be judged one after the other.
+    fn mask(&self, points: &[Point]) -> Option<u64>
+        requires { length points.now ≤ 64 }
+        ensures { IfSome result (λ mask. IsMaskOf (rule self.now) mask points.now) }
+    {
+        None
+    }
 }
 
 /// The first points of each view go on.
@@ -98,6 +110,14 @@ fn is_grouped(groups: &Groups, n: u8, r: u8) -> bool
     (groups.first && r == 1) || (groups.last && r == n) || (groups.intermediate && 1 < r && r < n)
 }
 
+impl PointTest for Groups {
+    ghost test = { λ groups p. is_grouped groups p.number_of_returns p.return_number };
+
+    fn holds(&self, p: &Point) -> bool {
+        is_grouped(self, p.number_of_returns, p.return_number)
+    }
+}
+
 /// The returns of these groups go on.
 impl PointRule for Groups {
     ghost use Rattle.stage_meanings.specs.Rules.{returns};
@@ -105,7 +125,21 @@ impl PointRule for Groups {
     ghost rule = { λ groups. returns groups };
 
     fn judge(&self, _place: u64, p: &mut Point) -> Result<bool, Reason> {
-        Ok(is_grouped(self, p.number_of_returns, p.return_number))
+        Ok(self.holds(p))
+    }
+
+    fn mask(&self, points: &[Point]) -> Option<u64> {
+        Some(mask_of(self, points))
+    }
+}
+
+impl PointTest for Limits {
+    ghost use Rattle.geo_tests.specs.Limits.{in_limits};
+
+    ghost test = { λ limits p. in_limits p limits };
+
+    fn holds(&self, p: &Point) -> bool {
+        self.hold(p)
     }
 }
 
@@ -116,7 +150,14 @@ impl PointRule for Limits {
     ghost rule = { λ limits. range limits };
 
     fn judge(&self, _place: u64, p: &mut Point) -> Result<bool, Reason> {
-        Ok(self.hold(p))
+        Ok(self.holds(p))
+    }
+
+    fn mask(&self, points: &[Point]) -> Option<u64> {
+        match self.alone() {
+            Some(limit) => Some(mask_of_limit(&limit, points)),
+            None => Some(mask_of(self, points)),
+        }
     }
 }
 
