@@ -7,3 +7,4 @@ pub mod WrittenBack
 pub mod Writing
 pub mod ReadBack
 pub mod Among
+pub mod Guesses

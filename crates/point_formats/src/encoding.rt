@@ -10,9 +10,8 @@ ghost use Rattle.point_formats.specs.Records.{decoded};
 ghost use Rattle.point_formats.specs.Returning.{FitsTypes, IsOfFormat};
 ghost use Rattle.point_formats.specs.Encoded.{encoded, field_number, bits_number, raw_number, raw_numbers};
 
-use crate::Grid;
 use crate::angles::{angle_steps, degrees};
-use crate::grid::{known_steps, raw_on};
+use crate::{Grid, ReadyGrid};
 use byte_numbers::{known_u8, known_u16, known_u64};
 use cloud_points::{Dim, Point};
 use las_header::Format;
@@ -31,12 +30,13 @@ pub enum EncodeFault {
 
 /// The raw number on an axis that is nearest to a coordinate.
 #[tactic(auto, unfolding(crate::specs::Encoded::raw_number))]
-fn raw_number(grid: &Grid, dim: Dim, axis: usize, nano: i64) -> Result<i32, EncodeFault>
+#[inline(always)]
+fn raw_number(grid: &ReadyGrid, dim: Dim, axis: usize, nano: i64) -> Result<i32, EncodeFault>
     requires axis { axis < 3 }
     requires near { IsNear grid.now }
     ensures { result ≡ raw_number grid.now dim axis nano }
 {
-    match raw_on(grid, axis, nano) {
+    match grid.raw_on(axis, nano) {
         Ok(number) => Ok(number),
         Err(_) => Err(EncodeFault::NotHeld(dim)),
     }
@@ -46,7 +46,8 @@ fn raw_number(grid: &Grid, dim: Dim, axis: usize, nano: i64) -> Result<i32, Enco
 ///
 /// Each offset of the grid is at most 10^18 nanounits in size. The raw number on an axis is the one nearest to the
 /// coordinate, a half away from zero. The first that leaves 32 bits is refused, as `NotHeld` with its dimension.
-pub fn raw_numbers(grid: &Grid, p: &Point) -> Result<[i32; 3], EncodeFault>
+#[inline(always)]
+pub fn raw_numbers(grid: &ReadyGrid, p: &Point) -> Result<[i32; 3], EncodeFault>
     requires near { IsNear grid.now }
     ensures value { result ≡ raw_numbers grid.now p.now }
 {
@@ -120,7 +121,7 @@ fn new_flags(p: &Point) -> Result<u8, EncodeFault>
 
 /// The record of format 0, with which those of formats 1 to 3 begin.
 #[inline(always)]
-fn old_record(p: &Point, grid: &Grid) -> Result<[u8; 20], EncodeFault>
+fn old_record(p: &Point, grid: &ReadyGrid) -> Result<[u8; 20], EncodeFault>
     requires near { IsNear grid.now }
     ensures { result ≡ encoded F0 grid.now p.now }
 {
@@ -143,7 +144,7 @@ fn old_record(p: &Point, grid: &Grid) -> Result<[u8; 20], EncodeFault>
 
 /// The record of format 6, with which those of formats 7 and 8 begin.
 #[inline(always)]
-fn new_record(p: &Point, grid: &Grid) -> Result<[u8; 30], EncodeFault>
+fn new_record(p: &Point, grid: &ReadyGrid) -> Result<[u8; 30], EncodeFault>
     requires near { IsNear grid.now }
     ensures { result ≡ encoded F6 grid.now p.now }
 {
@@ -237,7 +238,12 @@ fn known_numbers(p: &Point)
 }
 
 /// Puts the record of a point at the front of `out`, in which the bytes of the format have room.
-fn put_record(format: Format, p: &Point, grid: &Grid, out: &mut [u8]) -> Result<usize, EncodeFault>
+fn put_record(
+    format: Format,
+    p: &Point,
+    grid: &ReadyGrid,
+    out: &mut [u8],
+) -> Result<usize, EncodeFault>
     requires room { format_size format ≤ length out.old }
     requires near { IsNear grid.now }
     ensures ok { IfOk result (λ n. encoded format grid.now p.now ≡ Ok (take n out.new)) }
@@ -279,7 +285,27 @@ pub fn encode(format: Format, p: &Point, grid: &Grid, out: &mut [u8]) -> Result<
     ensures refused { IfErr result (λ e. encoded format grid.now p.now ≡ Err e) }
     ensures unchanged { OnErr result (out.new ≡ out.old) }
 {
-    known_steps(grid);
+    encode_ready(format, p, &ReadyGrid::of(grid), out)
+}
+
+/// Puts the record of a point at the front of `out`, as `encode` does, by a grid that was made ready for many points.
+pub fn encode_ready(
+    format: Format,
+    p: &Point,
+    grid: &ReadyGrid,
+    out: &mut [u8],
+) -> Result<usize, EncodeFault>
+    requires room { format_size format ≤ length out.old }
+    requires near { IsNear grid.now }
+    ensures ok { IfOk result (λ n. encoded format grid.now p.now ≡ Ok (take n out.new)) }
+    ensures size { IfOk result (λ n. n ≡ format_size format) }
+    ensures read_back { IfOk result (λ n. IsOfFormat format grid.now p.now
+        → decoded format grid.now (take n out.new) ≡ p.now) }
+    ensures after { IfOk result (λ n. drop n out.new ≡ drop n out.old) }
+    ensures refused { IfErr result (λ e. encoded format grid.now p.now ≡ Err e) }
+    ensures unchanged { OnErr result (out.new ≡ out.old) }
+{
+    grid.known_steps();
     known_numbers(p);
     put_record(format, p, grid, out)
 }

@@ -4,13 +4,14 @@
 
 mod angles;
 mod decoding;
+mod divisor;
 mod encoding;
 mod grid;
 mod laws;
 mod layouts;
 
 pub use decoding::decode;
-pub use encoding::{EncodeFault, encode, raw_numbers};
-pub use grid::Grid;
+pub use encoding::{EncodeFault, encode, encode_ready, raw_numbers};
+pub use grid::{Grid, ReadyGrid};
 pub use laws::{numbers_return, records_are_whole};
 pub use layouts::dims;

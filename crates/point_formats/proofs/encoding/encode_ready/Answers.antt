@@ -1,7 +1,7 @@
 use Rattle.std.proofs.Common.{take}
 use Rattle.std.proofs.lemmas.Result.{IfOk-weaker}
 use Rattle.point_formats.proofs.ReadBack.{read_back}
-use Rattle.point_formats.proofs.encoding.encode.Goals as goal
+use Rattle.point_formats.proofs.encoding.encode_ready.Goals as goal
 
 pub returns-clause-read_back : goal.returns-clause-read_back
 returns-clause-read_back c =
