@@ -1,11 +1,8 @@
 -- Rows that are written over others.
-use Rattle.std.proofs.Common.{◌≡◌, ℕ, ◌+◌, ◌-◌, ◌*◌, ◌<◌, ◌≤◌, List, [], ◌++◌, length, take, drop, get_or, set, ⊎_elim, ap, sym, ◌∙◌, arith, append_assoc, length-append}
+use Rattle.std.proofs.Common.{◌≡◌, ℕ, ◌+◌, ◌-◌, ◌*◌, ◌<◌, ◌≤◌, List, [], ◌++◌, length, take, drop, get_or, set, ⊎_elim, ap, sym, ◌∙◌, arith, append_assoc, length-append, length-drop}
 use Rattle.std.proofs.lemmas.Bool.{cases_lt, cases_eq}
 use Rattle.std.proofs.lemmas.List.{same_lists, length-set, length-take-le, get_or-set_same, get_or-set_other}
-use Rattle.std.specs.List.{swap}
-use Rattle.std.proofs.lemmas.List.Edits.{swap_is}
 use Rattle.std.proofs.lemmas.Slice.{drop-append-drop}
-use Rattle.cloud_points.specs.Points.{zero_point}
 use Rattle.cloud_points.specs.declared.layout.Layout.{Layout}
 use Rattle.cloud_points.specs.declared.point.Point.{Point}
 use Rattle.packed_chunk.specs.Rows.{row_size}
@@ -114,12 +111,22 @@ held_stands layout gone pieces first len k seen are same before =
     let less = held_low layout gone pieces first len k seen same before in
     row_stands layout gone pieces first (first + len) (first + k) are (omega arith) (omega (arith, less))
 
--- two rows that are written over each other
-pub exchanged : (old mid new : Held) (a b : ℕ) (x y : List ℕ) → a < length old.points → b < length old.points
-    → unpacked_at old.layout 0 x ≡ get_or old.points b zero_point → unpacked_at old.layout 0 y ≡ get_or old.points a zero_point
-    → mid ≡ record old { points = set old.points a (unpacked_at old.layout 0 x) } → new ≡ record mid { points = set mid.points b (unpacked_at mid.layout 0 y) }
-    → new ≡ record old { points = swap old.points a b }
-exchanged old mid new a b x y la lb gx gy e f =
-    f ∙ ap (λ (h : Held). record h { points = set h.points b (unpacked_at h.layout 0 y) }) e
-    ∙ (λ j. record old { points = set (set old.points a (gx j)) b (gy j) })
-    ∙ ap (λ (ps : List Point). record old { points = ps }) (swap_is old.points a b zero_point la lb)
+-- the bytes of the row that stands at a place
+abbrev pub row_at : Layout → ℕ → List (List ℕ) → ℕ → List ℕ
+row_at layout gone pieces place = take (row_size layout) (drop (offset_of place * row_size layout) (get_or pieces (piece_of place - gone) []))
+
+pub row_at_size : (layout : Layout) (gone : ℕ) (pieces : List (List ℕ)) (place : ℕ) → Stands layout gone pieces place → length (row_at layout gone pieces place) ≡ row_size layout
+row_at_size layout gone pieces place here =
+    let bytes = get_or pieces (piece_of place - gone) [] in
+    length-take-le (row_size layout) (drop (offset_of place * row_size layout) bytes) (omega (arith, here.room, length-drop (offset_of place * row_size layout) bytes))
+
+-- and as they are copied over another row, by numbers that say where both stand
+pub row_over_row : (layout : Layout) (gone : ℕ) (pieces new : List (List ℕ)) (from to from_piece from_at to_piece to_at w : ℕ)
+    → from_piece ≡ piece_of from - gone → from_at ≡ offset_of from * w → to_piece ≡ piece_of to - gone → to_at ≡ offset_of to * w → w ≡ row_size layout
+    → new ≡ set pieces to_piece (take to_at (get_or pieces to_piece []) ++ (take w (drop from_at (get_or pieces from_piece [])) ++ drop (to_at + w) (get_or pieces to_piece [])))
+    → new ≡ set pieces (piece_of to - gone) (written layout (offset_of to * row_size layout) (row_at layout gone pieces from) (get_or pieces (piece_of to - gone) []))
+row_over_row layout gone pieces new from to from_piece from_at to_piece to_at w fp fa tp ta size is =
+    is
+    ∙ (λ i. set pieces (tp i) (take (ta i) (get_or pieces (tp i) []) ++ (take w (drop (fa i) (get_or pieces (fp i) [])) ++ drop (ta i + w) (get_or pieces (tp i) []))))
+    ∙ ap (λ n. set pieces (piece_of to - gone) (take (offset_of to * n) (get_or pieces (piece_of to - gone) [])
+    ++ (take n (drop (offset_of from * n) (get_or pieces (piece_of from - gone) [])) ++ drop (offset_of to * n + n) (get_or pieces (piece_of to - gone) [])))) size

@@ -13,3 +13,5 @@ pub mod Moving
 pub mod Wider
 pub mod Behind
 pub mod Exchanging
+pub mod Cycles
+pub mod Permuted

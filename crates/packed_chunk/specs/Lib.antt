@@ -4,3 +4,5 @@ pub mod Fitting
 pub mod Formats
 pub mod Held
 pub mod Outside
+pub mod Places
+pub mod Keys

@@ -3,6 +3,7 @@
 
 mod cells;
 mod joining;
+mod keys;
 mod known;
 mod laws;
 mod outside;
@@ -11,6 +12,7 @@ mod parts;
 mod piece;
 mod places;
 mod putting;
+mod reordering;
 mod rows;
 mod taking;
 mod whole;

@@ -1,12 +1,12 @@
 //! Points in packed rows.
 
-ghost use Rattle.std.specs.Prelude.{true, ◌≡◌, ◌+◌, ◌-◌, ◌*◌, ◌<◌, ◌≤◌, ◌++◌, ◌∷◌, [], length, take, drop, get_or, set, swap, slice_get, Some, OnOk, OnErr, IfOk};
+ghost use Rattle.std.specs.Prelude.{true, ◌≡◌, ◌+◌, ◌-◌, ◌*◌, ◌<◌, ◌≤◌, ◌++◌, ◌∷◌, [], length, take, drop, get_or, set, slice_get, Some, OnOk, OnErr, IfOk};
 ghost use Rattle.cloud_points.specs.Clearing.{IsWithin};
 ghost use Rattle.cloud_points.specs.Layouts.{holds};
 ghost use Rattle.cloud_points.specs.Points.{zero_point};
 ghost use Rattle.cloud_points.specs.declared.point.Point.{Point};
 ghost use Rattle.packed_chunk.specs.Fitting.{FitsTypes};
-ghost use Rattle.packed_chunk.specs.Held.{HasRoom};
+ghost use Rattle.packed_chunk.specs.Held.{HasRoom, offset_of, piece_of};
 ghost use Rattle.packed_chunk.specs.Outside.{IsWider};
 ghost use Rattle.packed_chunk.specs.Rows.{row, row_size};
 ghost use Rattle.packed_chunk.specs.Unpacked.{unpacked_at};
@@ -20,9 +20,7 @@ use cloud_points::{Layout, Point, Spread};
 use std::alloc::{AllocError, Global};
 use std::collections::VecDeque;
 use std::marker::Model;
-
-/// The most bytes of a row.
-const MOST_BYTES: usize = 128;
+use std::mem;
 
 /// More rows than memory has room for.
 const MOST_ROWS: usize = 1 << 56;
@@ -202,8 +200,8 @@ impl PackedRows {
             .unpack_at(piece.bytes(), offset_of(place) * self.packing.width())
     }
 
-    // The bytes of the row at a place.
-    fn row(&self, k: usize) -> &[u8]
+    /// The bytes of the row at a place.
+    pub(crate) fn row(&self, k: usize) -> &[u8]
         requires { k < length self.now.points }
         ensures size { length result.now ≡ row_size self.now.layout }
         ensures point { unpacked_at self.now.layout 0 result.now ≡ get_or self.now.points k zero_point }
@@ -212,6 +210,21 @@ impl PackedRows {
         let piece = &self.pieces[piece_of(place) - self.gone];
         let at = offset_of(place) * self.packing.width();
         &piece.bytes()[at..at + self.packing.width()]
+    }
+
+    /// How its rows are packed.
+    pub(crate) fn packing(&self) -> &Packing
+        ensures { result.now.layout ≡ self.now.layout }
+    {
+        &self.packing
+    }
+
+    /// How many bytes a row has.
+    pub(crate) fn width(&self) -> usize
+        ensures value { result ≡ row_size self.now.layout }
+        ensures small { result ≤ 128 }
+    {
+        self.packing.width()
     }
 
     /// How many bytes its rows have.
@@ -257,33 +270,8 @@ impl PackedRows {
         PackedRows::new(self.alloc, &self.layout())
     }
 
-    /// The points at two places change place: the bytes of their rows do.
-    pub fn swap(&mut self, a: usize, b: usize)
-        requires a { a < length self.old.points }
-        requires b { b < length self.old.points }
-        ensures { self.new ≡ record self.old { points = swap self.old.points a b } }
-    {
-        let width = self.packing.width();
-        let first = self.row_copy(a);
-        let second = self.row_copy(b);
-        self.put_over(a, &second[..width]);
-        self.put_over(b, &first[..width]);
-    }
-
-    // The bytes of the row at a place, and 0 behind them.
-    fn row_copy(&self, k: usize) -> [u8; MOST_BYTES]
-        requires { k < length self.now.points }
-        ensures { unpacked_at self.now.layout 0 (take (row_size self.now.layout) result)
-            ≡ get_or self.now.points k zero_point }
-    {
-        let width = self.packing.width();
-        let mut bytes = [0u8; MOST_BYTES];
-        bytes[..width].copy_from_slice(self.row(k));
-        bytes
-    }
-
-    // Writes the bytes of a row over those of the row at a place.
-    fn put_over(&mut self, k: usize, bytes: &[u8])
+    /// Writes the bytes of a row over those of the row at a place.
+    pub(crate) fn put_over(&mut self, k: usize, bytes: &[u8])
         requires inside { k < length self.old.points }
         requires size { length bytes.now ≡ row_size self.old.layout }
         ensures { self.new ≡ record self.old
@@ -299,6 +287,19 @@ impl PackedRows {
         );
     }
 
+    /// Writes the bytes of the row at a place over those of the row at another.
+    pub(crate) fn copy_row(&mut self, from: usize, to: usize)
+        requires source { from < length self.old.points }
+        requires target { to < length self.old.points }
+        ensures { self.new ≡ record self.old
+            { points = set self.old.points to (get_or self.old.points from zero_point) } }
+    {
+        let width = self.packing.width();
+        let source = spot_of(self.first + from, self.gone, width);
+        let target = spot_of(self.first + to, self.gone, width);
+        copy_bytes(self.alloc, &mut self.pieces, source, target, width);
+    }
+
     /// Puts `count` points from a place on in place of what the spread held. It allocates nothing.
     pub fn copy_into(&self, from: usize, count: usize, into: &mut Spread)
         requires inside { from + count ≤ length self.now.points }
@@ -310,6 +311,26 @@ impl PackedRows {
         for k in 0..count {
             into.push(self.get(from + k));
         }
+    }
+}
+
+// Where the bytes of a row begin: in which piece, and at which of its bytes.
+#[derive(Clone, Copy)]
+struct Spot {
+    piece: usize,
+    at: usize,
+}
+
+// That of the row at a place, where so many pieces at the front are gone.
+fn spot_of(place: usize, gone: usize, width: usize) -> Spot
+    requires begins { gone ≤ piece_of place }
+    requires small { width ≤ 128 }
+    ensures piece { result.piece ≡ piece_of place - gone }
+    ensures at { result.at ≡ offset_of place * width }
+{
+    Spot {
+        piece: piece_of(place) - gone,
+        at: offset_of(place) * width,
     }
 }
 
@@ -365,4 +386,25 @@ fn put_bytes(pieces: &mut VecDeque<Piece>, piece: usize, at: usize, row: &[u8])
 {
     let bytes = &mut pieces[piece];
     bytes.put_bytes(at, row);
+}
+
+// Copies the bytes of a row over those of another. The other row's piece is taken out for that, where they stand in two.
+fn copy_bytes(alloc: Global, pieces: &mut VecDeque<Piece>, from: Spot, to: Spot, width: usize)
+    requires from_piece { from.piece < length pieces.old.items }
+    requires from_room { from.at + width ≤ length (get_or pieces.old.items from.piece []) }
+    requires to_piece { to.piece < length pieces.old.items }
+    requires to_room { to.at + width ≤ length (get_or pieces.old.items to.piece []) }
+    ensures { let bytes = get_or pieces.old.items to.piece [] in
+        let row = take width (drop from.at (get_or pieces.old.items from.piece [])) in
+        pieces.new.items ≡ set pieces.old.items to.piece (take to.at bytes ++ (row ++ drop (to.at + width) bytes)) }
+{
+    if from.piece == to.piece {
+        let piece = &mut pieces[to.piece];
+        piece.copy_within(from.at, to.at, width);
+        return;
+    }
+    let mut target = mem::replace(&mut pieces[to.piece], Piece::none(alloc));
+    let row = &pieces[from.piece].bytes()[from.at..from.at + width];
+    target.put_bytes(to.at, row);
+    pieces[to.piece] = target;
 }
