@@ -76,11 +76,11 @@ def columns(points):
     return "".join(line + "\n" for line in lines)
 
 
-def report(*stages, two_views=()):
+def report(*stages, several=(), views=2):
     """A report of stages, each with its type, the points that it passed on, and for a writer the points that it wrote. The stages
-    with these numbers passed on two views, each other one a single one."""
+    with these numbers passed on so many views, each other one a single one."""
     lines = [
-        f"stage {number} {kind} views {2 if number in two_views else 1} points {count}" + (f" wrote {wrote[0]}" if wrote else "")
+        f"stage {number} {kind} views {views if number in several else 1} points {count}" + (f" wrote {wrote[0]}" if wrote else "")
         for number, (kind, count, *wrote) in enumerate(stages)
     ]
     return "".join(line + "\n" for line in lines + [f"outputs {sum(len(stage) == 3 for stage in stages)}"])
@@ -163,6 +163,19 @@ def lies_in(point, corners):
     return odd
 
 
+def cell(point, length):
+    """The number of the cell of a point along each axis, rounded down."""
+    return tuple(value // length for value in point)
+
+
+def parted(points, key):
+    """The points of each value of a key, in the order in which the values first appear."""
+    views = {}
+    for point in points:
+        views.setdefault(key(point), []).append(point)
+    return list(views.values())
+
+
 def small(minor, times=1):
     """2 points in format 0, so many times, in a file of this minor version."""
     scale, offset = [Fraction(1, 100)] * 3, [Fraction(0)] * 3
@@ -235,6 +248,8 @@ def main():
     # Points of one height stay in their order: `sorted` keeps it too.
     highest = sorted(hill_points, key=lambda point: -point[2])[:3]
     corners = [tuple(map(Fraction, corner)) for corner in [(500003, 4800003), (500015, 4800003), (500009, 4800012)]]
+    thin = [voxel[0] for voxel in parted(hill_points, lambda point: cell(point, 4))]
+    peaks = [max(square, key=lambda point: point[2]) for square in parted(hill_points, lambda point: cell(point[:2], 6))]
     # All points of the hill are ground.
     ground = [point for point in hill_points if lies_in(point, corners)]
     gap = [tuple(map(Fraction, corner)) for corner in [(500007, 4800004), (500011, 4800004), (500009, 4800009)]]
@@ -298,10 +313,30 @@ def main():
                 ("filters.groupby", every + 5),
                 (head, 2),
                 (writer, 2, 2),
-                two_views=[3, 4, 5],
+                several=[3, 4, 5],
             ),
             "",
             {"kinds.txt": text([hill_points[0], coast_points[0]])},
+        ),
+        "thin": (
+            0,
+            report((reader, every), ("filters.voxeldownsize", len(thin)), (writer, len(thin), len(thin))),
+            "",
+            {"thin.txt": text(thin)},
+        ),
+        "peaks": (
+            0,
+            report(
+                (reader, every),
+                ("filters.splitter", every),
+                ("filters.sort", every),
+                (head, len(peaks)),
+                (writer, len(peaks), len(peaks)),
+                several=[1, 2, 3, 4],
+                views=len(peaks),
+            ),
+            "",
+            {"peaks.txt": text(peaks)},
         ),
         "split": (
             0,
@@ -317,7 +352,7 @@ def main():
         ),
         "joined": (
             0,
-            report((reader, every), (reader, 5), (writer, every + 5, every + 5), two_views=[2]),
+            report((reader, every), (reader, 5), (writer, every + 5, every + 5), several=[2]),
             "",
             {"all.txt": text(hill_points + coast_points)},
         ),
@@ -325,7 +360,7 @@ def main():
         "copy": (0, report((reader, 5), (head, 3), (las_writer, 3, 3)), "", {"copy.las": copied(coast_points[:3])}),
         "grid": (
             0,
-            report((reader, every), (reader, 5), (las_writer, every + 5, every + 5), two_views=[2]),
+            report((reader, every), (reader, 5), (las_writer, every + 5, every + 5), several=[2]),
             "",
             {"grid.las": joined6(hill_points, coast_points)},
         ),
@@ -345,7 +380,7 @@ def main():
             "",
             {"ring.txt": text(ring)},
         ),
-        "tiles": (0, report((reader, 3), (reader, 3), (las_writer, 6, 6), two_views=[2]), "", {"tiles.las": tiles_data}),
+        "tiles": (0, report((reader, 3), (reader, 3), (las_writer, 6, 6), several=[2]), "", {"tiles.las": tiles_data}),
         # The offsets differ, so the written one is 0, and 4800000 is too many steps of 0.001.
         "apart": (3, "", "lasline: stage 2: point 0: Y not held by the scale\n", {}),
     }

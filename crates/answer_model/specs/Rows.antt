@@ -5,10 +5,10 @@ use Rattle.cloud_points.specs.declared.faults.PointFault.{PointFault}
 use Rattle.cloud_points.specs.Flows.{Flow}
 use Rattle.expr_lang.specs.Formula.{Formula}
 use Rattle.expr_eval.specs.Bindings.{assign_of, dim_of}
-use Rattle.name_binding.specs.Binding.{bound, bound_where, limit_of}
+use Rattle.name_binding.specs.Binding.{bound, bound_where, limit_of, edge_of, squares_of}
 use Rattle.name_binding.specs.Ferries.{with_targets, ferries_bound}
 use Rattle.stage_options.specs.declared.options.Options.{Options}
-use Rattle.stage_options.specs.declared.options.Options.TheVariants.{ReadersLas, FiltersRange, FiltersCrop, FiltersAssign, FiltersFerry, FiltersExpression, FiltersDecimation, FiltersHead, FiltersReturns, FiltersMerge, FiltersSort, FiltersTail, FiltersGroupby, WritersLas, WritersText}
+use Rattle.stage_options.specs.declared.options.Options.TheVariants.{ReadersLas, FiltersRange, FiltersCrop, FiltersAssign, FiltersFerry, FiltersExpression, FiltersDecimation, FiltersHead, FiltersReturns, FiltersMerge, FiltersSort, FiltersTail, FiltersGroupby, FiltersSplitter, FiltersVoxeldownsize, WritersLas, WritersText}
 use Rattle.forward_rules.specs.Forwarded.{ReadFile, form_of}
 use Rattle.forward_rules.specs.declared.form.LasForm.{LasForm}
 use Rattle.las_writer.specs.LasOutput.{las_output}
@@ -20,9 +20,9 @@ use Rattle.stage_meanings.specs.Rules.{range, crop, decimation, head, returns, e
 use Rattle.stage_meanings.specs.Records.{unrecorded}
 use Rattle.stage_meanings.specs.declared.reason.Reason.{Reason}
 use Rattle.text_writer.specs.TextOutput.{text_output}
-use Rattle.whole_filters.specs.Gathered.{gathered}
+use Rattle.tile_filters.specs.Gathered.{gathered}
 use Rattle.whole_filters.specs.declared.gathering.Gathering.{Gathering}
-use Rattle.whole_filters.specs.declared.gathering.Gathering.TheVariants.{Sort, Tail, GroupBy}
+use Rattle.whole_filters.specs.declared.gathering.Gathering.TheVariants.{Sort, Tail, GroupBy, Squares, Voxels}
 use Rattle.answer_model.specs.Forms.{text_form}
 
 -- what a stage makes of the flow that it takes: it judges its points one after the other, or it needs whole views
@@ -82,6 +82,8 @@ row_of (FiltersMerge o) s = filters Merge
 row_of (FiltersSort o) s = gathers (Sort (dim_of s.names o.dimension) o.down)
 row_of (FiltersTail o) s = gathers (Tail o.count)
 row_of (FiltersGroupby o) s = gathers (GroupBy (dim_of s.names o.dimension))
+row_of (FiltersSplitter o) s = gathers (Squares (squares_of o))
+row_of (FiltersVoxeldownsize o) s = gathers (Voxels (edge_of o.cell))
 row_of (WritersLas o) s = writes s.names (unplaced_in (form_of o.fields s.reads)) (las_output (form_of o.fields s.reads)) o.only
 row_of (WritersText o) s = writes s.names (λ k p. None) (text_output (text_form s.names o)) o.only
 

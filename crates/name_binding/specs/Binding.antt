@@ -1,5 +1,6 @@
 -- The names of dimensions in options.
-use Rattle.std.specs.Prelude.{ℕ, Bool, false, List, [], ◌∷◌, map, Option, Some, None, option_map, if◌then◌else◌}
+use Rattle.std.specs.Prelude.{ℕ, ℤ, pos, Bool, false, List, [], ◌∷◌, map, Option, Some, None, option_map, if◌then◌else◌}
+use Rattle.std.specs.Int.{int_max}
 use Rattle.cloud_points.specs.declared.dims.Dim.{Dim}
 use Rattle.cloud_points.specs.ExtraNames.{dim_in}
 use Rattle.expr_lang.specs.Formula.{Formula, renamed}
@@ -16,13 +17,15 @@ use Rattle.stage_options.specs.Ferries.{ferries_in}
 use Rattle.name_binding.specs.Ferries.{names_behind, ferries_refused, ferries_bound}
 use Rattle.name_binding.specs.Refusals.{refused}
 use Rattle.stage_options.specs.Where.{only_of}
-use Rattle.whole_filters.specs.declared.gathering.Gathering.TheVariants.{Sort, Tail, GroupBy}
+use Rattle.whole_filters.specs.declared.gathering.Gathering.TheVariants.{Sort, Tail, GroupBy, Squares, Voxels}
+use Rattle.whole_filters.specs.declared.gathering.Squares.{Squares as Grid}
 use Rattle.name_binding.specs.declared.binding.BoundStage.{BoundStage}
 use Rattle.name_binding.specs.declared.binding.BoundStage.TheVariants.{Reads, Filters, Gathers, Writes}
 use Rattle.name_binding.specs.declared.binding.BoundFilter.{BoundFilter}
 use Rattle.name_binding.specs.declared.binding.BoundFilter.TheVariants as filter
 use Rattle.stage_options.specs.declared.options.Options.{Options}
-use Rattle.stage_options.specs.declared.options.Options.TheVariants.{ReadersLas, FiltersRange, FiltersCrop, FiltersAssign, FiltersFerry, FiltersExpression, FiltersDecimation, FiltersHead, FiltersReturns, FiltersSort, FiltersTail, FiltersGroupby, WritersLas, WritersText}
+use Rattle.stage_options.specs.declared.options.SplitterOptions.{SplitterOptions}
+use Rattle.stage_options.specs.declared.options.Options.TheVariants.{ReadersLas, FiltersRange, FiltersCrop, FiltersAssign, FiltersFerry, FiltersExpression, FiltersDecimation, FiltersHead, FiltersReturns, FiltersSort, FiltersTail, FiltersGroupby, FiltersSplitter, FiltersVoxeldownsize, WritersLas, WritersText}
 
 -- ---- the first name that isn't that of a dimension which points have, or that has to be a number and isn't
 
@@ -105,12 +108,22 @@ bound_filter names ferries (FiltersHead o) = filter.Head o.count
 bound_filter names ferries (FiltersReturns o) = filter.Returns o.groups
 bound_filter names ferries _ = filter.Merge
 
+-- a length of at least 1; the table of the options has no other
+abbrev pub edge_of : ℤ → ℤ
+edge_of nano = int_max nano (pos 1)
+
+-- the squares of a splitter
+abbrev pub squares_of : SplitterOptions → Grid
+squares_of o = record { length = edge_of o.length; x = o.origin_x; y = o.origin_y }
+
 -- what a stage does
 abbrev pub bound_with : List (List ℕ) → List Assignment → Options → BoundStage
 bound_with names ferries (ReadersLas o) = Reads
 bound_with names ferries (FiltersSort o) = Gathers (Sort (dim_of names o.dimension) o.down)
 bound_with names ferries (FiltersTail o) = Gathers (Tail o.count)
 bound_with names ferries (FiltersGroupby o) = Gathers (GroupBy (dim_of names o.dimension))
+bound_with names ferries (FiltersSplitter o) = Gathers (Squares (squares_of o))
+bound_with names ferries (FiltersVoxeldownsize o) = Gathers (Voxels (edge_of o.cell))
 bound_with names ferries (WritersLas o) = Writes (bound_where names o.only)
 bound_with names ferries (WritersText o) = Writes (bound_where names o.only)
 bound_with names ferries o = Filters (bound_filter names ferries o) (bound_where names (only_of o))

@@ -4,7 +4,7 @@ ghost use Rattle.std.specs.Prelude.{◌≡◌, ◌||◌, map, option_map, None, 
 ghost use Rattle.cloud_points.specs.Layouts.{holds};
 ghost use Rattle.expr_eval.specs.Bindings.{bound_dim, bound_in, bound_assign, assign_of, dim_of as dim_named};
 ghost use Rattle.cloud_points.specs.declared.dims.Dim.{Dim as Dimension};
-ghost use Rattle.name_binding.specs.Binding.{is_bound, first_unbound, assigns_refused, ranges_refused, dim_refused, filter_refused, limit_of, where_refused, own_refused, binding_fault, bound, bound_where, bound_filter, bound_with, bound_stage};
+ghost use Rattle.name_binding.specs.Binding.{is_bound, first_unbound, assigns_refused, ranges_refused, dim_refused, filter_refused, limit_of, where_refused, own_refused, binding_fault, bound, bound_where, bound_filter, edge_of, squares_of, bound_with, bound_stage};
 ghost use Rattle.name_binding.specs.Ferries.{names_behind, adds, AreBehindSome};
 ghost use Rattle.stage_options.specs.Ferries.{ferries_in};
 ghost use Rattle.name_binding.specs.Refusals.{refused};
@@ -21,9 +21,9 @@ use geo_tests::{Limit, Limits, Shape};
 use limits_text::NamedRange;
 use option_texts::{Groups, NamedColumn};
 use stage_names::{PipeErr, PipeFault};
-use stage_options::{Options, name_from};
+use stage_options::{Options, SplitterOptions, name_from};
 use std::alloc::Global;
-use whole_filters::Gathering;
+use whole_filters::{EdgeLength, Gathering, Squares};
 
 /// A stage's options with dimensions in place of names, by what the stage does.
 #[derive(Drop)]
@@ -227,6 +227,24 @@ impl<'a> Binder<'a> {
     }
 }
 
+/// So many nanounits as the length of an edge; less than 1 counts as 1.
+fn edge_of(nano: i64) -> EdgeLength
+    ensures { result ≡ edge_of nano }
+{
+    EdgeLength::new(nano.max(1))
+}
+
+/// The squares of a splitter.
+fn squares_of(options: &SplitterOptions) -> Squares
+    ensures { result ≡ squares_of options.now }
+{
+    Squares {
+        length: edge_of(options.length),
+        x: options.origin_x,
+        y: options.origin_y,
+    }
+}
+
 impl<'a> Binder<'a> {
     /// What a filter with these options does, where these are its ferries. Stages of other kinds give on what they take, as `merge`.
     fn filter(&self, options: &Options, ferries: Assignments) -> Result<BoundFilter, PipeErr>
@@ -256,6 +274,8 @@ impl<'a> Binder<'a> {
             | Options::FiltersSort(_)
             | Options::FiltersTail(_)
             | Options::FiltersGroupby(_)
+            | Options::FiltersSplitter(_)
+            | Options::FiltersVoxeldownsize(_)
             | Options::WritersLas(_)
             | Options::WritersText(_) => BoundFilter::Merge,
         })
@@ -278,6 +298,10 @@ impl<'a> Binder<'a> {
             Options::FiltersGroupby(o) => {
                 BoundStage::Gathers(Gathering::GroupBy(self.dim(&o.dimension)?))
             }
+            Options::FiltersSplitter(o) => BoundStage::Gathers(Gathering::Squares(squares_of(o))),
+            Options::FiltersVoxeldownsize(o) => BoundStage::Gathers(Gathering::Voxels(edge_of(
+                o.cell,
+            ))),
             Options::WritersLas(_) => BoundStage::Writes(self.only(options)?),
             Options::WritersText(o) => {
                 self.columns(o.columns.as_slice())?;

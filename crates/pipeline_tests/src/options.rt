@@ -38,6 +38,13 @@ fn shown_options(alloc: Global, options: &Options) -> Result<String, AllocError>
         Options::FiltersGroupby(options) => {
             format!(in alloc; "group {}", options.dimension.as_str())
         }
+        Options::FiltersSplitter(options) => {
+            format!(in alloc;
+                "split {} {} {}",
+                options.length, options.origin_x, options.origin_y
+            )
+        }
+        Options::FiltersVoxeldownsize(options) => { format!(in alloc; "voxels {}", options.cell) }
         Options::WritersLas(options) => { format!(in alloc; "write {}", options.filename.as_str()) }
         Options::WritersText(options) => {
             format!(in alloc; "write {}", options.filename.as_str())
@@ -206,6 +213,34 @@ const STAGES: &[(&str, &str)] = &[
     (
         r#",{"type":"filters.groupby","dimension":1}"#,
         "wrong 1 dimension",
+    ),
+    (
+        r#",{"type":"filters.splitter","length":"2.5","origin_y":-1}"#,
+        "split 2500000000 0 -1000000000",
+    ),
+    (
+        r#",{"type":"filters.splitter","origin_x":"x"}"#,
+        "missing 1 length",
+    ),
+    (
+        r#",{"type":"filters.splitter","length":0,"origin_x":"x"}"#,
+        "wrong 1 length",
+    ),
+    (
+        r#",{"type":"filters.splitter","length":1000000000,"origin_x":4000000001}"#,
+        "wrong 1 origin_x",
+    ),
+    (
+        r#",{"type":"filters.voxeldownsize","cell":1,"mode":"first"}"#,
+        "voxels 1000000000",
+    ),
+    (
+        r#",{"type":"filters.voxeldownsize","cell":1,"mode":"center"}"#,
+        "wrong 1 mode",
+    ),
+    (
+        r#",{"type":"filters.voxeldownsize","cell":1,"where":"X > 1"}"#,
+        "unknown 1 where",
     ),
     (r#",{"type":"filters.head","cuont":1}"#, "unknown 1 cuont"),
     (

@@ -22,7 +22,8 @@ use stage_kinds::StageWork;
 use std::alloc::{AllocError, Global};
 use std::mem::replace;
 use stream_filters::Filter;
-use whole_filters::{Views, gather};
+use tile_filters::gather;
+use whole_filters::Views;
 
 /// The dimensions of the points that a reader gives.
 fn layout_of<S: Source, K: FileSink>(work: &StageWork<S, K>) -> Layout {

@@ -30,7 +30,7 @@ use Rattle.stage_kinds.specs.Reads.{tells_of, told_of, told_fault_of}
 use Rattle.stage_kinds.proofs.Streams.{filter_gives, filter_fault, writer_gives, writer_fault, sound_nowhere}
 use Rattle.stage_kinds.proofs.Telling.{reader_starts}
 use Rattle.stage_options.specs.declared.options.Options.{Options}
-use Rattle.stage_options.specs.declared.options.Options.TheVariants.{ReadersLas, FiltersSort, FiltersTail, FiltersGroupby, WritersLas, WritersText}
+use Rattle.stage_options.specs.declared.options.Options.TheVariants.{ReadersLas, FiltersSort, FiltersTail, FiltersGroupby, FiltersSplitter, FiltersVoxeldownsize, WritersLas, WritersText}
 use Rattle.stage_options.specs.Roles.{Role, role_of, target_of, is_reading, is_gathering, is_writing}
 use Rattle.stage_options.specs.Roles as role
 use Rattle.answer_model.specs.Rows.{Setting, row_of, value_on}
@@ -85,6 +85,8 @@ row-is (WritersText o) setting = record { name = o.filename; does = refl; filter
 row-is (FiltersSort o) setting = record { does = refl; gathers = refl }
 row-is (FiltersTail o) setting = record { does = refl; gathers = refl }
 row-is (FiltersGroupby o) setting = record { does = refl; gathers = refl }
+row-is (FiltersSplitter o) setting = record { does = refl; gathers = refl }
+row-is (FiltersVoxeldownsize o) setting = record { does = refl; gathers = refl }
 row-is o setting = record { does = refl; begins = refl; filtering = refl }
 
 -- ---- works at their start

@@ -1,7 +1,7 @@
 -- What a stage has made of whole views.
 use Rattle.std.specs.Prelude.{◌≡◌, false}
 use Rattle.cloud_points.specs.Marks.{flow_marks}
-use Rattle.whole_filters.specs.Gathered.{gathered}
+use Rattle.tile_filters.specs.Gathered.{gathered}
 use Rattle.view_works.specs.Giving.{still_gives}
 use Rattle.stage_kinds.specs.declared.stage_work.StageWork.{StageWork}
 use Rattle.stage_kinds.specs.declared.stage_work.StageWork.TheVariants.{Collector, Views}

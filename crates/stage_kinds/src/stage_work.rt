@@ -7,6 +7,7 @@ use las_reader::LasReader;
 use stage_meanings::Spot;
 use std::alloc::{AllocError, Global};
 use stream_filters::Filter;
+use tile_filters::gather;
 use view_works::{Collector, HeldViews};
 use whole_filters::{Gathering, Views};
 
@@ -166,7 +167,11 @@ impl<S: Source, K: FileSink> StageWork<S, K> {
         ensures made { IfOk result (λ made. IsGathered self made) }
     {
         match self {
-            StageWork::Collector(collector) => Ok(StageWork::Views(collector.gather(alloc)?)),
+            StageWork::Collector(collector) => {
+                let gathering = collector.gathering();
+                let taken = collector.into_views().ok_or(AllocError)?;
+                Ok(StageWork::Views(HeldViews::new(gather(alloc, taken, gathering)?)))
+            }
             other => Ok(other),
         }
     }

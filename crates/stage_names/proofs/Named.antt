@@ -3,11 +3,12 @@ use Rattle.std.proofs.Common.{◌≡◌, ◌∙◌, ℕ, List, Bool, true, false
 use Rattle.std.proofs.lemmas.Slice.Eq.{bytes_eq-Decides}
 use Rattle.std.proofs.lemmas.Option.{none-some}
 use Rattle.stage_names.specs.declared.kinds.KindName.{KindName}
-use Rattle.stage_names.specs.declared.kinds.KindName.TheVariants.{ReadersLas, FiltersRange, FiltersCrop, FiltersAssign, FiltersFerry, FiltersExpression, FiltersDecimation, FiltersHead, FiltersReturns, FiltersMerge, FiltersSort, FiltersTail, FiltersGroupby, WritersLas, WritersText}
-use Rattle.stage_names.specs.Kinds.{name_of}
+use Rattle.stage_names.specs.declared.kinds.KindName.TheVariants.{ReadersLas, FiltersRange, FiltersCrop, FiltersAssign, FiltersFerry, FiltersExpression, FiltersDecimation, FiltersHead, FiltersReturns, FiltersMerge, FiltersSort, FiltersTail, FiltersGroupby, FiltersSplitter, FiltersVoxeldownsize, WritersLas, WritersText}
+use Rattle.stage_names.specs.Kinds.{name_of, kind_named}
 use Rattle.stage_names.specs.Laws.{NamesLeadBack, NamesAreOwn}
 
 pub lead_back : NamesLeadBack
+unfolding kind_named
 lead_back ReadersLas = refl
 lead_back FiltersRange = refl
 lead_back FiltersCrop = refl
@@ -21,6 +22,8 @@ lead_back FiltersMerge = refl
 lead_back FiltersSort = refl
 lead_back FiltersTail = refl
 lead_back FiltersGroupby = refl
+lead_back FiltersSplitter = refl
+lead_back FiltersVoxeldownsize = refl
 lead_back WritersLas = refl
 lead_back WritersText = refl
 
@@ -34,6 +37,7 @@ choice name this kind {rest} later e = go (bytes_eq name (name_of this)) refl e
     go false other e = later e
 
 pub are_own : NamesAreOwn
+unfolding kind_named
 are_own name kind = choice name ReadersLas kind
     (choice name FiltersRange kind
     (choice name FiltersCrop kind
@@ -47,6 +51,8 @@ are_own name kind = choice name ReadersLas kind
     (choice name FiltersSort kind
     (choice name FiltersTail kind
     (choice name FiltersGroupby kind
+    (choice name FiltersSplitter kind
+    (choice name FiltersVoxeldownsize kind
     (choice name WritersLas kind
     (choice name WritersText kind
-    (λ e. absurd (none-some kind e))))))))))))))))
+    (λ e. absurd (none-some kind e))))))))))))))))))

@@ -1,7 +1,7 @@
 -- The types of stages and their names.
 use Rattle.std.specs.Prelude.{ℕ, List, Bool, true, false, codes, bytes_eq, Option, Some, None, if◌then◌else◌}
 use Rattle.stage_names.specs.declared.kinds.KindName.{KindName}
-use Rattle.stage_names.specs.declared.kinds.KindName.TheVariants.{ReadersLas, FiltersRange, FiltersCrop, FiltersAssign, FiltersFerry, FiltersExpression, FiltersDecimation, FiltersHead, FiltersReturns, FiltersMerge, FiltersSort, FiltersTail, FiltersGroupby, WritersLas, WritersText}
+use Rattle.stage_names.specs.declared.kinds.KindName.TheVariants.{ReadersLas, FiltersRange, FiltersCrop, FiltersAssign, FiltersFerry, FiltersExpression, FiltersDecimation, FiltersHead, FiltersReturns, FiltersMerge, FiltersSort, FiltersTail, FiltersGroupby, FiltersSplitter, FiltersVoxeldownsize, WritersLas, WritersText}
 
 abbrev pub name_of : KindName → List ℕ
 name_of ReadersLas = codes "readers.las"
@@ -17,11 +17,13 @@ name_of FiltersMerge = codes "filters.merge"
 name_of FiltersSort = codes "filters.sort"
 name_of FiltersTail = codes "filters.tail"
 name_of FiltersGroupby = codes "filters.groupby"
+name_of FiltersSplitter = codes "filters.splitter"
+name_of FiltersVoxeldownsize = codes "filters.voxeldownsize"
 name_of WritersLas = codes "writers.las"
 name_of WritersText = codes "writers.text"
 
 -- the type with a name
-abbrev pub kind_named : List ℕ → Option KindName
+unfoldable pub kind_named : List ℕ → Option KindName
 kind_named name = if bytes_eq name (codes "readers.las") then Some ReadersLas
     else (if bytes_eq name (codes "filters.range") then Some FiltersRange
     else (if bytes_eq name (codes "filters.crop") then Some FiltersCrop
@@ -35,9 +37,11 @@ kind_named name = if bytes_eq name (codes "readers.las") then Some ReadersLas
     else (if bytes_eq name (codes "filters.sort") then Some FiltersSort
     else (if bytes_eq name (codes "filters.tail") then Some FiltersTail
     else (if bytes_eq name (codes "filters.groupby") then Some FiltersGroupby
+    else (if bytes_eq name (codes "filters.splitter") then Some FiltersSplitter
+    else (if bytes_eq name (codes "filters.voxeldownsize") then Some FiltersVoxeldownsize
     else (if bytes_eq name (codes "writers.las") then Some WritersLas
     else (if bytes_eq name (codes "writers.text") then Some WritersText
-    else (None)))))))))))))))
+    else (None)))))))))))))))))
 
 abbrev pub is_reader : KindName → Bool
 is_reader ReadersLas = true

@@ -45,6 +45,12 @@ pub enum KindName {
     /// `filters.groupby`: makes a view for each value of a dimension.
     FiltersGroupby,
 
+    /// `filters.splitter`: makes a view for each square of a grid.
+    FiltersSplitter,
+
+    /// `filters.voxeldownsize`: keeps the first point of each voxel.
+    FiltersVoxeldownsize,
+
     /// `writers.las`: writes points as a LAS file.
     WritersLas,
 
@@ -56,7 +62,7 @@ impl KindName {
     /// The name in a pipeline and in a report.
     pub fn name(self) -> &'static str
         ensures name { result.now ≡ name_of self }
-        ensures len { length result.now ≤ 18 }
+        ensures len { length result.now ≤ 21 }
     {
         match self {
             KindName::ReadersLas => "readers.las",
@@ -72,12 +78,15 @@ impl KindName {
             KindName::FiltersSort => "filters.sort",
             KindName::FiltersTail => "filters.tail",
             KindName::FiltersGroupby => "filters.groupby",
+            KindName::FiltersSplitter => "filters.splitter",
+            KindName::FiltersVoxeldownsize => "filters.voxeldownsize",
             KindName::WritersLas => "writers.las",
             KindName::WritersText => "writers.text",
         }
     }
 
     /// The type with this name; `None` exactly where no type has it.
+    #[tactic(auto, unfolding(crate::specs::Kinds::kind_named))]
     pub fn named(name: &str) -> Option<KindName>
         ensures { result ≡ kind_named name.now }
     {
@@ -95,6 +104,8 @@ impl KindName {
             "filters.sort" => Some(KindName::FiltersSort),
             "filters.tail" => Some(KindName::FiltersTail),
             "filters.groupby" => Some(KindName::FiltersGroupby),
+            "filters.splitter" => Some(KindName::FiltersSplitter),
+            "filters.voxeldownsize" => Some(KindName::FiltersVoxeldownsize),
             "writers.las" => Some(KindName::WritersLas),
             "writers.text" => Some(KindName::WritersText),
             _ => None,

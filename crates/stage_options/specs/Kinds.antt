@@ -3,7 +3,7 @@ use Rattle.std.specs.Prelude.{ℕ, ◌≡◌, List, Some, slice_get}
 use Rattle.stage_names.specs.declared.kinds.KindName.{KindName}
 use Rattle.stage_names.specs.declared.kinds.KindName.TheVariants as kind
 use Rattle.stage_options.specs.declared.options.Options.{Options}
-use Rattle.stage_options.specs.declared.options.Options.TheVariants.{ReadersLas, FiltersRange, FiltersCrop, FiltersAssign, FiltersFerry, FiltersExpression, FiltersDecimation, FiltersHead, FiltersReturns, FiltersMerge, FiltersSort, FiltersTail, FiltersGroupby, WritersLas, WritersText}
+use Rattle.stage_options.specs.declared.options.Options.TheVariants.{ReadersLas, FiltersRange, FiltersCrop, FiltersAssign, FiltersFerry, FiltersExpression, FiltersDecimation, FiltersHead, FiltersReturns, FiltersMerge, FiltersSort, FiltersTail, FiltersGroupby, FiltersSplitter, FiltersVoxeldownsize, WritersLas, WritersText}
 use Rattle.stage_options.specs.declared.stage.StageSpec.{StageSpec}
 
 -- the type whose options these are
@@ -21,6 +21,8 @@ kind_of (FiltersMerge o) = kind.FiltersMerge
 kind_of (FiltersSort o) = kind.FiltersSort
 kind_of (FiltersTail o) = kind.FiltersTail
 kind_of (FiltersGroupby o) = kind.FiltersGroupby
+kind_of (FiltersSplitter o) = kind.FiltersSplitter
+kind_of (FiltersVoxeldownsize o) = kind.FiltersVoxeldownsize
 kind_of (WritersLas o) = kind.WritersLas
 kind_of (WritersText o) = kind.WritersText
 

@@ -1,7 +1,7 @@
 -- What stages do with files and views.
 use Rattle.std.specs.Prelude.{ℕ, Bool, true, false, List, Option, Some, None}
 use Rattle.stage_options.specs.declared.options.Options.{Options}
-use Rattle.stage_options.specs.declared.options.Options.TheVariants.{ReadersLas, FiltersSort, FiltersTail, FiltersGroupby, WritersLas, WritersText}
+use Rattle.stage_options.specs.declared.options.Options.TheVariants.{ReadersLas, FiltersSort, FiltersTail, FiltersGroupby, FiltersSplitter, FiltersVoxeldownsize, WritersLas, WritersText}
 
 pub data Role : Type 0 where
   Reads : List ℕ → Role  -- the file of this name
@@ -15,6 +15,8 @@ role_of (ReadersLas o) = Reads o.filename
 role_of (FiltersSort o) = Gathers
 role_of (FiltersTail o) = Gathers
 role_of (FiltersGroupby o) = Gathers
+role_of (FiltersSplitter o) = Gathers
+role_of (FiltersVoxeldownsize o) = Gathers
 role_of (WritersLas o) = Writes o.filename
 role_of (WritersText o) = Writes o.filename
 role_of _ = Filters

@@ -8,7 +8,7 @@ use Rattle.option_texts.specs.Forward.{forward_of}
 use Rattle.option_texts.specs.Ferries.{ferries_of}
 use Rattle.option_texts.specs.Groups.{groups_of}
 use Rattle.stage_names.specs.declared.kinds.KindName.{KindName}
-use Rattle.stage_names.specs.declared.kinds.KindName.TheVariants.{ReadersLas, FiltersRange, FiltersCrop, FiltersAssign, FiltersFerry, FiltersExpression, FiltersDecimation, FiltersHead, FiltersReturns, FiltersMerge, FiltersSort, FiltersTail, FiltersGroupby, WritersLas, WritersText}
+use Rattle.stage_names.specs.declared.kinds.KindName.TheVariants.{ReadersLas, FiltersRange, FiltersCrop, FiltersAssign, FiltersFerry, FiltersExpression, FiltersDecimation, FiltersHead, FiltersReturns, FiltersMerge, FiltersSort, FiltersTail, FiltersGroupby, FiltersSplitter, FiltersVoxeldownsize, WritersLas, WritersText}
 use Rattle.stage_options.specs.Expressions.{condition_with, assignments_with}
 use Rattle.stage_options.specs.Values.{whole_of, truth_of, format_with, decimal_of, is_source, is_target}
 
@@ -21,6 +21,7 @@ pub data Allowed : Type 0 where
   sized : ℕ → ℕ → Allowed  -- a text of so many bytes
   any_text : Allowed  -- a text
   either_text : List ℕ → List ℕ → Allowed  -- one of two texts
+  this_text : List ℕ → Allowed  -- this text
   columns : Allowed  -- the columns of a text file
   forward : Allowed  -- the names of what is forwarded
   ranges : Allowed  -- ranges of the values of dimensions
@@ -78,6 +79,13 @@ short = whole 0 65535
 abbrev pub distance : Allowed
 distance = decimal (pos 0) (pos 4000000000000000000)
 
+-- the edge of a square or a voxel, from 10 ^ -9 to 10 ^ 9; a coordinate, up to 4 * 10 ^ 9 in size
+abbrev pub edge : Allowed
+edge = decimal (pos 1) (pos 1000000000000000000)
+
+abbrev pub coordinate : Allowed
+coordinate = decimal (neg_ℤ (pos 4000000000000000000)) (pos 4000000000000000000)
+
 -- the options of a type, in the order in which they are looked at
 abbrev pub rules_of : KindName → List Rule
 rules_of ReadersLas =
@@ -132,6 +140,15 @@ rules_of FiltersTail =
     ∷ [])
 rules_of FiltersGroupby =
     (required (codes "dimension") any_text
+    ∷ [])
+rules_of FiltersSplitter =
+    (required (codes "length") edge
+    ∷ optional (codes "origin_x") coordinate
+    ∷ optional (codes "origin_y") coordinate
+    ∷ [])
+rules_of FiltersVoxeldownsize =
+    (required (codes "cell") edge
+    ∷ optional (codes "mode") (this_text (codes "first"))
     ∷ [])
 rules_of WritersLas =
     (required (codes "filename") target
@@ -188,6 +205,7 @@ fits truth d = is_some (truth_of d)
 fits (sized low high) d = passes (has_size low high) (as_str d)
 fits any_text d = is_some (as_str d)
 fits (either_text one other) d = passes (is_either one other) (as_str d)
+fits (this_text text) d = passes (λ t. bytes_eq t text) (as_str d)
 fits columns d = passes (λ t. is_some (columns_of t)) (as_str d)
 fits forward d = passes (λ t. is_some (forward_of t)) (as_str d)
 fits ranges d = passes (λ t. is_some (ranges_of t)) (as_str d)

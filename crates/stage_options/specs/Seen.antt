@@ -21,6 +21,7 @@ allowed_view allowed.Truth = rules.truth
 allowed_view (allowed.Sized low high) = rules.sized low high
 allowed_view allowed.Text = rules.any_text
 allowed_view (allowed.Either one other) = rules.either_text one.now other.now
+allowed_view (allowed.Exactly text) = rules.this_text text.now
 allowed_view allowed.Columns = rules.columns
 allowed_view allowed.Forward = rules.forward
 allowed_view allowed.Ranges = rules.ranges

@@ -1,9 +1,8 @@
 //! Values of options within the bounds of their table.
 
-ghost use Rattle.std.specs.Prelude.{◌≡◌, ◌≤◌, length};
+ghost use Rattle.std.specs.Prelude.{◌≡◌, ◌≤◌};
 ghost use Rattle.forward_rules.specs.Options.{AreGoodOptions};
 
-use file_devices::Name;
 use forward_rules::LasOpts;
 use std::marker::Model;
 
@@ -38,40 +37,6 @@ impl Places {
         ensures few { result ≤ 9 }
     {
         self.count
-    }
-}
-
-/// What stands between two columns, at most 8 bytes, which contracts see as the list of them.
-#[derive(Drop)]
-pub struct Delimiter {
-    text: Name,
-}
-
-impl Model for Delimiter {
-    ghost use Rattle.std.specs.Prelude.{ℕ, List, ◌≤◌, length};
-
-    ghost Value = { List ℕ };
-
-    ghost view = { λ d. d.text };
-
-    ghost invariant = { λ d. length d.text ≤ 8 };
-}
-
-impl Delimiter {
-    /// This text. It takes no memory.
-    pub fn new(text: Name) -> Self
-        requires { length text ≤ 8 }
-        ensures { result ≡ text }
-    {
-        Delimiter { text }
-    }
-
-    /// The text.
-    pub fn as_str(&self) -> &str
-        ensures text { result.now ≡ self.now }
-        ensures short { length result.now ≤ 8 }
-    {
-        self.text.as_str()
     }
 }
 

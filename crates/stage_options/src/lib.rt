@@ -13,13 +13,13 @@ mod tree;
 mod values;
 
 pub use assignments::AssignList;
-pub use bounded::{Delimiter, LasFields, Places};
+pub use bounded::{LasFields, Places};
 pub use laws::roles_follow_types;
 pub use names::{SourceName, TargetName, name_from};
 pub use options::{
     AssignOptions, CropOptions, DecimationOptions, ExpressionOptions, FerryOptions, GroupbyOptions,
     HeadOptions, LasReaderOptions, LasWriterOptions, MergeOptions, Options, RangeOptions,
-    ReturnsOptions, SortOptions, TailOptions, TextOptions,
+    ReturnsOptions, SortOptions, SplitterOptions, TailOptions, TextOptions, VoxeldownsizeOptions,
 };
 pub use role::Role;
 pub use rules::{Allowed, Rule, rules_of};

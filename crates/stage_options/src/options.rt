@@ -8,7 +8,7 @@ ghost use Rattle.stage_options.specs.Roles.{role_of};
 ghost use Rattle.stage_options.specs.Seen.{role_view};
 
 use crate::assignments::AssignList;
-use crate::bounded::{Delimiter, LasFields, Places};
+use crate::bounded::{LasFields, Places};
 use crate::names::{SourceName, TargetName};
 use crate::role::Role;
 use expr_lang::Expr;
@@ -17,6 +17,7 @@ use geo_tests::Shape;
 use limits_text::RangeList;
 use option_texts::{Groups, NamedColumns, NamedFerries, NamedFerry};
 use stage_names::KindName;
+use text_writer::Separator;
 
 /// The options of a stage, with their defaults put in.
 #[derive(Drop)]
@@ -59,6 +60,12 @@ pub enum Options {
 
     /// Of `filters.groupby`.
     FiltersGroupby(GroupbyOptions),
+
+    /// Of `filters.splitter`.
+    FiltersSplitter(SplitterOptions),
+
+    /// Of `filters.voxeldownsize`.
+    FiltersVoxeldownsize(VoxeldownsizeOptions),
 
     /// Of `writers.las`.
     WritersLas(LasWriterOptions),
@@ -191,6 +198,26 @@ pub struct GroupbyOptions {
     pub dimension: Name,
 }
 
+/// The options of `filters.splitter`.
+#[derive(Drop)]
+pub struct SplitterOptions {
+    /// The length of the edge of a square, in nanounits, 1 to 10^18.
+    pub length: i64,
+
+    /// X of a corner of a square, in nanounits, at most 4 * 10^18 in size.
+    pub origin_x: i64,
+
+    /// Y of that corner, in nanounits, at most 4 * 10^18 in size.
+    pub origin_y: i64,
+}
+
+/// The options of `filters.voxeldownsize`.
+#[derive(Drop)]
+pub struct VoxeldownsizeOptions {
+    /// The length of the edge of a voxel, in nanounits, 1 to 10^18.
+    pub cell: i64,
+}
+
 /// The options of `writers.las`.
 #[derive(Drop)]
 pub struct LasWriterOptions {
@@ -217,7 +244,7 @@ pub struct TextOptions {
     pub precision: Places,
 
     /// What stands between two columns.
-    pub delimiter: Delimiter,
+    pub delimiter: Separator,
 
     /// Whether the names of the columns stand in double quotes.
     pub quote_header: bool,
@@ -248,6 +275,8 @@ impl Options {
             Options::FiltersSort(_) => KindName::FiltersSort,
             Options::FiltersTail(_) => KindName::FiltersTail,
             Options::FiltersGroupby(_) => KindName::FiltersGroupby,
+            Options::FiltersSplitter(_) => KindName::FiltersSplitter,
+            Options::FiltersVoxeldownsize(_) => KindName::FiltersVoxeldownsize,
             Options::WritersLas(_) => KindName::WritersLas,
             Options::WritersText(_) => KindName::WritersText,
         }
@@ -261,9 +290,11 @@ impl Options {
             Options::ReadersLas(options) => Role::Reads(options.filename.as_str()),
             Options::WritersLas(options) => Role::Writes(options.filename.as_str()),
             Options::WritersText(options) => Role::Writes(options.filename.as_str()),
-            Options::FiltersSort(_) | Options::FiltersTail(_) | Options::FiltersGroupby(_) => {
-                Role::Gathers
-            }
+            Options::FiltersSort(_)
+            | Options::FiltersTail(_)
+            | Options::FiltersGroupby(_)
+            | Options::FiltersSplitter(_)
+            | Options::FiltersVoxeldownsize(_) => Role::Gathers,
             Options::FiltersRange(_)
             | Options::FiltersCrop(_)
             | Options::FiltersAssign(_)

@@ -30,6 +30,9 @@ pub enum Allowed {
     /// One of two texts.
     Either(&'static str, &'static str),
 
+    /// This text.
+    Exactly(&'static str),
+
     /// The columns of a text file.
     Columns,
 
@@ -123,6 +126,12 @@ const OFFSET: Allowed = Allowed::Decimal(-999_999_999_999_999_999, 999_999_999_9
 /// A radius, up to 4 * 10^9.
 const DISTANCE: Allowed = Allowed::Decimal(0, 4_000_000_000_000_000_000);
 
+/// The edge of a square or a voxel, from 10^-9 to 10^9.
+const EDGE: Allowed = Allowed::Decimal(1, 1_000_000_000_000_000_000);
+
+/// A coordinate, up to 4 * 10^9 in size.
+const COORDINATE: Allowed = Allowed::Decimal(-4_000_000_000_000_000_000, 4_000_000_000_000_000_000);
+
 /// A field of 16 bits.
 const SHORT: Allowed = Allowed::Whole(0, 65_535);
 
@@ -184,6 +193,19 @@ const FILTERS_TAIL: &[Rule] = &[Rule::Optional("count", Allowed::Whole(0, 4_294_
 /// The options of `filters.groupby`.
 const FILTERS_GROUPBY: &[Rule] = &[Rule::Required("dimension", Allowed::Text)];
 
+/// The options of `filters.splitter`.
+const FILTERS_SPLITTER: &[Rule] = &[
+    Rule::Required("length", EDGE),
+    Rule::Optional("origin_x", COORDINATE),
+    Rule::Optional("origin_y", COORDINATE),
+];
+
+/// The options of `filters.voxeldownsize`.
+const FILTERS_VOXELDOWNSIZE: &[Rule] = &[
+    Rule::Required("cell", EDGE),
+    Rule::Optional("mode", Allowed::Exactly("first")),
+];
+
 /// The options of `writers.las`.
 const WRITERS_LAS: &[Rule] = &[
     Rule::Required("filename", Allowed::Target),
@@ -240,6 +262,8 @@ pub fn rules_of(kind: KindName) -> &'static [Rule]
         KindName::FiltersSort => FILTERS_SORT,
         KindName::FiltersTail => FILTERS_TAIL,
         KindName::FiltersGroupby => FILTERS_GROUPBY,
+        KindName::FiltersSplitter => FILTERS_SPLITTER,
+        KindName::FiltersVoxeldownsize => FILTERS_VOXELDOWNSIZE,
         KindName::WritersLas => WRITERS_LAS,
         KindName::WritersText => WRITERS_TEXT,
     }

@@ -21,7 +21,7 @@ use Rattle.stage_kinds.specs.Stages.{HoldsAll, is_leaf, holds_of, stops_nowhere,
 use Rattle.stage_kinds.specs.Reads.{told_of, told_fault_of}
 use Rattle.stage_kinds.proofs.Streams.{written-count}
 use Rattle.view_works.specs.declared.collector.Collector.{Collector as Collecting}
-use Rattle.whole_filters.specs.Gathered.{gathered}
+use Rattle.tile_filters.specs.Gathered.{gathered}
 use Rattle.whole_filters.specs.declared.gathering.Gathering.{Gathering}
 use Rattle.file_devices.specs.declared.devices.Op.{Op}
 use Rattle.file_devices.specs.declared.devices.Op.TheVariants.{Write}

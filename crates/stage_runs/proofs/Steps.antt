@@ -12,7 +12,7 @@ use Rattle.network_theory.specs.Forest.{IsForest}
 use Rattle.network_core.specs.declared.node.Node.{Node}
 use Rattle.network_core.proofs.Opened.{some_at}
 use Rattle.view_works.specs.Collecting.{Held, held}
-use Rattle.whole_filters.specs.Gathered.{gathered}
+use Rattle.tile_filters.specs.Gathered.{gathered}
 use Rattle.whole_filters.specs.declared.gathering.Gathering.{Gathering}
 use Rattle.stage_kinds.specs.declared.stage_work.StageState.{StageState}
 use Rattle.stage_kinds.specs.declared.stage_work.StageState.TheVariants.{Collecting}

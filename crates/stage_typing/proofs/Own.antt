@@ -23,6 +23,8 @@ own_kind kind.FiltersMerge filename ms = refl
 own_kind kind.FiltersSort filename ms = refl
 own_kind kind.FiltersTail filename ms = refl
 own_kind kind.FiltersGroupby filename ms = refl
+own_kind kind.FiltersSplitter filename ms = refl
+own_kind kind.FiltersVoxeldownsize filename ms = refl
 own_kind kind.WritersLas filename ms = refl
 own_kind kind.WritersText filename ms = refl
 

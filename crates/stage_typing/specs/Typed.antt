@@ -24,7 +24,7 @@ use Rattle.option_texts.specs.declared.groups.Groups.{Groups}
 use Rattle.stage_names.specs.declared.kinds.KindName.{KindName}
 use Rattle.stage_names.specs.declared.kinds.KindName.TheVariants as kind
 use Rattle.stage_options.specs.declared.options.Options.{Options}
-use Rattle.stage_options.specs.declared.options.Options.TheVariants.{ReadersLas, FiltersRange, FiltersCrop, FiltersAssign, FiltersFerry, FiltersExpression, FiltersDecimation, FiltersHead, FiltersReturns, FiltersMerge, FiltersSort, FiltersTail, FiltersGroupby, WritersLas, WritersText}
+use Rattle.stage_options.specs.declared.options.Options.TheVariants.{ReadersLas, FiltersRange, FiltersCrop, FiltersAssign, FiltersFerry, FiltersExpression, FiltersDecimation, FiltersHead, FiltersReturns, FiltersMerge, FiltersSort, FiltersTail, FiltersGroupby, FiltersSplitter, FiltersVoxeldownsize, WritersLas, WritersText}
 use Rattle.stage_options.specs.declared.options.RangeOptions.{RangeOptions}
 use Rattle.stage_options.specs.declared.options.CropOptions.{CropOptions}
 use Rattle.stage_options.specs.declared.options.AssignOptions.{AssignOptions}
@@ -36,6 +36,8 @@ use Rattle.stage_options.specs.declared.options.ReturnsOptions.{ReturnsOptions}
 use Rattle.stage_options.specs.declared.options.SortOptions.{SortOptions}
 use Rattle.stage_options.specs.declared.options.TailOptions.{TailOptions}
 use Rattle.stage_options.specs.declared.options.GroupbyOptions.{GroupbyOptions}
+use Rattle.stage_options.specs.declared.options.SplitterOptions.{SplitterOptions}
+use Rattle.stage_options.specs.declared.options.VoxeldownsizeOptions.{VoxeldownsizeOptions}
 use Rattle.stage_options.specs.declared.options.LasWriterOptions.{LasWriterOptions}
 use Rattle.stage_options.specs.declared.options.TextOptions.{TextOptions}
 use Rattle.stage_options.specs.Expressions.{condition_with, assignments_with}
@@ -61,6 +63,10 @@ scale_in name ms = option_and_then scale_of_nano (option_in decimal_of name ms)
 
 abbrev pub offset_in : List ℕ → Members → Option ℤ
 offset_in name ms = option_and_then (where_it (is_between (neg_ℤ (pos 999999999999999999)) (pos 999999999999999999))) (option_in decimal_of name ms)
+
+-- the decimal that an option is, or else this one, in nanounits
+abbrev pub decimal_or : ℤ → List ℕ → Members → ℤ
+decimal_or default name ms = unwrap_or (option_in decimal_of name ms) default
 
 -- which points a filter judges or a writer writes
 abbrev pub where_in : Members → Option (Formula (List ℕ))
@@ -204,6 +210,16 @@ tail_options ms = record { count = unwrap_or (option_in whole_of (codes "count")
 abbrev pub groupby_options : Members → GroupbyOptions
 groupby_options ms = record { dimension = name_in (codes "dimension") ms }
 
+abbrev pub splitter_options : Members → SplitterOptions
+splitter_options ms = record {
+  length = decimal_or (pos 1) (codes "length") ms;
+  origin_x = decimal_or (pos 0) (codes "origin_x") ms;
+  origin_y = decimal_or (pos 0) (codes "origin_y") ms;
+}
+
+abbrev pub voxeldownsize_options : Members → VoxeldownsizeOptions
+voxeldownsize_options ms = record { cell = decimal_or (pos 1) (codes "cell") ms }
+
 abbrev pub las_writer_options : List ℕ → Members → LasWriterOptions
 las_writer_options filename ms = record { filename = filename; fields = las_fields_in ms; only = where_in ms }
 
@@ -222,6 +238,8 @@ typed_of kind.FiltersMerge filename ms = FiltersMerge (record {})
 typed_of kind.FiltersSort filename ms = FiltersSort (sort_options ms)
 typed_of kind.FiltersTail filename ms = FiltersTail (tail_options ms)
 typed_of kind.FiltersGroupby filename ms = FiltersGroupby (groupby_options ms)
+typed_of kind.FiltersSplitter filename ms = FiltersSplitter (splitter_options ms)
+typed_of kind.FiltersVoxeldownsize filename ms = FiltersVoxeldownsize (voxeldownsize_options ms)
 typed_of kind.WritersLas filename ms = WritersLas (las_writer_options (unwrap_or filename []) ms)
 typed_of kind.WritersText filename ms = WritersText (text_options_in (unwrap_or filename []) ms)
 

@@ -10,7 +10,7 @@ ghost use Rattle.las_header.specs.ScaleWords.{scale_of_nano};
 ghost use Rattle.las_header.specs.Versions.{is_version, takes_format};
 ghost use Rattle.stage_options.specs.Expressions.{condition_with};
 ghost use Rattle.stage_options.specs.Seen.{given_view};
-ghost use Rattle.stage_typing.specs.Typed.{option_in, whole_in, text_in, scale_in, offset_in, columns_in, forward_in, format_in, takes_given, minor_in, las_fields_in, text_options_in, where_in, expression_in, assignments_in, ranges_in, ferries_in, groups_in, name_in, is_down};
+ghost use Rattle.stage_typing.specs.Typed.{option_in, whole_in, text_in, decimal_or, scale_in, offset_in, columns_in, forward_in, format_in, takes_given, minor_in, las_fields_in, text_options_in, where_in, expression_in, assignments_in, ranges_in, ferries_in, groups_in, name_in, is_down};
 ghost use Rattle.stage_options.specs.Values.{whole_of, decimal_of, truth_of};
 
 pub(crate) mod shapes;
@@ -24,10 +24,9 @@ use limits_text::RangeList;
 use option_texts::{Groups, NamedColumns, NamedFerries, columns_of, forward_of, groups_of};
 use pipeline_json::member;
 use serde_json::{Map, Value};
-use stage_options::{
-    AssignList, Delimiter, Given, LasFields, Places, TargetName, TextOptions, name_from,
-};
+use stage_options::{AssignList, Given, LasFields, Places, TargetName, TextOptions, name_from};
 use std::alloc::{AllocError, Global};
+use text_writer::Separator;
 
 /// The greatest offset, in nanounits.
 const MOST_OFFSET: i64 = 999_999_999_999_999_999;
@@ -120,6 +119,13 @@ fn decimal_in(options: &Map<String, Value>, name: &str) -> Option<i64>
     ensures { result ≡ option_in decimal_of name.now (members_view options.now.entries) }
 {
     given(options, name)?.decimal()
+}
+
+/// The decimal that an option is, or else this one, in nanounits.
+pub(crate) fn decimal_or(options: &Map<String, Value>, name: &str, default: i64) -> i64
+    ensures { result ≡ decimal_or default name.now (members_view options.now.entries) }
+{
+    decimal_in(options, name).unwrap_or(default)
 }
 
 /// The scale factor of so many nanounits.
@@ -392,7 +398,7 @@ pub(crate) fn text_options(
         filename,
         columns,
         precision: Places::new(precision),
-        delimiter: Delimiter::new(delimiter),
+        delimiter: Separator::new(delimiter),
         quote_header: truth_or(options, "quote_header", true),
         write_header: truth_or(options, "write_header", true),
         only,

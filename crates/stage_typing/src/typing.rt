@@ -3,7 +3,7 @@
 ghost use Rattle.std.specs.Prelude.{◌≡◌, [], option_map, None, IfOk, IfErr, OnOk, IsTrue};
 ghost use Rattle.std.specs.Option.{unwrap_or};
 ghost use Rattle.serde_json.specs.View.{members_view};
-ghost use Rattle.stage_typing.specs.Typed.{typed_of, is_named, range_options, crop_options, assign_options, ferry_options, expression_options, decimation_options, head_options, returns_options, sort_options, tail_options, groupby_options, las_writer_options, text_options_in};
+ghost use Rattle.stage_typing.specs.Typed.{typed_of, is_named, range_options, crop_options, assign_options, ferry_options, expression_options, decimation_options, head_options, returns_options, sort_options, tail_options, groupby_options, splitter_options, voxeldownsize_options, las_writer_options, text_options_in};
 ghost use Rattle.stage_typing.specs.OptionFaults.{first_fault};
 ghost use Rattle.stage_options.specs.Faults.{IsFaultOf};
 ghost use Rattle.stage_options.specs.Values.{is_source, is_target};
@@ -11,8 +11,8 @@ ghost use Rattle.stage_options.specs.declared.options.Options.TheVariants as typ
 
 use crate::members::shapes::shape_in;
 use crate::members::{
-    assignments_in, expression_in, ferries_in, groups_in, is_down, las_fields, name_in, number_in,
-    ranges_in, text_options, truth_or, where_in, whole_or,
+    assignments_in, decimal_or, expression_in, ferries_in, groups_in, is_down, las_fields, name_in,
+    number_in, ranges_in, text_options, truth_or, where_in, whole_or,
 };
 use crate::walks::refuse;
 use serde_json::{Map, Value};
@@ -20,7 +20,8 @@ use stage_names::{KindName, PipeErr};
 use stage_options::{
     AssignOptions, CropOptions, DecimationOptions, ExpressionOptions, FerryOptions, GroupbyOptions,
     HeadOptions, LasReaderOptions, LasWriterOptions, MergeOptions, Options, RangeOptions,
-    ReturnsOptions, SortOptions, SourceName, TailOptions, TargetName, name_from, rules_of,
+    ReturnsOptions, SortOptions, SourceName, SplitterOptions, TailOptions, TargetName,
+    VoxeldownsizeOptions, name_from, rules_of,
 };
 use std::alloc::{AllocError, Global};
 
@@ -142,6 +143,24 @@ fn filters_groupby(alloc: Global, options: &Map<String, Value>) -> Result<Option
     Ok(Options::FiltersGroupby(GroupbyOptions { dimension }))
 }
 
+fn filters_splitter(options: &Map<String, Value>) -> Options
+    ensures { result ≡ typed_as.FiltersSplitter (splitter_options (members_view options.now.entries)) }
+{
+    Options::FiltersSplitter(SplitterOptions {
+        length: decimal_or(options, "length", 1),
+        origin_x: decimal_or(options, "origin_x", 0),
+        origin_y: decimal_or(options, "origin_y", 0),
+    })
+}
+
+fn filters_voxeldownsize(options: &Map<String, Value>) -> Options
+    ensures { result ≡ typed_as.FiltersVoxeldownsize
+        (voxeldownsize_options (members_view options.now.entries)) }
+{
+    let cell = decimal_or(options, "cell", 1);
+    Options::FiltersVoxeldownsize(VoxeldownsizeOptions { cell })
+}
+
 fn readers_las(alloc: Global, filename: Option<&str>) -> Result<Options, AllocError>
     requires { IsTrue (is_source (unwrap_or (option_map (λ s. s.now) filename) [])) }
     ensures { IfOk result (λ o. o
@@ -208,6 +227,8 @@ fn typed(
         KindName::FiltersSort => filters_sort(alloc, options),
         KindName::FiltersTail => Ok(filters_tail(options)),
         KindName::FiltersGroupby => filters_groupby(alloc, options),
+        KindName::FiltersSplitter => Ok(filters_splitter(options)),
+        KindName::FiltersVoxeldownsize => Ok(filters_voxeldownsize(options)),
         KindName::WritersLas => writers_las(alloc, filename, options),
         KindName::WritersText => writers_text(alloc, filename, options),
     }

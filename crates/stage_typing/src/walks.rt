@@ -65,6 +65,7 @@ fn fits(alloc: Global, allowed: Allowed, given: Given<'_>) -> Result<bool, Alloc
         Allowed::Sized(low, high) => given.text().is_some_and(|text| has_size(low, high, text)),
         Allowed::Text => given.text().is_some(),
         Allowed::Either(one, other) => given.text().is_some_and(|text| is_either(one, other, text)),
+        Allowed::Exactly(only) => given.text().is_some_and(|text| text == only),
         Allowed::Columns => given.text().is_some_and(|text| is_columns(text)),
         Allowed::Forward => given.text().is_some_and(|text| is_forward(text)),
         Allowed::Source => given.text().is_some_and(|name| is_source(name)),

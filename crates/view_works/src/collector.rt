@@ -1,9 +1,8 @@
 //! A root that keeps what it takes.
 
-use crate::HeldViews;
 use cloud_points::{Layout, Spread};
-use std::alloc::{AllocError, Global};
-use whole_filters::{Gathering, Views, gather};
+use std::alloc::Global;
+use whole_filters::{Gathering, Views};
 
 /// A stage that needs whole views, while it takes them: it keeps the flow, and gives it on. Where memory is wanting it notes that, and
 /// keeps nothing from then on.
@@ -15,13 +14,10 @@ pub struct Collector {
 }
 
 impl Collector {
-    ghost use Rattle.std.specs.Prelude.{◌≡◌, false, true, [], IfOk};
+    ghost use Rattle.std.specs.Prelude.{◌≡◌, false, true, []};
     ghost use Rattle.cloud_points.specs.Events.{ran_short};
     ghost use Rattle.cloud_points.specs.Flows.{empty_flow};
-    ghost use Rattle.cloud_points.specs.Marks.{flow_marks};
     ghost use Rattle.view_works.specs.Collecting.{held, collecting, state_of};
-    ghost use Rattle.view_works.specs.Giving.{still_gives};
-    ghost use Rattle.whole_filters.specs.Gathered.{gathered};
 
     /// One that holds nothing yet, of a stage that makes this of whole views. It keeps points in rows that have the
     /// dimensions of the layout.
@@ -89,22 +85,10 @@ impl Collector {
         self.short
     }
 
-    /// What the stage makes of the flow that it took, as a leaf that gives it. It is refused only where memory is wanting, or was as
-    /// the flow came.
-    pub fn gather(self, alloc: Global) -> Result<HeldViews, AllocError>
-        ensures gives { IfOk result (λ given. still_gives given.ended given.views given.view given.at
-            ≡ flow_marks (gathered self.gathering self.views)) }
-        ensures kept { IfOk result (λ given. self.short ≡ false) }
-        ensures begins { IfOk result (λ given. given.ended ≡ false) }
+    /// The flow that it took; None exactly where memory was wanting as it came.
+    pub fn into_views(self) -> Option<Views>
+        ensures { result ≡ held self.short self.views }
     {
-        let Collector {
-            gathering,
-            views,
-            short,
-        } = self;
-        if short {
-            return Err(AllocError);
-        }
-        Ok(HeldViews::new(gather(alloc, views, gathering)?))
+        if self.short { None } else { Some(self.views) }
     }
 }

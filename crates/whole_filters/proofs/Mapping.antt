@@ -14,7 +14,8 @@ use Rattle.cloud_points.specs.Points.{key_of}
 use Rattle.cloud_points.specs.declared.dims.Dim.{Dim}
 use Rattle.cloud_points.specs.declared.point.Point.{Point}
 use Rattle.whole_filters.specs.Whole.{before, insert_by, sorted_by}
-use Rattle.whole_filters.specs.Places.{AreKeyed, middle_of, short_key, turned}
+use Rattle.packed_chunk.specs.Keys.{middle_of, short_key}
+use Rattle.whole_filters.specs.Places.{AreKeyed, turned}
 use Rattle.whole_filters.specs.declared.places.Entry.{Entry}
 use Rattle.whole_filters.proofs.Sorting.{Each, each_at, each-sorted, before-order}
 

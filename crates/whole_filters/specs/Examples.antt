@@ -1,7 +1,8 @@
 -- Whole steps that compute, on pairs of a name and a key.
 use Rattle.std.specs.Prelude.{◌≡◌, ℕ, ℤ, pos, true, false, List, [], ◌∷◌, map, refl}
+use Rattle.std.specs.Ordering.{int_eq}
 use Rattle.cloud_points.specs.Flows.{Flow}
-use Rattle.whole_filters.specs.Whole.{whole_set, sorted, last_of, groups}
+use Rattle.whole_filters.specs.Whole.{whole_set, sorted, last_of, groups, first_of_each}
 
 abbrev one : List (ℕ × ℤ)
 one = (1, pos 5) ∷ (2, pos 1) ∷ []
@@ -33,9 +34,14 @@ pub tails : names (whole_set (last_of 1) (flow (one ∷ [] ∷ other ∷ [])))
 tails = refl
 
 -- a view without points gives none
-pub parted : names (whole_set (groups (λ p. p.1)) (flow (both ∷ [] ∷ other ∷ [])))
+pub parted : names (whole_set (groups int_eq (λ p. p.1)) (flow (both ∷ [] ∷ other ∷ [])))
     ≡ (1 ∷ 3 ∷ []) ∷ (2 ∷ []) ∷ (4 ∷ []) ∷ (3 ∷ []) ∷ (4 ∷ []) ∷ []
 parted = refl
+
+-- the first point of each key; a view without points stays
+pub thinned : names (whole_set (first_of_each int_eq (λ p. p.1)) (flow (both ∷ [] ∷ other ∷ [])))
+    ≡ (1 ∷ 2 ∷ 4 ∷ []) ∷ [] ∷ (3 ∷ 4 ∷ []) ∷ []
+thinned = refl
 
 pub cut_off : whole_set (sorted (λ p. p.1) false) (record { views = one ∷ []; open_view = other; cut = true })
     ≡ record { views = []; open_view = []; cut = true }

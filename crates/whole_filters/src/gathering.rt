@@ -1,11 +1,20 @@
 //! What a stage does that needs whole views.
 
-ghost use Rattle.std.specs.Prelude.{◌≡◌, IfOk};
-ghost use Rattle.whole_filters.specs.Gathered.{gathered};
-
-use crate::{Views, groupby, sort, tail};
+use crate::lengths::EdgeLength;
 use cloud_points::Dim;
-use std::alloc::{AllocError, Global};
+
+/// The squares of a grid, in nanounits.
+#[derive(Clone, Copy, Debug, PartialEq, Eq)]
+pub struct Squares {
+    /// The length of their sides.
+    pub length: EdgeLength,
+
+    /// The X of a corner.
+    pub x: i64,
+
+    /// The Y of that corner.
+    pub y: i64,
+}
 
 /// What a stage does with whole views.
 #[derive(Clone, Copy, Debug, PartialEq, Eq)]
@@ -16,24 +25,8 @@ pub enum Gathering {
     Tail(u32),
     /// Parts each view by the values of a dimension.
     GroupBy(Dim),
-}
-
-/// What becomes of views, by `sort`, `tail` or `groupby`; an open view is dropped. It is refused for want of memory alone, and then
-/// drops its views.
-pub fn gather(alloc: Global, views: Views, how: Gathering) -> Result<Views, AllocError>
-    ensures { IfOk result (λ made. made ≡ gathered how views) }
-{
-    let mut views = views;
-    views.drop_open();
-    match how {
-        Gathering::Sort(dim, down) => {
-            sort(alloc, &mut views, dim, down)?;
-            Ok(views)
-        }
-        Gathering::Tail(count) => {
-            tail(&mut views, count as u64);
-            Ok(views)
-        }
-        Gathering::GroupBy(dim) => groupby(alloc, views, dim),
-    }
+    /// Parts each view by squares of X and Y.
+    Squares(Squares),
+    /// Keeps the first point of each voxel of each view. The voxels have edges of this length, and a corner at 0.
+    Voxels(EdgeLength),
 }

@@ -3,7 +3,6 @@
 ghost use Rattle.std.specs.Prelude.{◌≡◌, ◌<◌, ℤ, Bool, List, [], ◌∷◌, ◌++◌, All, AllPairs, IsPermutation, IsSortedBy, false, length, if◌then◌else◌};
 ghost use Rattle.std.specs.List.{list_any};
 ghost use Rattle.std.specs.List.Sorted.{IsStableBy};
-ghost use Rattle.std.specs.Ordering.{int_eq};
 ghost use Rattle.cloud_points.specs.Flows.{all_of};
 ghost use Rattle.cloud_points.specs.declared.point.Point.{Point};
 ghost use Rattle.whole_filters.specs.Whole.{before, sorted_by, distinct, groups};
@@ -22,15 +21,15 @@ pub fn sort_laws()
         → other ≡ sorted_by (before key down) view }
 {}
 
-/// The groups of a view hold each of its points once; no group is empty; each value of the key has one group, and a value
-/// that comes later stands behind those that came before.
-pub fn group_laws()
-    ensures each_point_once { (key : Point → ℤ) (view : List Point)
-        → IsPermutation view (all_of (groups key view)) }
-    ensures not_empty { (key : Point → ℤ) (view : List Point)
-        → All (λ group. 0 < length group) (groups key view) }
-    ensures all_values { (v : ℤ) (vs : List ℤ) → list_any (int_eq v) (distinct vs) ≡ list_any (int_eq v) vs }
-    ensures values_once { (vs : List ℤ) → AllPairs (λ v w. int_eq v w ≡ false) (distinct vs) }
-    ensures in_order { (vs : List ℤ) (v : ℤ)
-        → distinct (vs ++ v ∷ []) ≡ (if list_any (int_eq v) vs then distinct vs else distinct vs ++ v ∷ []) }
+/// The groups of a view by an equality of keys hold each of its points once; no group is empty; each value of the key has one
+/// group, and a value that comes later stands behind those that came before.
+pub fn group_laws<K: Eq>()
+    ensures each_point_once { (key : Point → K) (view : List Point)
+        → IsPermutation view (all_of (groups K.eq key view)) }
+    ensures not_empty { (key : Point → K) (view : List Point)
+        → All (λ group. 0 < length group) (groups K.eq key view) }
+    ensures all_values { (v : K) (vs : List K) → list_any (K.eq v) (distinct K.eq vs) ≡ list_any (K.eq v) vs }
+    ensures values_once { (vs : List K) → AllPairs (λ v w. K.eq v w ≡ false) (distinct K.eq vs) }
+    ensures in_order { (vs : List K) (v : K) → distinct K.eq (vs ++ v ∷ [])
+        ≡ (if list_any (K.eq v) vs then distinct K.eq vs else distinct K.eq vs ++ v ∷ []) }
 {}

@@ -1,7 +1,10 @@
 //! The points of one held view.
 
-ghost use Rattle.std.specs.Prelude.{◌≡◌, ◌+◌, ◌-◌, ◌<◌, ◌≤◌, ◌++◌, ◌∷◌, [], Some, take, drop, length, slice_get, swap, OnOk, OnErr};
-ghost use Rattle.cloud_points.specs.Points.{key_of};
+ghost use Rattle.std.specs.Prelude.{◌≡◌, ◌+◌, ◌-◌, ◌<◌, ◌≤◌, ◌++◌, ◌∷◌, [], Some, take, drop, length, slice_get, map, get_or, OnOk, OnErr};
+ghost use Rattle.std.specs.List.{range_with_len};
+ghost use Rattle.std.specs.List.Sorted.{IsPermutation};
+ghost use Rattle.cloud_points.specs.Points.{key_of, zero_point};
+ghost use Rattle.packed_chunk.specs.Keys.{short_key};
 ghost use Rattle.whole_filters.specs.Whole.{before, sorted_by};
 
 use crate::places::put_in_order;
@@ -113,13 +116,12 @@ impl Rows {
         put_in_order(alloc, self, dim, down)
     }
 
-    /// The points at two places change place.
-    pub fn swap(&mut self, a: usize, b: usize)
-        requires a { a < length self.old }
-        requires b { b < length self.old }
-        ensures { self.new ≡ swap self.old a b }
+    /// Moves each point to its place: the sources say where the points stand that go to each place. It allocates nothing.
+    pub fn reorder(&mut self, sources: &mut [usize])
+        requires { IsPermutation (range_with_len 0 (length self.old)) sources.old }
+        ensures { self.new ≡ map (λ k. get_or self.old k zero_point) sources.old }
     {
-        self.packed.swap(a, b);
+        self.packed.reorder(sources);
     }
 
     /// Keeps the last `count` points, and all where there are no more.
@@ -150,6 +152,14 @@ impl Rows {
         ensures { slice_get self.now k ≡ Some result }
     {
         self.packed.get(k)
+    }
+
+    /// The key of the point at a place in a dimension, in 64 bits and in the order of its whole key.
+    pub fn short_key(&self, k: usize, dim: Dim) -> i64
+        requires { k < length self.now }
+        ensures { result ≡ short_key dim (key_of (get_or self.now k zero_point) dim) }
+    {
+        self.packed.short_key(k, dim)
     }
 
     /// Puts `count` points from a place on in place of what the spread held.

@@ -136,7 +136,7 @@ impl Views {
     }
 
     /// Drops the points of the open view.
-    pub(crate) fn drop_open(&mut self)
+    pub fn drop_open(&mut self)
         ensures { self.new ≡ record self.old { open_view = [] } }
     {
         self.last = Rows::none(self.alloc, &self.layout);

@@ -5,7 +5,8 @@ ghost use Rattle.std.specs.Prelude.{◌≡◌, [], OnOk};
 use crate::views::are_told;
 use cloud_points::{Dim, Layout, Point};
 use std::alloc::{AllocError, Global};
-use whole_filters::{Gathering, Views, gather};
+use tile_filters::gather;
+use whole_filters::{EdgeLength, Gathering, Squares, Views};
 
 /// The X and Z of the points of some views, in nanounits.
 type Held = &'static [&'static [(i64, i64)]];
@@ -138,6 +139,12 @@ fn of_cut_views_nothing_goes_on(rt: HostRuntime) -> Result<(), AllocError> {
         Gathering::Sort(Dim::Z, false),
         Gathering::Tail(1),
         Gathering::GroupBy(Dim::Z),
+        Gathering::Squares(Squares {
+            length: EdgeLength::new(1),
+            x: 0,
+            y: 0,
+        }),
+        Gathering::Voxels(EdgeLength::new(1)),
     ] {
         let held = of_cut(rt.alloc(), how)?;
         assert!(rt; (held.views(), held.len(0), held.is_cut()) == (0, 0, true));

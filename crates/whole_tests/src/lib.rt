@@ -6,4 +6,6 @@ mod gathers;
 #[cfg(test)]
 mod layouts;
 #[cfg(test)]
+mod tiles;
+#[cfg(test)]
 mod views;

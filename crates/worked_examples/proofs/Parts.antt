@@ -29,6 +29,7 @@ use Rattle.file_devices.specs.declared.devices.Op.TheVariants.{Open}
 use Rattle.run_report.specs.declared.refusal.Place.TheVariants.{Stage}
 use Rattle.run_report.specs.declared.refusal.Refusal.{Refusal}
 use Rattle.run_report.specs.declared.refusal.Refusal.TheVariants.{Device, Pipeline}
+use Rattle.stage_names.specs.Kinds.{kind_named}
 use Rattle.stage_names.specs.declared.faults.PipeFault.TheVariants.{Empty, NotJson, NotAPipeline, CannotInfer, NoInput, TagTwice, TagUnknown, UsedTwice, OptionValue, OptionUnknown, SameOutput}
 use Rattle.stage_options.specs.declared.stage.StageSpec.{StageSpec}
 use Rattle.answer_model.specs.Steps.{and_then}
@@ -83,15 +84,15 @@ unfolding is_utf8 chars encode value punctuate lex content
 chain_is = refl
 
 one_is : stages_in head_of_1 ≡ Ok (from_las (head_after 0 1 ∷ writer_after 1 (codes "o.txt") ∷ []))
-unfolding is_utf8 chars encode value punctuate lex content word after_number number_of scan_numeral
+unfolding is_utf8 chars encode value punctuate lex content word after_number number_of scan_numeral kind_named
 one_is = refl
 
 zero_is : stages_in head_of_0 ≡ Ok (from_las (head_after 0 0 ∷ writer_after 1 (codes "o.txt") ∷ []))
-unfolding is_utf8 chars encode value punctuate lex content word after_number number_of scan_numeral
+unfolding is_utf8 chars encode value punctuate lex content word after_number number_of scan_numeral kind_named
 zero_is = refl
 
 tagged_is : stages_in tagged_head ≡ Ok (from_las (head_after 0 1 ∷ writer_after 1 (codes "o.txt") ∷ []))
-unfolding is_utf8 chars encode value punctuate lex content word after_number number_of scan_numeral
+unfolding is_utf8 chars encode value punctuate lex content word after_number number_of scan_numeral kind_named
 tagged_is = refl
 
 reader_is : stages_in reader_alone ≡ Ok (from_las [])
@@ -99,7 +100,7 @@ unfolding is_utf8 chars encode value punctuate lex content
 reader_is = refl
 
 between_is : stages_in writer_between ≡ Ok (from_las (writer_after 0 (codes "all.txt") ∷ head_after 1 1 ∷ writer_after 2 (codes "o.txt") ∷ []))
-unfolding is_utf8 chars encode value punctuate lex content word after_number number_of scan_numeral
+unfolding is_utf8 chars encode value punctuate lex content word after_number number_of scan_numeral kind_named
 between_is = refl
 
 pub empty_array : stages_in (codes "[]") ≡ Err (Pipeline Empty)
@@ -119,11 +120,11 @@ unfolding is_utf8 chars encode value punctuate lex content
 another_ending = refl
 
 pub a_head_first : stages_in (codes "[{\"type\":\"filters.head\"},\"in.las\",\"o.txt\"]") ≡ Err (Pipeline (NoInput 0))
-unfolding is_utf8 chars encode value punctuate lex content
+unfolding is_utf8 chars encode value punctuate lex content kind_named
 a_head_first = refl
 
 pub a_tag_twice : stages_in (codes "[{\"filename\":\"in.las\",\"tag\":\"a\"},{\"type\":\"filters.head\",\"tag\":\"a\"},\"o.txt\"]") ≡ Err (Pipeline (TagTwice 1))
-unfolding is_utf8 chars encode value punctuate lex content
+unfolding is_utf8 chars encode value punctuate lex content kind_named
 a_tag_twice = refl
 
 pub an_unknown_tag : stages_in (codes "[{\"filename\":\"in.las\",\"tag\":\"a\"},{\"filename\":\"o.txt\",\"inputs\":[\"b\"]}]") ≡ Err (Pipeline (TagUnknown 1))
@@ -131,7 +132,7 @@ unfolding is_utf8 chars encode value punctuate lex content
 an_unknown_tag = refl
 
 pub an_input_taken_twice : stages_in (codes "[{\"filename\":\"in.las\",\"tag\":\"a\"},{\"type\":\"filters.head\",\"inputs\":[\"a\"]},{\"filename\":\"o.txt\",\"inputs\":[\"a\"]}]") ≡ Err (Pipeline (UsedTwice 2))
-unfolding is_utf8 chars encode value punctuate lex content
+unfolding is_utf8 chars encode value punctuate lex content kind_named
 an_input_taken_twice = refl
 
 pub a_numbered_name : stages_in (codes "[\"in.las\",\"o#.txt\"]") ≡ Err (Pipeline (OptionValue 1 (codes "filename")))
@@ -139,19 +140,19 @@ unfolding is_utf8 chars encode value punctuate lex content
 a_numbered_name = refl
 
 pub an_unknown_option : stages_in (codes "[\"in.las\",{\"type\":\"filters.head\",\"cuont\":1},\"o.txt\"]") ≡ Err (Pipeline (OptionUnknown 1 (codes "cuont")))
-unfolding is_utf8 chars encode value punctuate lex content word after_number number_of scan_numeral
+unfolding is_utf8 chars encode value punctuate lex content word after_number number_of scan_numeral kind_named
 an_unknown_option = refl
 
 pub a_count_too_large : stages_in (codes "[\"in.las\",{\"type\":\"filters.head\",\"count\":4294967296},\"o.txt\"]") ≡ Err (Pipeline (OptionValue 1 (codes "count")))
-unfolding is_utf8 chars encode value punctuate lex content word after_number number_of scan_numeral
+unfolding is_utf8 chars encode value punctuate lex content word after_number number_of scan_numeral kind_named
 a_count_too_large = refl
 
 pub two_writers_of_a_name : stages_in (codes "[\"in.las\",{\"type\":\"writers.text\",\"filename\":\"o.txt\"},\"o.txt\"]") ≡ Err (Pipeline (SameOutput 2))
-unfolding is_utf8 chars encode value punctuate lex content
+unfolding is_utf8 chars encode value punctuate lex content kind_named
 two_writers_of_a_name = refl
 
 pub another_order : stages_in (codes "[\"in.las\",{\"type\":\"filters.sort\",\"dimension\":\"Z\",\"order\":\"up\"},\"o.txt\"]") ≡ Err (Pipeline (OptionValue 1 (codes "order")))
-unfolding is_utf8 chars encode value punctuate lex content
+unfolding is_utf8 chars encode value punctuate lex content kind_named
 another_order = refl
 
 -- two readers and the writer that takes both
@@ -319,5 +320,5 @@ pub one_made : (m : Names) → answer (codes "gen" ∷ codes "1" ∷ codes "g.la
 one_made m = ap (λ task. and_then task (done m)) gen_asked
 
 pub trial_typed : IsOk (stages_in trial_text)
-unfolding trial_text ranges_of ranges_in decimal_of_text is_utf8 chars encode value punctuate lex content word after_number number_of scan_numeral
+unfolding trial_text ranges_of ranges_in decimal_of_text is_utf8 chars encode value punctuate lex content word after_number number_of scan_numeral kind_named
 trial_typed = refl

@@ -1,0 +1,4 @@
+pub mod Cells
+pub mod Tiles
+pub mod Gathered
+pub mod Examples
