@@ -8,6 +8,7 @@ mod node;
 mod parts;
 mod queues;
 mod steps;
+mod stop;
 mod tray;
 mod turned;
 
@@ -16,4 +17,5 @@ pub use net::Net;
 pub use node::Node;
 pub use queues::Queues;
 pub use steps::Steps;
+pub use stop::Stop;
 pub use turned::{Turned, Why};

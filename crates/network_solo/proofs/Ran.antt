@@ -30,7 +30,7 @@ module _ {W S : Type 0} (g : Ghosts W S) (made : Net W) (new : IsNewNet g made) 
   node-is : (beyond : net.Node S Point StageFault) (k : ℕ) (n : Node W) → slice_get made.nodes.items k ≡ Some n → (net_of g beyond made).node k ≡ shown g (children made.ins k) n
   node-is beyond k n e = ap (shown_or g beyond (children made.ins k)) e
 
-  no_fault : (beyond : net.Node S Point StageFault) (k : ℕ) (n : Node W) → slice_get made.nodes.items k ≡ Some n → n.fault ≡ None
+  pub no_fault : (beyond : net.Node S Point StageFault) (k : ℕ) (n : Node W) → slice_get made.nodes.items k ≡ Some n → n.fault ≡ None
   no_fault beyond k n e =
       let o = new.opening (spent_of (shown g [] n)) (is-spent (shown g [] n)) in
       let within = slice_get_within made.nodes.items k n e in

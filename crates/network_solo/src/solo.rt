@@ -2,7 +2,7 @@
 
 use crate::rounds::take_rounds;
 use cloud_points::Work;
-use network_core::{Net, Steps};
+use network_core::{Net, Steps, Stop};
 use std::marker::Model;
 use std::sync::ledger::Ledger;
 
@@ -24,7 +24,9 @@ impl<W: Work> Solo<W> {
     ghost use Rattle.std.specs.Prelude.{◌≡◌};
     ghost use Rattle.network_core.specs.Nets.{ins_of, nodes_of, IsNewNet};
     ghost use Rattle.network_solo.specs.Runs.{HadCounted, IsRunToEnd, IsWithinDue, EndsInRest};
+    ghost use Rattle.network_solo.specs.Stopping.{IsOver, HadInTime, FaultsToCome};
     ghost use Rattle.network_solo.specs.Trees.{IsRanTree};
+    ghost use Rattle.network_core.specs.declared.stop.Stop.TheVariants.{First};
 
     /// This net, to be run.
     pub fn new(net: Net<W>) -> Solo<W>
@@ -48,7 +50,23 @@ impl<W: Work> Solo<W> {
         ensures ends { EndsInRest W.Work self.old self.new }
         ensures ran { IsRanTree W.Work (ins_of self.old) (nodes_of self.old) (nodes_of self.new) }
     {
-        take_rounds(&mut self.net, steps);
+        take_rounds(&mut self.net, steps, Stop::Last);
+    }
+
+    /// Lets the nodes of a new net take turns until all are done or one has a fault; no turn comes after a
+    /// fault. The turns that did work are counted in `steps`, and are at most as many as are due at the start.
+    ///
+    /// Where no node met a device's fault, no memory was wanting and all leaves tell, each fault of a node is
+    /// the one that was to come at the start.
+    pub fn run_first<L: Ledger>(&mut self, steps: &mut Steps<L>)
+        requires new { IsNewNet W.Work self.old }
+        ensures over { IsOver W.Work First self.new }
+        ensures in_time { HadInTime W.Work First self.old self.new }
+        ensures counted { HadCounted W.Work self.old self.new steps.old steps.new }
+        ensures bounded { IsWithinDue W.Work self.old steps.old steps.new }
+        ensures faults { FaultsToCome W.Work self.old self.new }
+    {
+        take_rounds(&mut self.net, steps, Stop::First);
     }
 
     /// The net.
