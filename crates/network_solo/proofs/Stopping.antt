@@ -1,6 +1,6 @@
 -- Turns that end at a fault: none came after one, and each fault is one that was to come.
-use Rattle.std.proofs.Common.{◌≡◌, ℕ, ◌+◌, ◌≤◌, ◌<◌, Bool, true, false, cond, List, [], ◌∷◌, ◌++◌, length, Option, Some, None, refl, ap, subst, sym, ◌∙◌, arith, inr}
-use Rattle.std.specs.Prelude.{slice_get, ◌==◌, is_some, ⊤, nat_eq}
+use Rattle.std.proofs.Common.{◌≡◌, ℕ, ◌+◌, ◌<◌, Bool, true, false, cond, List, [], ◌∷◌, ◌++◌, length, Option, Some, None, refl, ap, subst, sym, ◌∙◌, arith, inr}
+use Rattle.std.specs.Prelude.{slice_get, ◌==◌, is_some}
 use Rattle.std.proofs.lemmas.Bool.Decides.{nat_tests}
 use Rattle.std.proofs.lemmas.Option.{slice_get_within}
 use Rattle.cloud_points.specs.declared.point.Point.{Point}
@@ -23,7 +23,7 @@ use Rattle.network_core.specs.declared.turned.Turned.{Turned}
 use Rattle.network_core.specs.Shown.{shown, turned}
 use Rattle.network_core.specs.Nets.{net_of, root_of, capacity_of, choice_at, ObeysAt, SameShape, shown_or}
 use Rattle.network_core.proofs.Opened.{some_at}
-use Rattle.network_solo.specs.Runs.{HadTurns, NoEvents, AllTold}
+use Rattle.network_solo.specs.Runs.{HadTurns}
 use Rattle.network_solo.specs.Stopping.{stops_at, IsOver, IsClean, AreClean, CameInTime, HadInTime, FaultsToCome}
 use Rattle.network_solo.proofs.Turning.{no-turns, no-schedule, one-more, more-schedule}
 

@@ -4,6 +4,7 @@ pub mod Carrying
 pub mod SeatTurns
 pub mod Joined
 pub mod Paying
+pub mod InTime
 pub mod Joining
 pub mod Dealing
 pub mod Picked

@@ -1,6 +1,7 @@
 pub mod Lists
 pub mod Ends
 pub mod Seats
+pub mod Stopping
 pub mod Turns
 pub mod Pays
 pub mod Dealt

@@ -2,11 +2,14 @@
 
 ghost use Rattle.std.specs.Prelude.{◌≡◌, ◌<◌, ◌^◌, true, length};
 ghost use Rattle.network_workers.specs.Seats.{AreFit, AreDone, SeatsCarry};
+ghost use Rattle.network_workers.specs.Stopping.{stops_in, Somewhere, Nowhere, AtMostOnce, OtherSeatsStay};
 
 use crate::seats::{Seat, SeatIn};
+use crate::stopping::{ends_behind, some_ends};
 use crate::turns::turn_at;
 use cloud_points::Work;
 use file_devices::Gate;
+use network_core::Stop;
 use std::sync::Wait;
 use std::thread::Parker;
 use std::time::Duration;
@@ -31,6 +34,7 @@ fn turn_by_gate<W: Work, R: Wait, G: Gate>(
     requires fit { AreFit W.Work ins.old.items seats.old.items }
     ensures fit { AreFit W.Work ins.new.items seats.new.items }
     ensures carries { SeatsCarry W.Work ins.old.items ins.new.items seats.old.items seats.new.items }
+    ensures others { OtherSeatsStay at seats.old.items seats.new.items }
 {
     if !gate.before(worker, seats[at].stage) {
         return false;
@@ -38,22 +42,28 @@ fn turn_by_gate<W: Work, R: Wait, G: Gate>(
     turn_at(rt, seats, ins, at).did_work()
 }
 
-/// A turn of each seat for which the gate says so. Whether one of them did work.
+/// A turn of each seat for which the gate says so, up to one behind which turns end. Whether one of them did
+/// work.
 fn take_round<W: Work, R: Wait, G: Gate>(
     rt: &R,
     worker: u32,
     seats: &mut Vec<Seat<W>>,
     ins: &mut Vec<SeatIn>,
     gate: &G,
+    stop: Stop,
 ) -> bool
     requires few { length seats.old.items < 2 ^ 32 }
     requires fit { AreFit W.Work ins.old.items seats.old.items }
     ensures fit { AreFit W.Work ins.new.items seats.new.items }
     ensures carries { SeatsCarry W.Work ins.old.items ins.new.items seats.old.items seats.new.items }
+    ensures one { Nowhere (stops_in stop seats.old.items) → AtMostOnce (stops_in stop seats.new.items) }
 {
     let mut worked = false;
     for at in 0..seats.len() {
         worked = either(worked, turn_by_gate(rt, worker, seats, ins, at, gate));
+        if ends_behind(seats.as_slice(), at, stop) {
+            return worked;
+        }
     }
     worked
 }
@@ -98,7 +108,8 @@ fn pause<R: Wait>(rt: &R, idle: u64) {
     }
 }
 
-/// Rounds of one worker, until all its nodes are done or `patience` rounds in a row did no work.
+/// Rounds of one worker, until all its nodes are done, `patience` rounds in a row did no work, or turns end
+/// behind one of its seats.
 pub(crate) fn work<W: Work, R: Wait, G: Gate>(
     rt: &R,
     worker: u32,
@@ -106,19 +117,23 @@ pub(crate) fn work<W: Work, R: Wait, G: Gate>(
     ins: &mut Vec<SeatIn>,
     patience: u64,
     gate: &G,
+    stop: Stop,
 )
     requires few { length seats.old.items < 2 ^ 32 }
     requires fit { AreFit W.Work ins.old.items seats.old.items }
     ensures fit { AreFit W.Work ins.new.items seats.new.items }
     ensures carries { SeatsCarry W.Work ins.old.items ins.new.items seats.old.items seats.new.items }
+    ensures stays { Somewhere (stops_in stop seats.old.items)
+        → (seats.new ≡ seats.old) × (ins.new ≡ ins.old) }
+    ensures one { Nowhere (stops_in stop seats.old.items) → AtMostOnce (stops_in stop seats.new.items) }
 {
     let patience = patience.max(1);
     let mut idle = 0;
     for _ in rt.forever() {
-        if idle >= patience || are_done(seats.as_slice()) {
+        if idle >= patience || are_done(seats.as_slice()) || some_ends(seats.as_slice(), stop) {
             break;
         }
-        if take_round(rt, worker, seats, ins, gate) {
+        if take_round(rt, worker, seats, ins, gate, stop) {
             idle = 0;
         } else {
             idle += 1;

@@ -8,6 +8,7 @@ ghost use Rattle.network_theory.specs.Net.{works};
 ghost use Rattle.network_workers.specs.Ends.{first_at, sent_on, since, InGrew, OutGrew};
 ghost use Rattle.network_workers.specs.Seats.{IsFit, AreFit, SeatsCarry, SentBy, node_of};
 ghost use Rattle.network_workers.specs.Pays.{SeatsPaid};
+ghost use Rattle.network_workers.specs.Stopping.{OtherSeatsStay};
 ghost use Rattle.network_workers.specs.Turns.{CarriesTurn};
 
 use crate::seats::{Seat, SeatIn};
@@ -105,6 +106,7 @@ pub(crate) fn turn_at<W: Work, R: Wait>(
     requires fit { AreFit W.Work ins.old.items seats.old.items }
     ensures fit { AreFit W.Work ins.new.items seats.new.items }
     ensures carries { SeatsCarry W.Work ins.old.items ins.new.items seats.old.items seats.new.items }
+    ensures others { OtherSeatsStay at seats.old.items seats.new.items }
     ensures paid { SeatsPaid W.Work 0 (cond (works (turned result)) 1 0)
         ins.old.items ins.new.items seats.old.items seats.new.items }
 {
