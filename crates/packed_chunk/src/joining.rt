@@ -1,6 +1,7 @@
 //! Lists of rows behind others.
 
-ghost use Rattle.std.specs.Prelude.{◌≡◌, ◌++◌, length, take, OnOk, OnErr};
+ghost use Rattle.std.specs.Prelude.{◌≡◌, ◌<◌, ◌++◌, ◌∷◌, [], true, length, take, get_or, OnOk, OnErr};
+ghost use Rattle.cloud_points.specs.Points.{zero_point};
 
 use crate::PackedRows;
 use cloud_points::Point;
@@ -30,10 +31,18 @@ impl PackedRows {
         ensures ok { OnOk result (self.new.points ≡ self.old.points ++ later.now.points) }
         ensures refused { OnErr result (take (length self.old.points) self.new.points ≡ self.old.points) }
     {
-        if self.layout() == later.layout() {
+        if self.is_alike(later) {
             return self.append_rows(later);
         }
         self.append_points(later)
+    }
+
+    // Whether another list has the same layout.
+    #[inline(always)]
+    fn is_alike(&self, other: &PackedRows) -> bool
+        ensures { result ≡ true → other.now.layout ≡ self.now.layout }
+    {
+        self.layout() == other.layout()
     }
 
     // Of the same layout, by the bytes of the rows.
@@ -57,6 +66,21 @@ impl PackedRows {
             self.push_any(&later.get(k))?;
         }
         Ok(())
+    }
+
+    /// Puts the point at a place of another list at the end: of one with the same layout by the bytes of its row, and of
+    /// another one as `push_any` does. It is refused as by `push`, and the points are then as before.
+    #[inline(always)]
+    pub fn push_from(&mut self, other: &PackedRows, k: usize) -> Result<(), AllocError>
+        requires { k < length other.now.points }
+        ensures ok { OnOk result (self.new.points
+            ≡ self.old.points ++ get_or other.now.points k zero_point ∷ []) }
+        ensures refused { OnErr result (self.new.points ≡ self.old.points) }
+    {
+        if self.is_alike(other) {
+            return self.push_row(other, k);
+        }
+        self.push_any(&other.get(k))
     }
 
     /// Puts points at the end, all of them or none: as if each was put there by `push_any` in its turn. It is refused as by

@@ -189,6 +189,7 @@ impl PackedRows {
     }
 
     /// The point at a place, counted from 0.
+    #[inline(always)]
     pub fn get(&self, k: usize) -> Point
         requires { k < length self.now.points }
         ensures value { slice_get self.now.points k ≡ Some result }
