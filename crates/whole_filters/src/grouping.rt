@@ -1,9 +1,9 @@
 //! The filters that part each view by keys of its points.
 
-ghost use Rattle.std.specs.Prelude.{◌≡◌, ◌≤◌, false, [], length, flat_map, Some, IfOk, OnOk, unwrap_or, if◌then◌else◌};
+ghost use Rattle.std.specs.Prelude.{◌≡◌, ◌<◌, ◌≤◌, false, [], length, get_or, flat_map, Some, IfOk, OnOk, unwrap_or, if◌then◌else◌};
 ghost use Rattle.std.specs.Ordering.{int_eq};
 ghost use Rattle.std.specs.HashMap as table;
-ghost use Rattle.cloud_points.specs.Points.{key_of};
+ghost use Rattle.cloud_points.specs.Points.{key_of, zero_point};
 ghost use Rattle.whole_filters.specs.Held.{with_point};
 ghost use Rattle.whole_filters.specs.Whole.{whole_set, groups};
 
@@ -11,7 +11,7 @@ use crate::Views;
 use crate::keys::{DimKey, PointKey};
 use crate::points::Points;
 use crate::rows::Rows;
-use cloud_points::{Dim, Point};
+use cloud_points::Dim;
 use std::alloc::{AllocError, Global};
 use std::collections::HashMap;
 use std::hash::Hash;
@@ -67,9 +67,11 @@ fn parts_of<K: PointKey>(alloc: Global, view: Rows, by: &K) -> Result<Vec<Rows>,
     let empty = view.like();
     let mut places = HashMap::new(alloc);
     let mut made = Vec::new(alloc);
-    for p in Points::of(view) {
-        let place = place_of(&mut places, by.key(&p), made.len())?;
-        put_at(&empty, &mut made, place, &p)?;
+    let mut points = Points::of(view);
+    while points.has_more() {
+        let place = place_of(&mut places, points.first_key(by), made.len())?;
+        put_at(&empty, &mut made, place, &points)?;
+        points.skip();
     }
     Ok(made)
 }
@@ -91,16 +93,24 @@ fn place_of<K: Eq + Hash + Drop>(
     Ok(next)
 }
 
-// Puts a point behind those of the group at a place; behind the last group it makes one of its own, like the empty one.
-fn put_at(empty: &Rows, made: &mut Vec<Rows>, place: usize, p: &Point) -> Result<(), AllocError>
-    requires { place ≤ length made.old.items }
-    ensures { OnOk result (made.new.items ≡ with_point place p.now made.old.items) }
+// Puts the first of points behind those of the group at a place; behind the last group it makes one of its own, like the
+// empty one.
+fn put_at(
+    empty: &Rows,
+    made: &mut Vec<Rows>,
+    place: usize,
+    points: &Points,
+) -> Result<(), AllocError>
+    requires place { place ≤ length made.old.items }
+    requires some { 0 < length points.now }
+    ensures { OnOk result (made.new.items
+        ≡ with_point place (get_or points.now 0 zero_point) made.old.items) }
 {
     if place < made.len() {
-        return made[place].push(p);
+        return points.push_first(&mut made[place]);
     }
     let mut group = empty.like();
-    group.push(p)?;
+    points.push_first(&mut group)?;
     made.push(group)?;
     Ok(())
 }

@@ -30,6 +30,7 @@ impl PointKey for DimKey {
 
     ghost key = { λ by p. key_of p by.0 };
 
+    #[inline(always)]
     fn key(&self, p: &Point) -> i128 {
         p.key(self.0)
     }

@@ -55,6 +55,16 @@ impl Rows {
         self.packed.push_any(p)
     }
 
+    /// Puts the point at a place of another view at the end. It is refused for want of memory alone.
+    #[inline(always)]
+    pub fn push_from(&mut self, other: &Rows, k: usize) -> Result<(), AllocError>
+        requires { k < length other.now }
+        ensures ok { OnOk result (self.new ≡ self.old ++ get_or other.now k zero_point ∷ []) }
+        ensures refused { OnErr result (self.new ≡ self.old) }
+    {
+        self.packed.push_from(&other.packed, k)
+    }
+
     /// Puts points at the end. It is refused for want of memory alone.
     pub fn push_all(&mut self, points: &[Point]) -> Result<(), AllocError>
         ensures ok { OnOk result (self.new ≡ self.old ++ points.now) }
@@ -102,7 +112,7 @@ impl Rows {
         ensures refused { OnErr result (take (length self.old) self.new ≡ self.old) }
     {
         for k in 0..count {
-            self.push(&other.get(k))?;
+            self.push_from(other, k)?;
         }
         Ok(())
     }
@@ -147,6 +157,7 @@ impl Rows {
     }
 
     /// The point at a place, counted from 0.
+    #[inline(always)]
     pub fn get(&self, k: usize) -> Point
         requires { k < length self.now }
         ensures { slice_get self.now k ≡ Some result }

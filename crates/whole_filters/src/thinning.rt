@@ -49,9 +49,13 @@ fn firsts_of<K: PointKey>(alloc: Global, view: Rows, by: &K) -> Result<Rows, All
 {
     let mut made = view.like();
     let mut seen = HashSet::new(alloc);
-    for p in Points::of(view) {
-        if seen.insert(by.key(&p))? {
-            made.push(&p)?;
+    let mut points = Points::of(view);
+    while points.has_more() {
+        if seen.insert(points.first_key(by))? {
+            points.push_first(&mut made)?;
+            points.skip();
+        } else {
+            points.skip();
         }
     }
     Ok(made)

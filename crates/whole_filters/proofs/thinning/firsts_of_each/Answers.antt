@@ -1,4 +1,4 @@
-use Rattle.std.proofs.Common.{refl, ap, ◌∙◌, ◌∷◌, []}
+use Rattle.std.proofs.Common.{refl, ap, ◌∷◌, []}
 use Rattle.whole_filters.specs.Whole.{first_of_each}
 use Rattle.whole_filters.proofs.Stepping.{flat_map_next}
 use Rattle.whole_filters.proofs.thinning.firsts_of_each.Goals as goal

@@ -1,4 +1,4 @@
-use Rattle.std.proofs.Common.{ap, sym, ◌∙◌, ◌≡◌, drop, arith}
+use Rattle.std.proofs.Common.{ap, ◌∙◌, ◌≡◌, drop, arith}
 use Rattle.whole_filters.proofs.points.Points.let_go.Goals as goal
 
 pub returns-then-self-eq-PIECE : goal.returns-then-self-eq-PIECE
