@@ -35,6 +35,7 @@ impl PointKey for BySquare {
 
     ghost key = { λ by. square_of by.0.length by.0.x by.0.y };
 
+    #[inline(always)]
     fn key(&self, p: &Point) -> Square {
         let length = self.0.length.nano();
         Square {
@@ -55,6 +56,7 @@ impl PointKey for ByVoxel {
 
     ghost key = { λ by. voxel_of by.0 };
 
+    #[inline(always)]
     fn key(&self, p: &Point) -> Voxel {
         let cell = self.0.nano();
         Voxel {
