@@ -27,7 +27,7 @@ use Rattle.network_solo.proofs.Endings.{ends-over}
 use Rattle.network_solo.proofs.Turning.{spent_of, is-spent, had-work}
 
 module _ {W S : Type 0} (g : Ghosts W S) (made : Net W) (new : IsNewNet g made) (some : 0 < length made.nodes.items) where
-  node-is : (beyond : net.Node S Point StageFault) (k : ℕ) (n : Node W) → slice_get made.nodes.items k ≡ Some n → (net_of g beyond made).node k ≡ shown g (children made.ins k) n
+  pub node-is : (beyond : net.Node S Point StageFault) (k : ℕ) (n : Node W) → slice_get made.nodes.items k ≡ Some n → (net_of g beyond made).node k ≡ shown g (children made.ins k) n
   node-is beyond k n e = ap (shown_or g beyond (children made.ins k)) e
 
   pub no_fault : (beyond : net.Node S Point StageFault) (k : ℕ) (n : Node W) → slice_get made.nodes.items k ≡ Some n → n.fault ≡ None
@@ -36,7 +36,7 @@ module _ {W S : Type 0} (g : Ghosts W S) (made : Net W) (new : IsNewNet g made) 
       let within = slice_get_within made.nodes.items k n e in
       ap (λ x. x.machine.fault) (sym (node-is (spent_of (shown g [] n)) k n e)) ∙ (o.fresh k (omega (arith, within))).fault
 
-  all-told : LeavesTell g made.nodes.items → AllTold g made
+  pub all-told : LeavesTell g made.nodes.items → AllTold g made
   all-told tells k x e = λ l d h. (tells k x e l, no_fault (shown g [] x) k x e)
 
   module _ (law : (w : W) → KeepsCutting (g.meaning w)) (now : Net W) (had : HadTurns g (root_of made) made now) (done : IsRunToEnd g now) (ends : EndsInRest g made now) where

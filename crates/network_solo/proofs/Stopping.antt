@@ -21,11 +21,13 @@ use Rattle.network_core.specs.declared.stop.Stop.{Stop}
 use Rattle.network_core.specs.declared.stop.Stop.TheVariants.{Last, First}
 use Rattle.network_core.specs.declared.turned.Turned.{Turned}
 use Rattle.network_core.specs.Shown.{shown, turned}
-use Rattle.network_core.specs.Nets.{net_of, root_of, capacity_of, choice_at, ObeysAt, SameShape, shown_or}
+use Rattle.network_core.specs.Nets.{net_of, root_of, capacity_of, choice_at, ObeysAt, SameShape, shown_or, IsNewNet}
 use Rattle.network_core.proofs.Opened.{some_at}
 use Rattle.network_solo.specs.Runs.{HadTurns}
-use Rattle.network_solo.specs.Stopping.{stops_at, IsOver, IsClean, AreClean, CameInTime, HadInTime, FaultsToCome}
-use Rattle.network_solo.proofs.Turning.{no-turns, no-schedule, one-more, more-schedule}
+use Rattle.network_solo.specs.Stopping.{stops_at, IsOver, IsClean, AreClean, CameInTime, HadInTime, FaultsToCome, IsStoppedTree}
+use Rattle.network_solo.proofs.Endings.{fault-comes}
+use Rattle.network_solo.proofs.Ran.{node-is, all-told}
+use Rattle.network_solo.proofs.Turning.{no-turns, no-schedule, one-more, more-schedule, spent_of, is-spent, had-work}
 
 -- ---- none came too late
 
@@ -140,3 +142,22 @@ over-at g First n i x e h = inr (i, x, e, h)
 
 pub not-last : (stop : Stop) (fault : Option StageFault) → stops_at stop fault ≡ true → stop ≡ Last → ⊥
 not-last stop fault h e = let b : stops_at Last fault ≡ true = ap (λ s. stops_at s fault) (sym e) ∙ h in absurd cc
+
+-- ---- the tree that is left
+
+pub stopped-tree : {W S : Type 0} (g : Ghosts W S) (made now : Net W) → IsNewNet g made → ((w : W) → KeepsCutting (g.meaning w)) → HadTurns g (root_of made) made now → IsOver g First now → FaultsToCome g made now
+    → IsStoppedTree g made.ins made.nodes.items now.nodes.items
+stopped-tree {W} g made now new law had over faults = record {
+  count = had.same.count;
+  work = λ k n m e h. had-work g (root_of made) made now had k n m e h;
+  calm = λ k n m e h. had.calm k n m e h;
+  over = over;
+  faults = λ quiet tells value streams k n m f e h fault.
+      let within = slice_get_within made.nodes.items k n e in
+      let some : 0 < length made.nodes.items = omega (arith, within) in
+      let first = some_at made.nodes.items 0 some in
+      let beyond = spent_of (shown g [] first.0) in
+      let spent = is-spent (shown g [] first.0) in
+      sym (fault-comes g made.ins made.nodes.items (net_of g beyond made) (root_of made) (new.opening beyond spent) (omega (arith, some)) (node-is g made new some beyond) value streams k n (omega (arith, within)) e)
+      ∙ faults quiet (all-told g made new some tells) beyond spent (law first.0.work) k m f h fault;
+}
