@@ -1,6 +1,6 @@
 //! Limits of dimensions.
 
-ghost use Rattle.std.specs.Prelude.{◌≡◌, ◌||◌, IfSome};
+ghost use Rattle.std.specs.Prelude.{◌≡◌, ◌||◌, IfSome, is_some, length, true};
 ghost use Rattle.std.specs.List.{list_all};
 ghost use Rattle.cloud_points.specs.Layouts.{holds};
 ghost use Rattle.cloud_points.specs.declared.dims.Dim.{Dim as Dimension};
@@ -98,8 +98,9 @@ impl Limits {
 
     /// The limit of which a point is to be within, where there is no other.
     pub fn alone(&self) -> Option<Limit>
-        ensures { IfSome result (λ limit. (p : PointSeen)
+        ensures limit { IfSome result (λ limit. (p : PointSeen)
             → in_limits p self.now ≡ in_interval (get p limit.dim) limit.interval) }
+        ensures found { length self.now ≡ 1 → is_some result ≡ true }
     {
         match self.as_slice() {
             [limit] => Some(*limit),

@@ -17,7 +17,7 @@ returns-in-Some c =
     let Q : ℕ → Type 0 = λ m. IsMaskOf (range {R = Reason} limits) m points in
     subst Q (sym c.mask_of_limit.ensures)
     (tests_are_masks (λ p. in_interval (get p limit.dim) limit.interval) (range {R = Reason} limits)
-    (λ place p. ap (λ b. Ok (keeps b p)) (c.in-Some.ensures p)) points)
+    (λ place p. ap (λ b. Ok (keeps b p)) (c.in-Some.ensures.limit p)) points)
 
 pub returns-in-None : goal.returns-in-None
 returns-in-None c =
