@@ -104,13 +104,20 @@ def hill_record(raw, k):
     return record6(raw, 100 + k, 2, -500 + 7 * k, 250000.0 + k / 100)
 
 
-def hill():
-    """150 points in format 6, 15 by 10 of them: more than two chunks of 64."""
+HILL = [(150 * i, 150 * j, 12000 - 37 * ((i - 7) ** 2 + (j - 4) ** 2)) for j in range(10) for i in range(15)]
+
+
+def of_hill(numbers):
+    """The points of the hill with these numbers, in format 6."""
     scale, offset = [Fraction(1, 100)] * 3, [Fraction(500000), Fraction(4800000), Fraction(0)]
-    raw = [(150 * i, 150 * j, 12000 - 37 * ((i - 7) ** 2 + (j - 4) ** 2)) for j in range(10) for i in range(15)]
-    points = grid(raw, scale, offset)
+    points = grid([HILL[k] for k in numbers], scale, offset)
     data = header(4, 6, 30, points, scale, offset, 375)
-    return data + b"".join(hill_record(point, k) for k, point in enumerate(raw)), points
+    return data + b"".join(hill_record(HILL[k], k) for k in numbers), points
+
+
+def hill():
+    """150 points, 15 by 10 of them: more than two chunks of 64."""
+    return of_hill(range(len(HILL)))
 
 
 COAST_GRID = ([Fraction(1, 10000)] * 3, [Fraction(-3, 2), Fraction(0), Fraction(1, 4)])
@@ -250,6 +257,7 @@ def main():
     corners = [tuple(map(Fraction, corner)) for corner in [(500003, 4800003), (500015, 4800003), (500009, 4800012)]]
     thin = [voxel[0] for voxel in parted(hill_points, lambda point: cell(point, 4))]
     peaks = [max(square, key=lambda point: point[2]) for square in parted(hill_points, lambda point: cell(point[:2], 6))]
+    squares = parted(range(every), lambda k: cell(hill_points[k][:2], 6))
     # All points of the hill are ground.
     ground = [point for point in hill_points if lies_in(point, corners)]
     gap = [tuple(map(Fraction, corner)) for corner in [(500007, 4800004), (500011, 4800004), (500009, 4800009)]]
@@ -337,6 +345,18 @@ def main():
             ),
             "",
             {"peaks.txt": text(peaks)},
+        ),
+        "squares": (
+            0,
+            report(
+                (reader, every),
+                ("filters.splitter", every),
+                (las_writer, every, every),
+                several=[1, 2],
+                views=len(squares),
+            ).replace("outputs 1", f"outputs {len(squares)}"),
+            "",
+            {f"square_{number}.las": of_hill(numbers)[0] for number, numbers in enumerate(squares, 1)},
         ),
         "split": (
             0,

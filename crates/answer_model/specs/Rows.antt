@@ -1,21 +1,24 @@
 -- What each type of stage makes of whole flows: one row for each type. What it does with files is its role.
-use Rattle.std.specs.Prelude.{ℕ, Bool, false, List, [], map, Option, None}
+use Rattle.std.specs.Prelude.{ℕ, Bool, true, false, List, [], map, Option, None, option_map}
 use Rattle.cloud_points.specs.declared.point.Point.{Point}
 use Rattle.cloud_points.specs.declared.faults.PointFault.{PointFault}
+use Rattle.cloud_points.specs.declared.dims.Dim.{Dim}
 use Rattle.cloud_points.specs.Flows.{Flow}
+use Rattle.cloud_points.specs.Queue.{up_to_limit}
 use Rattle.expr_lang.specs.Formula.{Formula}
 use Rattle.expr_eval.specs.Bindings.{assign_of, dim_of}
 use Rattle.name_binding.specs.Binding.{bound, bound_where, limit_of, edge_of, squares_of}
 use Rattle.name_binding.specs.Ferries.{with_targets, ferries_bound}
 use Rattle.stage_options.specs.declared.options.Options.{Options}
 use Rattle.stage_options.specs.declared.options.Options.TheVariants.{ReadersLas, FiltersRange, FiltersCrop, FiltersAssign, FiltersFerry, FiltersExpression, FiltersDecimation, FiltersHead, FiltersReturns, FiltersMerge, FiltersSort, FiltersTail, FiltersGroupby, FiltersSplitter, FiltersVoxeldownsize, WritersLas, WritersText}
+use Rattle.stage_options.specs.Values.{is_numbered}
 use Rattle.forward_rules.specs.Forwarded.{ReadFile, form_of}
 use Rattle.forward_rules.specs.declared.form.LasForm.{LasForm}
 use Rattle.las_writer.specs.LasOutput.{las_output}
 use Rattle.las_writer.specs.Records.{fits, written}
 use Rattle.stage_meanings.specs.Conditions.{passes}
 use Rattle.stage_meanings.specs.Filtering.{Filtering, By, Admit, Merge, filtered, filtered_stop}
-use Rattle.stage_meanings.specs.Filters.{Rule, is_true}
+use Rattle.stage_meanings.specs.Filters.{Rule, admitted_in_views, is_true, point_fault, refusal_in_views}
 use Rattle.stage_meanings.specs.Rules.{range, crop, decimation, head, returns, expression, assign}
 use Rattle.stage_meanings.specs.Records.{unrecorded}
 use Rattle.stage_meanings.specs.declared.reason.Reason.{Reason}
@@ -25,10 +28,12 @@ use Rattle.whole_filters.specs.declared.gathering.Gathering.{Gathering}
 use Rattle.whole_filters.specs.declared.gathering.Gathering.TheVariants.{Sort, Tail, GroupBy, Squares, Voxels}
 use Rattle.answer_model.specs.Forms.{text_form}
 
--- what a stage makes of the flow that it takes: it judges its points one after the other, or it needs whole views
+-- what a stage makes of the flow that it takes: it judges its points one after the other; or it needs whole views; or it needs them, and
+-- gives them on where no point passes against which there is a reason, which may look at how many of its view passed before it
 pub data Making : Type 0 where
   Judging : Filtering → Making
   Gathered : Gathering → Making
+  Whole : (ℕ → Point → Option Reason) → Option (Formula Dim) → Making
 
 -- a type of stage
 pub record Row : Type 0 where
@@ -54,11 +59,16 @@ gathers g = record { making = Gathered g; writes = λ p. false; bytes = λ point
 abbrev pub by : List (List ℕ) → Rule Point Reason → Option (Formula (List ℕ)) → Row
 by names rule only = filters (By rule (bound_where names only))
 
--- a writer gives its points on, and writes those for which a condition holds; a point against which there is a reason, behind so many
--- that are written, has no place in its file
-abbrev pub writes : List (List ℕ) → (ℕ → Point → Option Reason) → (List Point → List ℕ) → Option (Formula (List ℕ)) → Row
-writes names reason bytes only = record {
-  making = Judging (Admit reason (bound_where names only));
+-- a writer gives its points on, by whether it writes a file of each view
+abbrev pub admits : Bool → (ℕ → Point → Option Reason) → Option (Formula Dim) → Making
+admits false reason only = Judging (Admit reason only)
+admits true reason only = Whole reason only
+
+-- it writes those for which a condition holds; a point against which there is a reason, behind so many that are written, has no place in
+-- its file
+abbrev pub writes : Bool → List (List ℕ) → (ℕ → Point → Option Reason) → (List Point → List ℕ) → Option (Formula (List ℕ)) → Row
+writes each names reason bytes only = record {
+  making = admits each reason (bound_where names only);
   writes = λ p. is_true (passes (bound_where names only) p);
   bytes = bytes;
 }
@@ -84,17 +94,19 @@ row_of (FiltersTail o) s = gathers (Tail o.count)
 row_of (FiltersGroupby o) s = gathers (GroupBy (dim_of s.names o.dimension))
 row_of (FiltersSplitter o) s = gathers (Squares (squares_of o))
 row_of (FiltersVoxeldownsize o) s = gathers (Voxels (edge_of o.cell))
-row_of (WritersLas o) s = writes s.names (unplaced_in (form_of o.fields s.reads)) (las_output (form_of o.fields s.reads)) o.only
-row_of (WritersText o) s = writes s.names (λ k p. None) (text_output (text_form s.names o)) o.only
+row_of (WritersLas o) s = writes (is_numbered o.filename) s.names (unplaced_in (form_of o.fields s.reads)) (las_output (form_of o.fields s.reads)) o.only
+row_of (WritersText o) s = writes (is_numbered o.filename) s.names (λ k p. None) (text_output (text_form s.names o)) o.only
 
--- a stage that needs whole views has no fault
+-- a filter that needs whole views has no fault
 abbrev pub made : Making → Flow Point → Flow Point
 made (Judging f) flow = filtered f flow
 made (Gathered g) flow = gathered g flow
+made (Whole reason only) flow = admitted_in_views reason (passes only) flow
 
 abbrev pub stop : Making → Flow Point → Option PointFault
 stop (Judging f) flow = filtered_stop f flow
 stop (Gathered g) flow = None
+stop (Whole reason only) flow = option_map (λ s. point_fault (up_to_limit s.0) s.1) (refusal_in_views reason (passes only) flow)
 
 -- the value of a stage on the flow that it takes, and its fault there
 abbrev pub value_on : Row → Flow Point → Flow Point

@@ -1,11 +1,11 @@
 -- What each stage of a tree gives on, and its fault, on whole flows.
-use Rattle.std.specs.Prelude.{◌≡◌, ℕ, ◌+◌, ◌<◌, Bool, true, false, ◌||◌, cond, List, [], ◌∷◌, map, filter, flat_map, take, length, slice_index_or, Option, Some, None, option_map, Result, Ok, Err}
+use Rattle.std.specs.Prelude.{◌≡◌, ℕ, ◌+◌, ◌<◌, Bool, true, false, ◌||◌, cond, List, [], ◌∷◌, ◌++◌, map, filter, flat_map, take, length, slice_index_or, Option, Some, None, Result, Ok, Err}
 use Rattle.std.proofs.Common.{zero, suc}
 use Rattle.std.specs.List.{range_with_len, list_any}
 use Rattle.cloud_points.specs.declared.dims.Dim.{Dim}
 use Rattle.cloud_points.specs.declared.point.Point.{Point}
 use Rattle.cloud_points.specs.declared.faults.PointFault.{PointFault}
-use Rattle.cloud_points.specs.Flows.{Flow, points, empty_flow, join_all}
+use Rattle.cloud_points.specs.Flows.{Flow, all_of, points, empty_flow, join_all}
 use Rattle.cloud_points.specs.Queue.{up_to_limit}
 use Rattle.point_formats.specs.Layouts.{dims_of, is_among}
 use Rattle.las_reader.specs.Files.{Las}
@@ -16,7 +16,8 @@ use Rattle.stage_names.specs.declared.kinds.KindName.TheVariants as kind
 use Rattle.pipeline_json.specs.Lists.{has}
 use Rattle.name_binding.specs.Binding.{binding_fault}
 use Rattle.name_binding.specs.Ferries.{names_behind, adds}
-use Rattle.stage_options.specs.Roles.{Role, Writes, role_of, is_reading, target_of}
+use Rattle.stage_options.specs.Roles.{Role, Writes, WritesEach, role_of, is_reading}
+use Rattle.stage_options.specs.Values.{numbered}
 use Rattle.stage_options.specs.declared.options.Options.{Options}
 use Rattle.stage_options.specs.declared.options.Options.TheVariants.{ReadersLas}
 use Rattle.stage_options.specs.declared.stage.StageSpec.{StageSpec}
@@ -128,15 +129,16 @@ least_from f (suc left) k = or_later k (f k) (least_from f left (k + 1))
 abbrev pub least_fault : List StageSpec → Opened → Option (ℕ × PointFault)
 least_fault stages opened = least_from (stage_fault stages opened) (length stages) 0
 
--- a file that is kept: the number of the stage that writes it, its name and its bytes
+-- a file that is kept: the numbers of the stage that writes it, and of the view where it writes a file of each; its name and its bytes
 pub record Output : Type 0 where
   pub stage : ℕ
+  pub view : Option ℕ
   pub name : List ℕ
   pub bytes : List ℕ
 
 -- that of stage k, with these bytes, where the stage writes one
 abbrev pub written : ℕ → Role → List ℕ → List Output
-written k (Writes name) bytes = record { stage = k; name = name; bytes = bytes } ∷ []
+written k (Writes name) bytes = record { stage = k; view = None; name = name; bytes = bytes } ∷ []
 written k _ bytes = []
 
 -- the points that stage k writes of those that it takes
@@ -146,19 +148,44 @@ written_at stages opened k = filter ((row_at stages opened k).writes) (points (s
 abbrev pub output_at : List StageSpec → Opened → ℕ → List Output
 output_at stages opened k = written k (role_at stages k) ((row_at stages opened k).bytes (written_at stages opened k))
 
--- how many views and points a stage gave on, and how many points it wrote
+-- those of stage k of these views, whose numbers begin with n
+abbrev pub view_outputs : ℕ → List ℕ → Row → ℕ → List (List Point) → List Output
+view_outputs k name row n [] = []
+view_outputs k name row n (v ∷ vs) = record { stage = k; view = Some n; name = numbered name n; bytes = row.bytes (filter (row.writes) v) } ∷ view_outputs k name row (n + 1) vs
+
+-- where it writes a file of each view that it gives on
+abbrev pub written_each : ℕ → Role → Row → Flow Point → List Output
+written_each k (WritesEach name) row given = view_outputs k name row 1 (given.views)
+written_each k _ row given = []
+
+abbrev pub outputs_at : List StageSpec → Opened → ℕ → List Output
+outputs_at stages opened k = written_each k (role_at stages k) (row_at stages opened k) (stage_value stages opened k)
+
+-- how many points it writes of those that it takes, or of the views that it gives on, and how many files
+abbrev pub wrote_with : Role → Row → Flow Point → Flow Point → Option ℕ
+wrote_with (Writes name) row taken given = Some (up_to_limit (length (filter (row.writes) (points taken))))
+wrote_with (WritesEach name) row taken given = Some (up_to_limit (length (filter (row.writes) (all_of (given.views)))))
+wrote_with _ row taken given = None
+
+abbrev pub files_with : Role → Flow Point → ℕ
+files_with (Writes name) given = 1
+files_with (WritesEach name) given = up_to_limit (length (given.views))
+files_with _ given = 0
+
+-- how many views and points a stage gave on, and how many points and files it wrote
 abbrev pub count_at : List StageSpec → Opened → ℕ → StageCount
 count_at stages opened k = record {
   stage = k;
   kind = (stage_at stages k).kind;
   views = up_to_limit (length (stage_value stages opened k).views);
   points = up_to_limit (length (points (stage_value stages opened k)));
-  wrote = option_map (λ name. up_to_limit (length (written_at stages opened k))) (target_of (role_at stages k));
+  wrote = wrote_with (role_at stages k) (row_at stages opened k) (stage_input stages opened k) (stage_value stages opened k);
+  files = files_with (role_at stages k) (stage_value stages opened k);
 }
 
--- those of all stages, in the order of their numbers
+-- those of all stages: the writers of one file in the order of their numbers, and then those of a file of each view
 abbrev pub outputs_of : List StageSpec → Opened → List Output
-outputs_of stages opened = flat_map (output_at stages opened) (range_with_len 0 (length stages))
+outputs_of stages opened = flat_map (output_at stages opened) (range_with_len 0 (length stages)) ++ flat_map (outputs_at stages opened) (range_with_len 0 (length stages))
 
 abbrev pub counts_of : List StageSpec → Opened → List StageCount
 counts_of stages opened = map (count_at stages opened) (range_with_len 0 (length stages))

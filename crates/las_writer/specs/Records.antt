@@ -5,6 +5,7 @@ use Rattle.std.specs.Int.{w32, cast_signed}
 use Rattle.cloud_points.specs.declared.point.Point.{Point}
 use Rattle.byte_numbers.specs.Bytes.{number_at}
 use Rattle.las_header.specs.Versions.{fits_count}
+use Rattle.las_header.specs.declared.form.Format.{Format}
 use Rattle.point_formats.specs.declared.encoding.EncodeFault.{EncodeFault}
 use Rattle.point_formats.specs.declared.encoding.EncodeFault.TheVariants as encode
 use Rattle.point_formats.specs.declared.grid.Grid.{Grid}
@@ -53,6 +54,10 @@ abbrev pub unplaced : Bool → Result (List ℕ) EncodeFault → Option RecordFa
 unplaced false w = Some TooMany
 unplaced true (Ok bytes) = None
 unplaced true (Err f) = Some (fault_of f)
+
+-- the same in a file of this version and format, on this grid, behind so many that are written
+abbrev pub unplaced_in : ℕ → Format → Grid → ℕ → Point → Option RecordFault
+unplaced_in minor format grid k p = unplaced (fits_count minor (k + 1)) (encoded format grid p)
 
 -- the refusal of a point with this number, or else one of those behind it
 abbrev pub refused_or : ℕ → Option RecordFault → Option (ℕ × RecordFault) → Option (ℕ × RecordFault)

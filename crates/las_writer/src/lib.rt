@@ -4,6 +4,7 @@
 
 mod blocks;
 mod faults;
+mod judging;
 mod known;
 mod laws;
 mod lists;
@@ -12,6 +13,7 @@ mod totals;
 mod writer;
 
 pub use faults::{ChunkErr, FinishErr, LasBeginErr, PutFault, RecordFault};
+pub use judging::PointPlaces;
 pub use laws::{forms_are_taken, raw_numbers_are_steps, refusals_are_cut, unfinished_grows};
 pub use records::RefusedPoint;
 pub use totals::Totals;

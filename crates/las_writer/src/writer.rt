@@ -303,14 +303,23 @@ impl<K: FileSink> LasWriter<K> {
     pub fn release(self) -> K
         ensures { result ≡ self.sink }
     {
+        self.into_parts().0
+    }
+
+    /// The sink, and the form of the file, with the writer ended.
+    pub fn into_parts(self) -> (K, LasForm)
+        ensures sink { result.0 ≡ self.sink }
+        ensures form { result.1 ≡ self.form }
+        ensures decided { IsForm result.1 }
+    {
         let LasWriter { parts } = self;
         let WriterParts {
             sink,
-            form: _,
+            form,
             start: _,
             totals: _,
             buffer: _,
         } = parts;
-        sink
+        (sink, form)
     }
 }

@@ -8,7 +8,7 @@ use Rattle.cloud_points.specs.declared.faults.PointFault.{PointFault}
 use Rattle.cloud_gen.specs.GeneratedFile.{IsPut}
 use Rattle.las_reader.specs.Frames.{LasFault, In_header, In_list}
 use Rattle.stage_names.specs.declared.faults.PipeFault.{PipeFault}
-use Rattle.stage_options.specs.Roles.{Role, Reads, Filters, Gathers, Writes}
+use Rattle.stage_options.specs.Roles.{Role, Reads, Filters, Gathers, Writes, WritesEach}
 use Rattle.stage_options.specs.declared.stage.StageSpec.{StageSpec}
 use Rattle.run_report.specs.declared.refusal.Place.{Place}
 use Rattle.run_report.specs.declared.refusal.Place.TheVariants as at
@@ -87,6 +87,7 @@ no-fault i p o (Err (In_list f)) e = cc
 unread-absent : (m : Names) (i : ℕ) (role : Role) (p : Place) (o : Op) → unread m i role ≡ Some (of.Device p o) → (o ≡ op.Open) × ((name : List ℕ) × (m name ≡ None))
 unread-absent m i Filters p o e = cc
 unread-absent m i Gathers p o e = cc
+unread-absent m i (WritesEach name) p o e = cc
 unread-absent m i (Writes name) p o e = cc
 unread-absent m i (Reads name) p o e = go (m name) refl e
   where

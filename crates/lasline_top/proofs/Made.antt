@@ -1,5 +1,5 @@
 -- Files of generated points that were made, or couldn't be.
-use Rattle.std.proofs.Common.{◌≡◌, ℕ, List, [], ◌∷◌, Option, option_map, Ok, ap, sym, ◌∙◌}
+use Rattle.std.proofs.Common.{◌≡◌, ℕ, List, [], ◌∷◌, Option, None, option_map, Ok, ap, sym, ◌∙◌}
 use Rattle.file_devices.specs.Content.{AppendsPart}
 use Rattle.file_devices.specs.Named.{Names, put}
 use Rattle.file_devices.specs.declared.devices.Op.TheVariants as op
@@ -16,7 +16,7 @@ use Rattle.lasline_top.proofs.Printed.{unprinted}
 -- ---- files that were made
 
 -- the map has the file then
-pub put-as : (old new : Option Names) (name bytes : List ℕ) → IsPut old name bytes new → WerePut old (record { stage = 0; name = name; bytes = bytes } ∷ []) new
+pub put-as : (old new : Option Names) (name bytes : List ℕ) → IsPut old name bytes new → WerePut old (record { stage = 0; name = name; bytes = bytes; view = None } ∷ []) new
 put-as old new name bytes h n e x is = ap (option_map (λ o. put o name bytes)) (sym e) ∙ h x is
 
 pub file-unprinted : (count : ℕ) (name : List ℕ) (rose out : Type 0) (old new : Option Names) (out0 out1 : Option (List ℕ)) (r : Refusal) → r ≡ of.Device at.Out op.Write → out

@@ -1,5 +1,5 @@
 -- What a command answers, over the map of the files.
-use Rattle.std.specs.Prelude.{ℕ, List, [], ◌∷◌, ◌++◌, Result, Ok, Err, codes}
+use Rattle.std.specs.Prelude.{ℕ, List, [], ◌∷◌, ◌++◌, None, Result, Ok, Err, codes}
 use Rattle.file_devices.specs.Named.{Names, put}
 use Rattle.cloud_gen.specs.GeneratedFile.{generated_file}
 use Rattle.stage_names.specs.declared.faults.PipeFault.{PipeFault}
@@ -55,7 +55,7 @@ planned m file = and_then (plan_in m file) (λ stages. Ok (printed (plan_text (p
 -- a file of generated points is kept. No stage writes it: it is the first one that is kept
 abbrev pub made : ℕ → List ℕ → Run
 made count name = record {
-  outputs = record { stage = 0; name = name; bytes = generated_file count } ∷ [];
+  outputs = record { stage = 0; name = name; bytes = generated_file count; view = None } ∷ [];
   report = generated_line count;
 }
 

@@ -4,4 +4,6 @@
 #[cfg(test)]
 mod options;
 #[cfg(test)]
+mod plans;
+#[cfg(test)]
 mod trees;

@@ -157,8 +157,17 @@ const STAGES: &[(&str, &str)] = &[
         r#",{"type":"writers.text"},{"type":"filters.head","aa":1}"#,
         "missing 1 filename",
     ),
+    (r#",{"type":"writers.text","filename":"a#"}"#, "write a#"),
     (
-        r#",{"type":"writers.text","filename":"a#"}"#,
+        r#",{"type":"writers.text","filename":"a##.txt"}"#,
+        "wrong 1 filename",
+    ),
+    (
+        r#",{"type":"writers.las","filename":"a#b#.las"}"#,
+        "wrong 1 filename",
+    ),
+    (
+        r#",{"type":"writers.las","filename":"a#.lasline-part"}"#,
         "wrong 1 filename",
     ),
     (
@@ -260,7 +269,7 @@ const STAGES: &[(&str, &str)] = &[
         "wrong 1 precision",
     ),
     (
-        r#",{"type":"writers.text","filename":"a#","order":1}"#,
+        r#",{"type":"writers.text","filename":"a##","order":1}"#,
         "wrong 1 filename",
     ),
     (r#",{"type":"writers.text","filename":""}"#, "no tree"),
@@ -311,6 +320,26 @@ const STAGES: &[(&str, &str)] = &[
     (r#","b.las","o.txt""#, "write o.txt"),
 ];
 
+/// Names of two writers, and the options of the second one or the first fault.
+const NAMES: &[(&str, &str, &str)] = &[
+    ("o_#.txt", "o_7.txt", "same 2"),
+    ("o_7.txt", "o_#.txt", "same 2"),
+    ("o_#.txt", "o_07.txt", "same 2"),
+    ("o_#.txt", "o_.txt", "write o_.txt"),
+    ("o_#.txt", "o_7a.txt", "write o_7a.txt"),
+    ("o_#.txt", "p_7.txt", "write p_7.txt"),
+    ("o_#.txt", "o_7.las", "write o_7.las"),
+    ("#.las", "1.las", "same 2"),
+    ("1#1", "11", "write 11"),
+    ("1#1", "111", "same 2"),
+    ("o_#.txt", "o_#.txt", "same 2"),
+    ("a#.las", "b#.las", "write b#.las"),
+    ("a#.las", "a#.txt", "write a#.txt"),
+    ("a_#.txt", "a_1#.txt", "same 2"),
+    ("a_1#.txt", "a_#.txt", "same 2"),
+    ("a#2.txt", "a#.txt", "same 2"),
+];
+
 /// Counts of a head, and its options or its fault.
 const COUNTS: &[(&str, &str)] = &[
     ("0", "head 0"),
@@ -357,11 +386,24 @@ fn writes(alloc: Global, kind: &str, option: &str, words: &str) -> Result<bool, 
     answers(alloc, stages.as_str(), words)
 }
 
+/// Whether two text writers to files of these names behind a reader are answered so.
+fn writes_both(alloc: Global, first: &str, second: &str, words: &str) -> Result<bool, AllocError> {
+    let writer = r#"{"type":"writers.text","filename":"#;
+    let stages = format!(in alloc; ",{writer}\"{first}\"}},{writer}\"{second}\"}}")?;
+    answers(alloc, stages.as_str(), words)
+}
+
 #[test]
 fn options_are_typed(rt: HostRuntime) -> Result<(), Fail> {
     let alloc = rt.alloc();
     for (stages, words) in STAGES {
         assert!(rt; answers(alloc, stages, words)?, "{stages}");
+    }
+    for (first, second, words) in NAMES {
+        assert!(rt;
+            writes_both(alloc, first, second, words)?,
+            "{first} {second}"
+        );
     }
     for (count, words) in COUNTS {
         assert!(rt; counts(alloc, count, words)?, "{count}");
@@ -388,6 +430,7 @@ fn shown_stage(alloc: Global, tree: &Tree, i: usize) -> Result<String, AllocErro
         Role::Filters => ("filters", ""),
         Role::Gathers => ("gathers", ""),
         Role::Writes(name) => ("writes", name),
+        Role::WritesEach(name) => ("writes each", name),
     };
     let takes = stage.ins.as_slice().len();
     let first = match stage.ins.as_slice().first() {

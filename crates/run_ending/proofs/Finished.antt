@@ -7,16 +7,16 @@ use Rattle.circular_buffer.proofs.Places.{slice_get-set_same, slice_get-set_othe
 use Rattle.file_devices.specs.Counts.{Rose}
 use Rattle.file_devices.specs.declared.devices.Op.{Op}
 use Rattle.file_devices.specs.declared.devices.Op.TheVariants.{Write, Patch}
-use Rattle.stage_kinds.specs.declared.stage_work.StageWork.TheVariants.{Reader, Filter, Collector, Views, Writer}
+use Rattle.stage_kinds.specs.declared.stage_work.StageWork.TheVariants.{Reader, Filter, Collector, Views, ViewFiles, Writer}
 use Rattle.stage_kinds.specs.declared.file_form.FileForm.{FileForm}
 use Rattle.stage_kinds.specs.declared.file_form.Writing.{Writing}
 use Rattle.stage_kinds.specs.declared.file_form.FileForm.TheVariants as file
 use Rattle.stage_kinds.specs.Files.{file_form, finishing_op}
-use Rattle.stage_kinds.specs.Stages.{writing_of}
+use Rattle.stage_kinds.specs.Stages.{keeps_of, writing_of}
 use Rattle.stage_kinds.specs.declared.stage_work.StageWork.{StageWork}
 use Rattle.stage_kinds.specs.Held.{op_of}
 use Rattle.stage_forms.specs.Later.{AreLater}
-use Rattle.run_ending.specs.Finished.{UnfinishedAt}
+use Rattle.run_ending.specs.Finished.{AreKept, UnfinishedAt}
 
 module _ {S K : Type 0} (bytes : K → Option (List ℕ)) (faults : StageWork S K → ℕ) (old now : List (StageWork S K)) (i : ℕ) (v w : StageWork S K)
     (later : AreLater faults old now) (here : slice_get now i ≡ Some v) (op : op_of w ≡ op_of v) (count : faults v ≤ faults w) where
@@ -36,6 +36,9 @@ module _ {S K : Type 0} (bytes : K → Option (List ℕ)) (faults : StageWork S 
     op = λ k x y e f. let m = at-place (λ a b. op_of b ≡ op_of a) op (λ a. refl) k y f in m.2 ∙ later.op k x m.0 e m.1;
     later = λ k x y e f. let m = at-place (λ a b. faults a ≤ faults b) count (λ a. omega arith) k y f in let a = later.later k x m.0 e m.1 in let b = m.2 in omega (arith, a, b);
   }
+
+  pub kept-more : keeps_of w ≡ keeps_of v → AreKept old now → AreKept old (slice_set now i w)
+  kept-more same kept k x y e f = let m = at-place (λ a b. keeps_of b ≡ keeps_of a) same (λ a. refl) k y f in m.2 ∙ kept k x m.0 e m.1
 
   pub finished-more : (P : StageWork S K → StageWork S K → Type 0) (k : ℕ) → ((x : ℕ) (a b : StageWork S K) → x < i → slice_get old x ≡ Some a → slice_get now x ≡ Some b → P a b)
       → ((a : StageWork S K) → slice_get old i ≡ Some a → P a w) → (x : ℕ) (a b : StageWork S K) → x < i + 1 → slice_get old x ≡ Some a → slice_get (slice_set now i w) x ≡ Some b → P a b
@@ -63,6 +66,7 @@ finishing-writes (Reader r) o e = absurd (none-some o e)
 finishing-writes (Filter f) o e = absurd (none-some o e)
 finishing-writes (Collector c) o e = absurd (none-some o e)
 finishing-writes (Views h) o e = absurd (none-some o e)
+finishing-writes (ViewFiles t) o e = absurd (none-some o e)
 finishing-writes (Writer v) o e = (refl, by_form (file_form v.file) e)
   where
     by_form : (form : FileForm) → Some (finishing_op form) ≡ Some o → (o ≡ Write) ⊎ (o ≡ Patch)

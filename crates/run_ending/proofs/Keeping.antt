@@ -3,7 +3,7 @@ use Rattle.std.proofs.Common.{◌≡◌, ℕ, zero, suc, ◌+◌, ◌≤◌, ◌
 use Rattle.file_devices.specs.Counts.{Rose}
 use Rattle.file_devices.specs.Named.{Names}
 use Rattle.stage_kinds.specs.declared.stage_work.StageWork.{StageWork}
-use Rattle.stage_options.specs.Roles.{Role, Reads, Filters, Gathers, Writes, is_writing}
+use Rattle.stage_options.specs.Roles.{Role, Reads, Filters, Gathers, Writes, WritesEach, is_writing}
 use Rattle.stage_options.specs.declared.stage.StageSpec.{StageSpec}
 use Rattle.run_report.specs.declared.refusal.Refusal.{Refusal}
 use Rattle.answer_model.specs.Values.{role_at}
@@ -40,6 +40,7 @@ module _ {S K : Type 0} (bytes : K → Option (List ℕ)) where
   untold-if (Writes name) (Some w) = refl
   untold-if Filters (Some w) = refl
   untold-if Gathers (Some w) = refl
+  untold-if (WritesEach name) (Some w) = refl
   untold-if (Reads name) (Some w) = refl
 
   untold-first : (i : ℕ) (stages : List StageSpec) (works : List (StageWork S K)) → kept_first bytes i None stages works ≡ None

@@ -11,7 +11,7 @@ use Rattle.stage_kinds.specs.Held.{told_by}
 use Rattle.run_report.specs.declared.refusal.Place.TheVariants as at
 use Rattle.run_report.specs.declared.refusal.Refusal.{Refusal}
 use Rattle.run_report.specs.declared.refusal.Refusal.TheVariants as of
-use Rattle.stage_kinds.specs.Stages.{HoldsAll, writing_of}
+use Rattle.stage_kinds.specs.Stages.{HoldsAll, keeps_of, writing_of}
 
 -- a writer that held points tells the whole file of those that it chose, once it is finished
 abbrev pub IsFinished : {S K : Type 0} → (K → Option (List ℕ)) → StageWork S K → StageWork S K → Type 0
@@ -19,6 +19,10 @@ IsFinished bytes v w = (x : Writing) (ps : List Point) → HoldsAll bytes x ps v
 
 abbrev pub AreFinished : {S K : Type 0} → (K → Option (List ℕ)) → List (StageWork S K) → List (StageWork S K) → Type 0
 AreFinished {S} {K} bytes old new = (i : ℕ) (v w : StageWork S K) → slice_get old i ≡ Some v → slice_get new i ≡ Some w → IsFinished bytes v w
+
+-- and what works keep of views, they still keep
+abbrev pub AreKept : {S K : Type 0} → List (StageWork S K) → List (StageWork S K) → Type 0
+AreKept {S} {K} old new = (i : ℕ) (v w : StageWork S K) → slice_get old i ≡ Some v → slice_get new i ≡ Some w → keeps_of w ≡ keeps_of v
 
 -- the device of a writer failed in this as its file was finished
 pub record UnfinishedAt {S K : Type 0} (faults : StageWork S K → ℕ) (old new : List (StageWork S K)) (i : ℕ) (o : Op) : Type 0 where

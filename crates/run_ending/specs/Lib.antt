@@ -1,2 +1,4 @@
+pub mod All
+pub mod Each
 pub mod Finished
 pub mod Keeping

@@ -3,7 +3,7 @@
 ghost use Rattle.std.specs.Prelude.{◌≤◌, length, IfErr, OnOk};
 ghost use Rattle.stage_kinds.specs.Held.{faults_of};
 ghost use Rattle.stage_forms.specs.Later.{AreLater};
-ghost use Rattle.run_ending.specs.Finished.{AreFinished, IsUnfinished};
+ghost use Rattle.run_ending.specs.Finished.{AreFinished, AreKept, IsUnfinished};
 
 use file_devices::{FileSink, Source};
 use run_report::{Place, Refusal};
@@ -22,6 +22,7 @@ pub struct Ran<S, K: FileSink, T> {
 pub fn finish<S: Source, K: FileSink>(works: Vec<StageWork<S, K>>) -> Ran<S, K, Result<(), Refusal>>
     requires few { length works.items ≤ 64 }
     ensures later { AreLater (faults_of S.faults K.faults) works.items result.works.items }
+    ensures kept { AreKept works.items result.works.items }
     ensures finished { OnOk result.outcome (AreFinished K.bytes works.items result.works.items) }
     ensures err { IfErr result.outcome
         (IsUnfinished (faults_of S.faults K.faults) works.items result.works.items) }

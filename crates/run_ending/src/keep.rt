@@ -50,7 +50,7 @@ fn keep_work<F: Files>(
 
 /// Keeps the files of a run's writers under their names, in the order of the stages; the first one that can't be kept is the
 /// last one that is tried. All that the works hold is given back.
-pub fn keep_works<F: Files>(
+pub(crate) fn keep_works<F: Files>(
     files: &mut F,
     works: Vec<StageWork<F::In, F::Out>>,
     stages: &[StageSpec],

@@ -1,7 +1,9 @@
 -- What a run comes to, by its steps.
-use Rattle.std.proofs.Common.{◌≡◌, ◌⊎◌, ℕ, ◌+◌, ◌≤◌, suc, ◌<◌, true, List, [], ◌∷◌, length, slice_get, Option, Some, None, Result, Ok, IsOk, IsOkAnd, refl, ap, sym, subst, ◌∙◌, inl, inr, arith}
-use Rattle.std.specs.Prelude.{option_map}
-use Rattle.std.proofs.lemmas.Option.{same_Some, slice_get_within}
+use Rattle.std.proofs.Common.{◌≡◌, ◌⊎◌, ℕ, ◌+◌, ◌≤◌, zero, suc, ◌<◌, Bool, false, true, List, [], ◌∷◌, ◌++◌, length, take, slice_get, Option, Some, None, Result, Ok, IsOk, IsOkAnd, refl, ap, sym, subst, ◌∙◌, inl, inr, arith}
+use Rattle.std.specs.Prelude.{flat_map, option_map}
+use Rattle.std.specs.List.{range_with_len}
+use Rattle.std.proofs.lemmas.List.{append-nil, append_assoc}
+use Rattle.std.proofs.lemmas.Option.{none-some, same_Some, slice_get_within}
 use Rattle.file_devices.specs.Counts.{Rose, saturating}
 use Rattle.file_devices.specs.Named.{Names}
 use Rattle.file_devices.specs.declared.devices.Op.{Op}
@@ -10,6 +12,11 @@ use Rattle.file_devices.specs.declared.devices.Source as source
 use Rattle.file_devices.specs.declared.devices.Sink as sink
 use Rattle.network_core.proofs.Opened.{some_at}
 use Rattle.run_report.specs.declared.report.StageCount.{StageCount}
+use Rattle.cloud_points.specs.declared.point.Point.{Point}
+use Rattle.cloud_points.specs.Flows.{Flow}
+use Rattle.stage_kinds.specs.declared.file_form.FileForm.{FileForm}
+use Rattle.stage_kinds.specs.declared.file_form.FileForm.TheVariants as file
+use Rattle.stage_kinds.specs.declared.making.Making.TheVariants.{Gathers as Made, WritesEach as Each}
 use Rattle.stage_kinds.specs.declared.file_form.StageForm.{StageForm}
 use Rattle.stage_kinds.specs.declared.file_form.StageForm.TheVariants as form
 use Rattle.stage_kinds.specs.declared.file_form.Writing.{Writing}
@@ -21,7 +28,9 @@ use Rattle.stage_kinds.specs.declared.stage_work.StageWork.{StageWork}
 use Rattle.stage_kinds.specs.declared.held.Held.{Held}
 use Rattle.stage_kinds.specs.declared.held.Held.TheVariants.{Nothing, Source, Sink}
 use Rattle.stage_kinds.specs.Held.{op_of, faults_of, held_by, op_on}
-use Rattle.stage_options.specs.Roles.{Role, Reads, Filters, Gathers, Writes, is_writing}
+use Rattle.stage_kinds.specs.Stages.{keeps_of}
+use Rattle.stage_options.specs.Roles.{Role, Reads, Filters, Gathers, Writes, WritesEach, is_writing, writing_by}
+use Rattle.stage_options.specs.Values.{is_numbered}
 use Rattle.stage_options.specs.declared.options.Options.{Options}
 use Rattle.stage_options.specs.declared.options.Options.TheVariants.{WritersLas, WritersText}
 use Rattle.stage_options.specs.declared.stage.StageSpec.{StageSpec}
@@ -30,15 +39,18 @@ use Rattle.run_report.specs.declared.refusal.Refusal.{Refusal}
 use Rattle.run_report.specs.declared.refusal.Refusal.TheVariants as of
 use Rattle.run_report.specs.declared.refusal.Place.TheVariants as at
 use Rattle.answer_model.specs.Rows.{Setting}
-use Rattle.answer_model.specs.Values.{Opened, options_at, role_at, setting_at, stage_fault, least_fault}
+use Rattle.answer_model.specs.Values.{Opened, Output, options_at, role_at, row_at, setting_at, stage_fault, stage_value, least_fault, written, written_at, output_at, outputs_at}
 use Rattle.answer_model.specs.Runs.{Run, AreRead, holds, run_of, opened_in}
 use Rattle.answer_model.proofs.Least.{least-at}
-use Rattle.stage_forms.specs.Starts.{form_for, op_for, HaveDevices, AreTold}
-use Rattle.stage_forms.proofs.Works.{writes-form}
+use Rattle.stage_forms.specs.Starts.{form_for, kept_for, op_for, writes_as, HaveDevices, AreTold}
+use Rattle.stage_forms.proofs.Works.{each-row, writes-form}
 use Rattle.std.proofs.lemmas.List.Sums.{sum_by-cons}
 use Rattle.held_devices.specs.Holding.{there, all_held}
+use Rattle.run_ending.specs.All.{AreAllKept, BrokeOffEach, IsUnkept}
+use Rattle.run_ending.specs.Each.{BrokeOffAt, IsEachOp, Stops, all_files, kept_at, kept_from}
 use Rattle.run_ending.specs.Keeping.{kept_first, BrokeOff}
-use Rattle.run_outcome.specs.Cause.{CanBegin, IsCause, IsEarly, IsLeft, IsRun, WerePut, WerePutBefore, AtRole, patches}
+use Rattle.run_ending.proofs.Each.{more-put, stops-behind}
+use Rattle.run_outcome.specs.Cause.{CanBegin, IsCause, IsEarly, IsLeft, IsRun, WereKept, WerePut, WereWritten, AtRole, patches}
 use Rattle.run_opening.specs.Ready.{AreReady}
 use Rattle.run_outcome.specs.Faults.{fault_at}
 use Rattle.run_outcome.specs.Outcomes.{refusal_for}
@@ -49,7 +61,8 @@ use Rattle.run_engine.specs.Done.{AreDone}
 use Rattle.run_ending.specs.Finished.{IsUnfinished}
 use Rattle.run_ending.proofs.Finished.{finishing-writes}
 use Rattle.run_outcome.proofs.Runs.{right_run, run-right, run-fault}
-use Rattle.run_engine.proofs.Puts.{outputs_below, were-put, before-below}
+use Rattle.run_engine.proofs.Each.{works-files}
+use Rattle.run_engine.proofs.Puts.{outputs_below, below-more, below-split, were-put}
 
 -- an early refusal leaves the files as they were
 pub early-left : (r : Refusal) (old new : Option Names) (expected : Result Run Refusal) → IsEarly r → new ≡ old → IsLeft r old new expected
@@ -60,11 +73,11 @@ early-left (of.Usage k) old new expected early same = same
 early-left (of.Device at.PipelineFile o) old new expected early same = same
 early-left (of.Device at.Generated o) old new expected early same = same
 early-left (of.Device at.Out o) old new expected early same = absurd early
-early-left (of.Device (at.Stage i) op.Open) old new expected early same = same
-early-left (of.Device (at.Stage i) op.Read) old new expected early same = same
-early-left (of.Device (at.Stage i) op.Create) old new expected early same = same
-early-left (of.Device (at.Stage i) op.Write) old new expected early same = same
-early-left (of.Device (at.Stage i) op.Patch) old new expected early same = same
+early-left (of.Device (at.Stage i) op.Open) old new expected early same = inl same
+early-left (of.Device (at.Stage i) op.Read) old new expected early same = inl same
+early-left (of.Device (at.Stage i) op.Create) old new expected early same = inl same
+early-left (of.Device (at.Stage i) op.Write) old new expected early same = inl same
+early-left (of.Device (at.Stage i) op.Patch) old new expected early same = inl same
 early-left (of.Device (at.Stage i) op.Keep) old new expected early same = absurd early
 
 at-turns : (earlier all right : Type 0) (role : Role) (o : Op) → earlier → all → op_for role ≡ Some o → AtRole earlier all right role o
@@ -76,6 +89,7 @@ at-turns earlier all right (Reads name) op.Patch e a is = cc
 at-turns earlier all right (Reads name) op.Keep e a is = cc
 at-turns earlier all right Filters o e a is = cc
 at-turns earlier all right Gathers o e a is = cc
+at-turns earlier all right (WritesEach name) o e a is = cc
 at-turns earlier all right (Writes name) op.Write e a is = a
 at-turns earlier all right (Writes name) op.Create e a is = a
 at-turns earlier all right (Writes name) op.Open e a is = cc
@@ -87,13 +101,29 @@ pub at-keeping : (earlier all right : Type 0) (role : Role) → is_writing role 
 at-keeping earlier all right (Reads name) w r = cc
 at-keeping earlier all right Filters w r = cc
 at-keeping earlier all right Gathers w r = cc
+at-keeping earlier all right (WritesEach name) w r = cc
 at-keeping earlier all right (Writes name) w r = r
+
+-- so may that of the file of a view, in all that becomes of it
+at-each : (earlier all right : Type 0) (name : List ℕ) (form : FileForm) (o : Op) → right → IsEachOp form o → AtRole earlier all right (WritesEach name) o
+at-each earlier all right name form o r is = elim is [
+  | inl c ↦ subst (AtRole earlier all right (WritesEach name)) (sym c) r
+  | inr w ↦ elim w [
+    | inl q ↦ elim q [ inl a ↦ subst (AtRole earlier all right (WritesEach name)) (sym a) r | inr a ↦ by_form form a ]
+    | inr k ↦ subst (AtRole earlier all right (WritesEach name)) (sym k) r
+  ]
+]
+  where
+    by_form : (form : FileForm) → o ≡ finishing_op form → AtRole earlier all right (WritesEach name) o
+    by_form (file.Text f) a = subst (AtRole earlier all right (WritesEach name)) (sym a) r
+    by_form (file.Las f) a = subst (AtRole earlier all right (WritesEach name)) (sym a) r
 
 -- a writer's device may fail as its file is finished
 at-finishing : (earlier all right : Type 0) (role : Role) (o : Op) → all → right → op_for role ≡ Some op.Write → (o ≡ op.Write) ⊎ (o ≡ op.Patch) → AtRole earlier all right role o
 at-finishing earlier all right (Reads name) o a r is named = cc
 at-finishing earlier all right Filters o a r is named = cc
 at-finishing earlier all right Gathers o a r is named = cc
+at-finishing earlier all right (WritesEach name) o a r is named = cc
 at-finishing earlier all right (Writes name) o a r is named = elim named [
   | inl e ↦ subst (AtRole earlier all right (Writes name)) (sym e) a
   | inr e ↦ subst (AtRole earlier all right (Writes name)) (sym e) r
@@ -104,6 +134,7 @@ never-patched : (role : Role) → op_for role ≡ Some op.Patch → ⊥
 never-patched (Reads name) e = cc
 never-patched Filters e = cc
 never-patched Gathers e = cc
+never-patched (WritesEach name) e = cc
 never-patched (Writes name) e = cc
 
 -- what writes while they do is a writer
@@ -111,6 +142,7 @@ writing-role : (role : Role) → op_for role ≡ Some op.Write → is_writing ro
 writing-role (Reads name) e = cc
 writing-role Filters e = cc
 writing-role Gathers e = cc
+writing-role (WritesEach name) e = cc
 writing-role (Writes name) e = refl
 
 -- by what a writer made of this ends its file
@@ -118,11 +150,91 @@ abbrev last_op : StageForm → Op
 last_op (form.Writes x) = finishing_op x.form
 last_op _ = op.Read
 
+-- a writer writes what it does to its file, or to each
+as-plain : (each : Bool) (name : List ℕ) (y x : Writing) → writes_as (writing_by each name) y ≡ form.Writes x → finishing_op y.form ≡ finishing_op x.form
+as-plain true name y x is = cc
+as-plain false name y x is = ap last_op is
+
+as-each : (each : Bool) (name : List ℕ) (y x : Writing) → writes_as (writing_by each name) y ≡ form.Gathers (Each x) → finishing_op y.form ≡ finishing_op x.form
+as-each true name y x is = ap last_each is
+  where
+    last_each : StageForm → Op
+    last_each (form.Gathers (Each z)) = finishing_op z.form
+    last_each _ = op.Read
+as-each false name y x is = cc
+
 -- a writer whose file ends by a patch writes LAS
 patched-las : (o : Options) (setting : Setting) (x : Writing) → form_for o setting ≡ form.Writes x → finishing_op x.form ≡ op.Patch → patches o ≡ true
 patched-las (WritersLas o) setting x is e = refl
-patched-las (WritersText o) setting x is e = let no : op.Write ≡ op.Patch = ap last_op is ∙ e in cc
+patched-las (WritersText o) setting x is e = let no : op.Write ≡ op.Patch = as-plain (is_numbered o.filename) o.filename _ x is ∙ e in cc
 patched-las o setting x is e = let no : op.Read ≡ op.Patch = ap last_op is ∙ e in cc
+
+-- so does one of a file for each view
+each-las : (o : Options) (setting : Setting) (x : Writing) → form_for o setting ≡ form.Gathers (Each x) → (p : Op) → IsEachOp x.form p → p ≡ op.Patch → patches o ≡ true
+each-las o setting x e p is patch = by_kind o e
+  where
+    ends : finishing_op x.form ≡ op.Patch
+    ends = elim is [
+      | inl c ↦ (let z : op.Create ≡ op.Patch = sym c ∙ patch in cc)
+      | inr w ↦ elim w [
+        | inl q ↦ elim q [ inl a ↦ (let z : op.Write ≡ op.Patch = sym a ∙ patch in cc) | inr a ↦ sym a ∙ patch ]
+        | inr k ↦ (let z : op.Keep ≡ op.Patch = sym k ∙ patch in cc)
+      ]
+    ]
+
+    by_kind : (o : Options) → form_for o setting ≡ form.Gathers (Each x) → patches o ≡ true
+    by_kind (WritersLas w) e = refl
+    by_kind (WritersText w) e = let no : op.Write ≡ op.Patch = as-each (is_numbered w.filename) w.filename _ x e ∙ ends in cc
+    by_kind o e = cc
+
+-- what is kept stands at a work
+abbrev pub KeptAt : {S K : Type 0} → List (StageWork S K) → ℕ → ℕ → Writing × Flow Point → Type 0
+KeptAt {S} {K} works i stage k = (j : ℕ) × (w : StageWork S K) × ((slice_get works j ≡ Some w) × (keeps_of w ≡ Some k)) × (stage ≡ i + j)
+
+pub kept-work : {S K : Type 0} (works : List (StageWork S K)) (i place stage : ℕ) (k : Writing × Flow Point) → slice_get (kept_from i works) place ≡ Some (stage, k) → KeptAt works i stage k
+kept-work [] i place stage k e = absurd (none-some _ e)
+kept-work (w ∷ works) i place stage k e = by_kept (λ p f. kept-work works (i + 1) p stage k f) (keeps_of w) refl place e
+  where
+    behind : KeptAt works (i + 1) stage k → KeptAt (w ∷ works) i stage k
+    behind r = (suc r.0, r.1, r.2, (let z = r.3 in omega (arith, z)))
+
+    by_kept : ((p : ℕ) → slice_get (kept_from (i + 1) works) p ≡ Some (stage, k) → KeptAt works (i + 1) stage k) → (o : Option (Writing × Flow Point)) → keeps_of w ≡ o
+        → (place : ℕ) → slice_get (kept_at i o ++ kept_from (i + 1) works) place ≡ Some (stage, k) → KeptAt (w ∷ works) i stage k
+    by_kept rest None is place e = behind (rest place e)
+    by_kept rest (Some q) is zero e = let same : (i, q) ≡ (stage, k) = same_Some _ _ e in (0, w, (refl, is ∙ ap (λ x. Some x.1) same), (let z : i ≡ stage = ap (λ x. x.0) same in omega (arith, z)))
+    by_kept rest (Some q) is (suc place) e = behind (rest place e)
+
+-- a stage for which something is kept writes a file of each view
+kept-form : (stages : List StageSpec) (opened : Opened) (i : ℕ) (x : Writing) (flow : Flow Point) → kept_for (form_for (options_at stages i) (setting_at stages opened i)) (stage_value stages opened i) ≡ Some (x, flow)
+    → form_for (options_at stages i) (setting_at stages opened i) ≡ form.Gathers (Each x)
+kept-form stages opened i x flow e = go (form_for (options_at stages i) (setting_at stages opened i)) e
+  where
+    go : (f : StageForm) → kept_for f (stage_value stages opened i) ≡ Some (x, flow) → f ≡ form.Gathers (Each x)
+    go (form.Gathers (Each y)) e = ap (λ (k : Writing × Flow Point). form.Gathers (Each k.0)) (same_Some _ _ e)
+    go (form.Gathers (Made g)) e = absurd (none-some _ e)
+    go (form.Filters f) e = absurd (none-some _ e)
+    go (form.Writes y) e = absurd (none-some _ e)
+    go form.Reads e = absurd (none-some _ e)
+
+-- a writer of one file has one output
+one-output : (i : ℕ) (role : Role) (bytes : List ℕ) → is_writing role ≡ true → (o : Output) × (written i role bytes ≡ o ∷ []) × (o.stage ≡ i)
+one-output i (Writes name) bytes w = (_, refl, refl)
+one-output i (Reads name) bytes w = cc
+one-output i Filters bytes w = cc
+one-output i Gathers bytes w = cc
+one-output i (WritesEach name) bytes w = cc
+
+take-first : {A : Type 0} (xs ys : List A) → take (length xs) (xs ++ ys) ≡ xs
+take-first [] ys = refl
+take-first (x ∷ xs) ys = ap (λ zs. x ∷ zs) (take-first xs ys)
+
+take-next : {A : Type 0} (xs : List A) (y : A) (ys : List A) → take (suc (length xs)) (xs ++ (y ∷ ys)) ≡ xs ++ (y ∷ [])
+take-next [] y ys = refl
+take-next (x ∷ xs) y ys = ap (λ zs. x ∷ zs) (take-next xs y ys)
+
+at-next : {A : Type 0} (xs : List A) (y : A) (ys : List A) → slice_get (xs ++ (y ∷ ys)) (length xs) ≡ Some y
+at-next [] y ys = refl
+at-next (x ∷ xs) y ys = at-next xs y ys
 
 -- a count that rose in a device rose in that of the files, once the device is given back
 pub rose-given : (before after files end : ℕ) → Rose before after → saturating files after ≤ end → Rose files end
@@ -255,20 +367,6 @@ module _ {S K : Type 0} (bytes : K → Option (List ℕ)) (stages : List StageSp
     ))
   ]
 
-  -- what it leaves
-  pub broke-left : (rose : Type 0) (old new : Option Names) (r : Refusal) (run : Run) → BrokeOff bytes rose old new stages works r
-      → ((n : ℕ) → n ≤ length works → new ≡ kept_first bytes n old stages works → WerePutBefore n old new run) → IsLeft r old new (Ok run)
-  broke-left rose old new r run broke put = elim broke.why [
-    | inl m ↦ subst (λ x. IsLeft x old new (Ok run)) (sym m) (inr (elim put-there [ inl a ↦ (broke.stage, a) | inr b ↦ (broke.stage + 1, b) ]))
-    | inr d ↦ subst (λ x. IsLeft x old new (Ok run)) (sym d.0) put-there
-  ]
-    where
-      put-there : WerePutBefore broke.stage old new run ⊎ WerePutBefore (broke.stage + 1) old new run
-      put-there = elim broke.left [
-        | inl l ↦ inl (put broke.stage (let a = broke.inside in omega (arith, a)) l)
-        | inr l ↦ inr (put (broke.stage + 1) (let a = broke.inside in omega (arith, a)) l)
-      ]
-
 -- later works hold as many devices
 held-same : {S K : Type 0} (xs ys : List (StageWork S K)) → length ys ≡ length xs → ((i : ℕ) (v w : StageWork S K) → slice_get xs i ≡ Some v → slice_get ys i ≡ Some w → there (op_of w) ≡ there (op_of v)) → all_held ys ≡ all_held xs
 held-same [] [] l h = refl
@@ -305,15 +403,140 @@ module _ {S K : Type 0} (s : source.Ghosts S) (k : sink.Ghosts K) (first : Optio
     first-kept : (m : Names) → first ≡ Some m → (n : ℕ) → n ≤ length done → (now new : Option Names) → new ≡ kept_first k.bytes n now stages done → WerePut now (outputs_below stages (opened_in m stages) n) new
     first-kept m e n le now new is = were-put stages (opened_in m stages) k.bytes done (at-end m e).told n now new le is
 
-    pub is-run : (m : Names) → first ≡ Some m → (now new : Option Names) → new ≡ kept_first k.bytes (length done) now stages done → IsOkAnd (run_of m stages) (IsRun now new counts)
-    is-run m e now new is = subst (λ o. IsOkAnd o (IsRun now new counts)) (sym (right m e)) (record {
-      put = subst (λ n. WerePut now (outputs_below stages (opened_in m stages) n) new) size (first-kept m e (length done) (omega arith) now new is);
+    -- the outputs are those of the writers of one file, and then those of views
+    outputs-are : (m : Names) → first ≡ Some m → (right_run stages (opened_in m stages)).outputs ≡ outputs_below stages (opened_in m stages) (length stages) ++ all_files stages (kept_from 0 done)
+    outputs-are m e = ap (λ os. outputs_below stages (opened_in m stages) (length stages) ++ os)
+        (ap (λ n. flat_map (outputs_at stages (opened_in m stages)) (range_with_len 0 n)) (sym size)
+        ∙ sym (works-files stages (opened_in m stages) 0 done (λ j w f. (at-end m e).keeps j w f
+        ∙ ap (λ n. kept_for (form_for (options_at stages n) (setting_at stages (opened_in m stages) n)) (stage_value stages (opened_in m stages) n)) (let z : j ≡ 0 + j = omega arith in z))))
+
+    pub is-run : (m : Names) → first ≡ Some m → (now new : Option Names) → (now ≡ None → new ≡ None) → AreAllKept k.bytes now new stages done → IsOkAnd (run_of m stages) (IsRun now new counts)
+    is-run m e now new lost all = subst (λ o. IsOkAnd o (IsRun now new counts)) (sym (right m e)) (record {
+      put = subst (λ os. WerePut now os new) (sym (outputs-are m e))
+          (more-put now all.mid new (outputs_below stages (opened_in m stages) (length stages)) (all_files stages (kept_from 0 done)) all.lost
+          (subst (λ n. WerePut now (outputs_below stages (opened_in m stages) n) all.mid) size (first-kept m e (length done) (omega arith) now all.mid all.plain)) all.each);
       report = ap report_of (sym (at-end m e).counted);
     })
 
-    pub unkept-cause : (rose : Type 0) (now new : Option Names) (r : Refusal) → BrokeOff k.bytes rose now new stages done r → IsCause rose first stages r
-    unkept-cause rose now new r broke = broke-cause k.bytes stages done size rose first now new r (λ m e. subst IsOk (sym (right m e)) refl) broke
+    pub unkept-cause : (rose : Type 0) (now new : Option Names) (r : Refusal) → IsUnkept k.bytes rose now new stages done r → IsCause rose first stages r
+    unkept-cause rose now new r unkept = elim unkept [
+      | inl m ↦ subst (IsCause rose first stages) (sym m.0) tt
+      | inr b ↦ elim b [
+        | inl broke ↦ broke-cause k.bytes stages done size rose first now new r (λ m e. subst IsOk (sym (right m e)) refl) broke
+        | inr each ↦ each-cause each.broke
+      ]
+    ]
+      where
+        each-cause : {mid : Option Names} → BrokeOffAt rose mid new stages (kept_from 0 done) r → IsCause rose first stages r
+        each-cause broke = elim broke.stops.why [
+          | inl m ↦ subst (IsCause rose first stages) (sym m) tt
+          | inr d ↦ subst (IsCause rose first stages) (sym d.1) (inr (
+            d.3,
+            λ m e.
+                let w = kept-work done 0 broke.place broke.stage (broke.writing, broke.flow) broke.of in
+                let here : broke.stage ≡ w.0 = (let v = w.3 in omega (arith, v)) in
+                let form = kept-form stages (opened_in m stages) w.0 broke.writing broke.flow (sym ((at-end m e).keeps w.0 w.1 w.2.0) ∙ w.2.1) in
+                let row = each-row (options_at stages w.0) (setting_at stages (opened_in m stages) w.0) broke.writing form in
+                record {
+                  inside = (let a = slice_get_within done w.0 w.1 w.2.0 in omega (arith, a, here, size));
+                  come = subst (λ j. AtRole (AreRead m stages j) (CanBegin m stages) (IsOk (run_of m stages)) (role_at stages j) d.0) (sym here)
+                      (subst (λ x. AtRole (AreRead m stages w.0) (CanBegin m stages) (IsOk (run_of m stages)) x d.0) (sym row.does)
+                      (at-each (AreRead m stages w.0) (CanBegin m stages) (IsOk (run_of m stages)) row.name broke.writing.form d.0 (subst IsOk (sym (right m e)) refl) d.2));
+                  patched = λ p. subst (λ j. patches (options_at stages j) ≡ true) (sym here) (each-las (options_at stages w.0) (setting_at stages (opened_in m stages) w.0) broke.writing form d.0 d.2 p);
+                },
+          ))
+        ]
 
-    pub unkept-left : (rose : Type 0) (now new : Option Names) (r : Refusal) → BrokeOff k.bytes rose now new stages done r → (m : Names) → first ≡ Some m → IsLeft r now new (run_of m stages)
-    unkept-left rose now new r broke m e = subst (IsLeft r now new) (sym (right m e)) (broke-left k.bytes stages done size rose now new r (right_run stages (opened_in m stages)) broke
-        (λ n le is. subst (λ os. WerePut now os new) (sym (before-below stages (opened_in m stages) n (length stages) (let a = size in omega (arith, le, a)))) (first-kept m e n le now new is)))
+    -- what it leaves
+    pub unkept-left : (rose : Type 0) (now new : Option Names) (r : Refusal) → IsUnkept k.bytes rose now new stages done r → (m : Names) → first ≡ Some m → IsLeft r now new (run_of m stages)
+    unkept-left rose now new r unkept m e = subst (IsLeft r now new) (sym (right m e)) (elim unkept [
+      | inl n ↦ subst (λ x. IsLeft x now new (Ok run)) (sym n.0) (inl n.1)
+      | inr b ↦ elim b [ inl broke ↦ plain-left broke | inr each ↦ each-left each ]
+    ])
+      where
+        run : Run
+        run = right_run stages (opened_in m stages)
+
+        opened : Opened
+        opened = opened_in m stages
+
+        -- at one of the writers of one file
+        plain-left : BrokeOff k.bytes rose now new stages done r → IsLeft r now new (Ok run)
+        plain-left broke = elim broke.why [
+          | inl n ↦ subst (λ x. IsLeft x now new (Ok run)) (sym n) (inr (elim kept.put [ inl a ↦ (kept.count, a) | inr b ↦ (kept.count + 1, b) ]))
+          | inr d ↦ subst (λ x. IsLeft x now new (Ok run)) (sym d.0) kept
+        ]
+          where
+            i : ℕ
+            i = broke.stage
+
+            inside : i < length stages
+            inside = let a = broke.inside in omega (arith, a, size)
+
+            split : (rest : List Output) × (outputs_below stages opened (length stages) ≡ outputs_below stages opened i ++ (output_at stages opened i ++ rest))
+            split = below-split stages opened i (length stages) inside
+
+            own : (o : Output) × (output_at stages opened i ≡ o ∷ []) × (o.stage ≡ i)
+            own = one-output i (role_at stages i) ((row_at stages opened i).bytes (written_at stages opened i)) broke.writes
+
+            -- all outputs
+            all : run.outputs ≡ outputs_below stages opened i ++ (own.0 ∷ (split.0 ++ all_files stages (kept_from 0 done)))
+            all = outputs-are m e ∙ ap (λ os. os ++ all_files stages (kept_from 0 done)) split.1
+                ∙ append_assoc (outputs_below stages opened i) (output_at stages opened i ++ split.0) (all_files stages (kept_from 0 done))
+                ∙ ap (λ os. outputs_below stages opened i ++ ((os ++ split.0) ++ all_files stages (kept_from 0 done))) own.1
+
+            first-are : take (length (outputs_below stages opened i)) run.outputs ≡ outputs_below stages opened i
+            first-are = ap (take (length (outputs_below stages opened i))) all ∙ take-first (outputs_below stages opened i) (own.0 ∷ (split.0 ++ all_files stages (kept_from 0 done)))
+
+            next-are : take (length (outputs_below stages opened i) + 1) run.outputs ≡ outputs_below stages opened (i + 1)
+            next-are = ap (λ n. take n run.outputs) (let z : length (outputs_below stages opened i) + 1 ≡ suc (length (outputs_below stages opened i)) = omega arith in z)
+                ∙ ap (take (suc (length (outputs_below stages opened i)))) all ∙ take-next (outputs_below stages opened i) own.0 (split.0 ++ all_files stages (kept_from 0 done))
+                ∙ ap (λ os. outputs_below stages opened i ++ os) (sym own.1) ∙ sym (below-more stages opened i) ∙ ap (outputs_below stages opened) (let z : suc i ≡ i + 1 = omega arith in z)
+
+            kept : WereKept i now new run
+            kept = record {
+              count = length (outputs_below stages opened i);
+              next = record { next = own.0; at = ap (λ os. slice_get os (length (outputs_below stages opened i))) all ∙ at-next (outputs_below stages opened i) own.0 (split.0 ++ all_files stages (kept_from 0 done)); of = own.2 };
+              put = elim broke.left [
+                | inl l ↦ inl (subst (λ os. WerePut now os new) (sym first-are) (first-kept m e i (let a = broke.inside in omega (arith, a)) now new l))
+                | inr l ↦ inr (subst (λ os. WerePut now os new) (sym next-are) (first-kept m e (i + 1) (let a = broke.inside in omega (arith, a)) now new l))
+              ];
+            }
+
+        -- at the file of a view
+        each-left : BrokeOffEach k.bytes rose now new stages done r → IsLeft r now new (Ok run)
+        each-left each = elim stops.why [
+          | inl n ↦ subst (λ x. IsLeft x now new (Ok run)) (sym n) (inr (elim stops.left [ inl a ↦ (stops.done, a) | inr b ↦ (stops.done + 1, b.1) ]))
+          | inr d ↦ subst (λ x. IsLeft x now new (Ok run)) (sym d.1) (by-op d.0 d.1)
+        ]
+          where
+            broke : BrokeOffAt rose each.mid new stages (kept_from 0 done) r
+            broke = each.broke
+
+            stops : Stops rose now new broke.stage broke.writing.form run.outputs r
+            stops = subst (λ os. Stops rose now new broke.stage broke.writing.form os r)
+                (ap (λ os. outputs_below stages opened (length stages) ++ os) (append-nil (all_files stages (kept_from 0 done))) ∙ sym (outputs-are m e))
+                (stops-behind now each.mid new broke.stage broke.writing.form (outputs_below stages opened (length stages)) (all_files stages (kept_from 0 done)) r each.lost
+                (subst (λ n. WerePut now (outputs_below stages opened n) each.mid) size (first-kept m e (length done) (omega arith) now each.mid each.plain)) broke.stops)
+
+            unwritten-left : (o : Op) → r ≡ of.Device (at.Stage broke.stage) o → (o ≡ op.Keep → ⊥) → WereWritten broke.stage now new run
+            unwritten-left o is unlike = record {
+              count = stops.done;
+              next = record { next = stops.next; at = stops.at; of = stops.of };
+              view = stops.view;
+              put = elim stops.left [
+                | inl a ↦ a
+                | inr b ↦ absurd (elim b.0 [
+                  | inl n ↦ (let z : of.Device (at.Stage broke.stage) o ≡ of.Memory = sym is ∙ n in cc)
+                  | inr n ↦ (let z : of.Device (at.Stage broke.stage) o ≡ of.Device (at.Stage broke.stage) op.Keep = sym is ∙ n in unlike cc)
+                ])
+              ];
+            }
+
+            by-op : (o : Op) → r ≡ of.Device (at.Stage broke.stage) o → IsLeft (of.Device (at.Stage broke.stage) o) now new (Ok run)
+            by-op op.Keep is = record { count = stops.done; next = record { next = stops.next; at = stops.at; of = stops.of }; put = elim stops.left [ inl a ↦ inl a | inr b ↦ inr b.1 ] }
+            by-op op.Open is = inr (unwritten-left op.Open is (λ q. cc))
+            by-op op.Read is = inr (unwritten-left op.Read is (λ q. cc))
+            by-op op.Create is = inr (unwritten-left op.Create is (λ q. cc))
+            by-op op.Write is = inr (unwritten-left op.Write is (λ q. cc))
+            by-op op.Patch is = inr (unwritten-left op.Patch is (λ q. cc))

@@ -1,5 +1,5 @@
 -- Which device is named where a run is closed.
-use Rattle.std.proofs.Common.{◌≡◌, ℕ, ◌≤◌, false, true, List, length, Option, Some, None, slice_get, refl, ap, ◌∙◌, arith, inl, inr}
+use Rattle.std.proofs.Common.{◌≡◌, ℕ, ◌≤◌, false, true, List, length, Option, Some, None, slice_get, refl, ap, sym, subst, ◌∙◌, arith, inl, inr}
 use Rattle.file_devices.specs.Counts.{Rose, saturating}
 use Rattle.file_devices.specs.Named.{Names}
 use Rattle.file_devices.specs.declared.devices.Op.{Op}
@@ -15,7 +15,7 @@ use Rattle.run_report.specs.declared.refusal.Place.TheVariants.{Stage}
 use Rattle.run_report.specs.declared.refusal.Refusal.TheVariants.{Memory, Device}
 use Rattle.stage_kinds.specs.Held.{faults_of}
 use Rattle.stage_kinds.specs.declared.stage_work.StageWork.{StageWork}
-use Rattle.stage_options.specs.Roles.{Role, Reads, Filters, Gathers, Writes, is_writing}
+use Rattle.stage_options.specs.Roles.{Role, Reads, Filters, Gathers, Writes, WritesEach, is_writing}
 use Rattle.stage_options.specs.declared.stage.StageSpec.{StageSpec}
 use Rattle.answer_model.specs.Values.{role_at}
 use Rattle.answer_model.proofs.Least.{found}
@@ -24,11 +24,14 @@ use Rattle.stage_forms.specs.Starts.{HaveDevices, op_for}
 use Rattle.held_devices.proofs.Lists.{some_at}
 use Rattle.run_outcome.specs.Faults.{fault_at, AreSound}
 use Rattle.run_outcome.specs.Outcomes.{device_op, first_failed, first_faulty, refusal_by, refusal_for}
-use Rattle.run_ending.specs.Finished.{IsUnfinished}
+use Rattle.std.proofs.lemmas.Option.{slice_get_within}
+use Rattle.run_ending.specs.All.{IsUnkept}
+use Rattle.run_ending.specs.Each.{BrokeOffAt, IsEachOp, kept_from}
+use Rattle.run_ending.specs.Finished.{AreKept, IsUnfinished}
 use Rattle.run_ending.specs.Keeping.{BrokeOff}
 use Rattle.set_engine.specs.Evaluated.{HaveEnded}
 use Rattle.run_engine.specs.Blame.{FailedFirst, FailedLast}
-use Rattle.run_engine.proofs.Answers.{rose-given}
+use Rattle.run_engine.proofs.Answers.{kept-work, rose-given}
 
 a-device : (f : Option StageFault) (o : Op) → device_op f ≡ Some o → f ≡ Some (stage.Device o)
 a-device None o e = cc
@@ -85,6 +88,7 @@ module _ {S K : Type 0} (s : source.Ghosts S) (k : sink.Ghosts K) (stages : List
   does-write (Reads name) e = cc
   does-write Filters e = cc
   does-write Gathers e = cc
+  does-write (WritesEach name) e = cc
   does-write (Writes name) e = refl
 
   -- one whose file wasn't kept
@@ -102,6 +106,37 @@ module _ {S K : Type 0} (s : source.Ghosts S) (k : sink.Ghosts K) (stages : List
           rises = d.1;
           work = w.0;
           at = w.1;
-          ends = inr (fit i w.0 w.1 ∙ does-write (role_at stages i) (ap (λ j. is_writing (role_at stages j)) number ∙ broke.writes), op);
+          ends = inr (inl (fit i w.0 w.1 ∙ does-write (role_at stages i) (ap (λ j. is_writing (role_at stages j)) number ∙ broke.writes), op));
         })
+  ]
+
+  -- one of a file for each view, where one of these wasn't kept
+  pub failed-each : (works done : List (StageWork S K)) (faults : List (Option StageFault)) (rose : Type 0) (mid new : Option Names) → AreSound faults → AreKept works done → length done ≡ length works
+      → (i : ℕ) (o : Op) → BrokeOffAt rose mid new stages (kept_from 0 done) (Device (Stage i) o) → FailedLast rose faults works i o
+  failed-each works done faults rose mid new sound kept size i o broke = elim broke.stops.why [
+    | inl m ↦ absurd (let no : Device (Stage i) o ≡ Memory = m in cc)
+    | inr d ↦ (
+        let same : Device (Stage i) o ≡ Device (Stage broke.stage) d.0 = d.1 in
+        let number : i ≡ broke.stage = cc in
+        let op : o ≡ d.0 = cc in
+        let w = kept-work done 0 broke.place broke.stage (broke.writing, broke.flow) broke.of in
+        let v = some_at works w.0 (let a = slice_get_within done w.0 w.1 w.2.0 in omega (arith, a, size)) in
+        let here : i ≡ w.0 = (let a = w.3 in omega (arith, number, a)) in
+        record {
+          sound = sound;
+          rises = d.3;
+          work = v.0;
+          at = ap (slice_get works) here ∙ v.1;
+          ends = inr (inr ((broke.writing, broke.flow), sym (kept w.0 v.0 w.1 v.1 w.2.0) ∙ w.2.1, subst (IsEachOp broke.writing.form) (sym op) d.2));
+        })
+  ]
+
+  pub failed-all : {bytes : K → Option (List ℕ)} (works done : List (StageWork S K)) (faults : List (Option StageFault)) (rose : Type 0) (old new : Option Names) → AreSound faults → HaveDevices stages works
+      → AreLater (faults_of s.faults k.faults) works done → AreKept works done → (i : ℕ) (o : Op) → IsUnkept bytes rose old new stages done (Device (Stage i) o) → FailedLast rose faults works i o
+  failed-all works done faults rose old new sound fit later kept i o unkept = elim unkept [
+    | inl m ↦ absurd (let no : Device (Stage i) o ≡ Memory = m.0 in cc)
+    | inr b ↦ elim b [
+      | inl broke ↦ failed-keep works done faults rose old new sound fit later i o broke
+      | inr each ↦ failed-each works done faults rose each.mid new sound kept later.count i o each.broke
+    ]
   ]

@@ -6,3 +6,4 @@ pub mod Puts
 pub mod Answers
 pub mod Waiting
 pub mod Blamed
+pub mod Each

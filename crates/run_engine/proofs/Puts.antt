@@ -1,21 +1,19 @@
 -- The kept files are the outputs, put under their names.
-use Rattle.std.proofs.Common.{◌≡◌, ◌⊎◌, ℕ, zero, suc, ◌+◌, ◌≤◌, ◌<◌, true, false, List, [], ◌∷◌, ◌++◌, length, slice_get, Option, Some, None, refl, ap, sym, subst, ◌∙◌, inl, inr, arith}
-use Rattle.std.specs.Prelude.{nat_lt, flat_map}
+use Rattle.std.proofs.Common.{◌≡◌, ◌⊎◌, ℕ, zero, suc, ◌+◌, ◌≤◌, ◌<◌, true, List, [], ◌∷◌, ◌++◌, length, slice_get, Option, Some, None, refl, ap, sym, subst, ◌∙◌, inl, inr, arith}
+use Rattle.std.specs.Prelude.{flat_map}
 use Rattle.std.specs.List.{range_with_len}
-use Rattle.std.proofs.lemmas.Bool.{lt-ltb, le-ltb}
 use Rattle.std.proofs.lemmas.Grind.{flat_map-append}
-use Rattle.std.proofs.lemmas.List.{append-nil}
-use Rattle.std.proofs.lemmas.List.Elements.{filter-append}
+use Rattle.std.proofs.lemmas.List.{append-nil, append_assoc}
 use Rattle.network_core.proofs.Opened.{some_at}
 use Rattle.file_devices.specs.Named.{Names, put, kept}
 use Rattle.file_devices.specs.Told.{IsAsTold}
 use Rattle.stage_kinds.specs.declared.stage_work.StageWork.{StageWork}
 use Rattle.stage_kinds.specs.Held.{told_by}
-use Rattle.stage_options.specs.Roles.{Role, Reads, Filters, Gathers, Writes, is_writing}
+use Rattle.stage_options.specs.Roles.{Role, Reads, Filters, Gathers, Writes, WritesEach, is_writing}
 use Rattle.stage_options.specs.declared.stage.StageSpec.{StageSpec}
 use Rattle.answer_model.specs.Values.{Opened, Output, role_at, row_at, written, written_at, output_at}
 use Rattle.answer_model.specs.Runs.{put_all}
-use Rattle.run_outcome.specs.Cause.{WerePut, outputs_before}
+use Rattle.run_outcome.specs.Cause.{WerePut}
 use Rattle.run_ending.specs.Keeping.{kept_one, kept_if, kept_first}
 
 kept_told : (m : Names) (name text : List ℕ) (old : Option Names) (sink : Option (List ℕ)) → IsAsTold old (Some m) → IsAsTold sink (Some text) → IsAsTold (kept old name sink) (Some (put m name text))
@@ -40,7 +38,7 @@ range-more a (suc n) = ap (λ xs. a ∷ xs) (range-more (a + 1) n ∙ ap (λ x. 
 abbrev pub outputs_below : List StageSpec → Opened → ℕ → List Output
 outputs_below stages opened n = flat_map (output_at stages opened) (range_with_len 0 n)
 
-below-more : (stages : List StageSpec) (opened : Opened) (n : ℕ) → outputs_below stages opened (suc n) ≡ outputs_below stages opened n ++ output_at stages opened n
+pub below-more : (stages : List StageSpec) (opened : Opened) (n : ℕ) → outputs_below stages opened (suc n) ≡ outputs_below stages opened n ++ output_at stages opened n
 below-more stages opened n =
     ap (flat_map (output_at stages opened)) (range-more 0 n)
     ∙ flat_map-append (output_at stages opened) (range_with_len 0 n) ((0 + n) ∷ [])
@@ -49,52 +47,33 @@ below-more stages opened n =
     zero-first : (n : ℕ) → 0 + n ≡ n
     zero-first n = omega arith
 
--- an output has the number of its stage
-before-none : (i n : ℕ) (role : Role) (bytes : List ℕ) → i ≤ n → outputs_before i (written n role bytes) ≡ []
-before-none i n (Reads name) bytes h = refl
-before-none i n Filters bytes h = refl
-before-none i n Gathers bytes h = refl
-before-none i n (Writes name) bytes h = let e : nat_lt n i ≡ false = le-ltb n i h in rw e refl
-
-before-one : (i n : ℕ) (role : Role) (bytes : List ℕ) → n < i → outputs_before i (written n role bytes) ≡ written n role bytes
-before-one i n (Reads name) bytes h = refl
-before-one i n Filters bytes h = refl
-before-one i n Gathers bytes h = refl
-before-one i n (Writes name) bytes h = let e : nat_lt n i ≡ true = lt-ltb n i h in rw e refl
-
-before_append : (n : ℕ) (xs ys : List Output) → outputs_before n (xs ++ ys) ≡ outputs_before n xs ++ outputs_before n ys
-before_append n xs ys = filter-append (λ output. nat_lt output.stage n) xs ys
-
 module _ (stages : List StageSpec) (opened : Opened) where
-  before-all : (i n : ℕ) → n ≤ i → outputs_before i (outputs_below stages opened n) ≡ outputs_below stages opened n
-  before-all i zero h = refl
-  before-all i (suc n) h =
-      ap (outputs_before i) (below-more stages opened n)
-      ∙ before_append i (outputs_below stages opened n) (output_at stages opened n)
-      ∙ ap (λ xs. xs ++ outputs_before i (output_at stages opened n)) (before-all i n (omega (arith, h)))
-      ∙ ap (λ xs. outputs_below stages opened n ++ xs) (before-one i n (role_at stages n) ((row_at stages opened n).bytes (written_at stages opened n)) (omega (arith, h)))
-      ∙ sym (below-more stages opened n)
-
-  pub before-below : (i n : ℕ) → i ≤ n → outputs_before i (outputs_below stages opened n) ≡ outputs_below stages opened i
-  before-below i zero h = ap (λ k. outputs_before k []) (none h) ∙ sym (ap (outputs_below stages opened) (none h))
+  -- behind those of the stages before one come its own, and then others
+  pub below-split : (i n : ℕ) → i < n → (rest : List Output) × (outputs_below stages opened n ≡ outputs_below stages opened i ++ (output_at stages opened i ++ rest))
+  below-split i zero h = absurd (omega (arith, h))
+  below-split i (suc n) h = by_place (λ p. below-split i n p) (lt_or_eq i n h)
     where
-      none : i ≤ 0 → i ≡ 0
-      none h = omega arith
-  before-below i (suc n) h = by_place (λ p. before-below i n p) (lt_or_eq i n h)
-    where
-      lt_or_eq : (i n : ℕ) → i ≤ suc n → (i ≤ n) ⊎ (i ≡ suc n)
-      lt_or_eq zero n h = inl (omega arith)
-      lt_or_eq (suc i) zero h = inr (omega arith)
+      lt_or_eq : (i n : ℕ) → i < suc n → (i < n) ⊎ (i ≡ n)
+      lt_or_eq zero zero h = inr refl
+      lt_or_eq zero (suc n) h = inl (omega arith)
+      lt_or_eq (suc i) zero h = absurd (omega (arith, h))
       lt_or_eq (suc i) (suc n) h = elim (lt_or_eq i n (omega (arith, h))) [ inl p ↦ inl (omega (arith, p)) | inr p ↦ inr (ap suc p) ]
 
-      by_place : (i ≤ n → outputs_before i (outputs_below stages opened n) ≡ outputs_below stages opened i) → (i ≤ n) ⊎ (i ≡ suc n) → outputs_before i (outputs_below stages opened (suc n)) ≡ outputs_below stages opened i
-      by_place less (inl p) =
-          ap (outputs_before i) (below-more stages opened n)
-          ∙ before_append i (outputs_below stages opened n) (output_at stages opened n)
-          ∙ ap (λ xs. outputs_before i (outputs_below stages opened n) ++ xs) (before-none i n (role_at stages n) ((row_at stages opened n).bytes (written_at stages opened n)) p)
-          ∙ append-nil (outputs_before i (outputs_below stages opened n))
-          ∙ less p
-      by_place less (inr p) = before-all i (suc n) (omega (arith, p)) ∙ ap (outputs_below stages opened) (sym p)
+      by_place : (i < n → (rest : List Output) × (outputs_below stages opened n ≡ outputs_below stages opened i ++ (output_at stages opened i ++ rest))) → (i < n) ⊎ (i ≡ n)
+          → (rest : List Output) × (outputs_below stages opened (suc n) ≡ outputs_below stages opened i ++ (output_at stages opened i ++ rest))
+      by_place before (inl p) =
+          let s = before p in (
+            s.0 ++ output_at stages opened n,
+            below-more stages opened n ∙ ap (λ xs. xs ++ output_at stages opened n) s.1
+                ∙ append_assoc (outputs_below stages opened i) (output_at stages opened i ++ s.0) (output_at stages opened n)
+                ∙ ap (λ xs. outputs_below stages opened i ++ xs) (append_assoc (output_at stages opened i) s.0 (output_at stages opened n)),
+          )
+      by_place before (inr p) = (
+        [],
+        below-more stages opened n
+            ∙ ap (λ j. outputs_below stages opened j ++ output_at stages opened j) (sym p)
+            ∙ ap (λ xs. outputs_below stages opened i ++ xs) (sym (append-nil (output_at stages opened i))),
+      )
 
   module _ {S K : Type 0} (bytes : K → Option (List ℕ)) (works : List (StageWork S K))
       (told : (i : ℕ) (w : StageWork S K) → slice_get works i ≡ Some w → is_writing (role_at stages i) ≡ true → IsAsTold (told_by bytes w) (Some ((row_at stages opened i).bytes (written_at stages opened i)))) where
@@ -105,6 +84,7 @@ module _ (stages : List StageSpec) (opened : Opened) where
         by_role (Reads name) is = before
         by_role Filters is = before
         by_role Gathers is = before
+        by_role (WritesEach name) is = before
         by_role (Writes name) is = kept_told m name ((row_at stages opened i).bytes (written_at stages opened i)) now (told_by bytes w) before (told i w e (ap is_writing is))
 
     pub first-put : (count : ℕ) (m : Names) (old : Option Names) → count ≤ length works → IsAsTold old (Some m) → IsAsTold (kept_first bytes count old stages works) (Some (put_all m (outputs_below stages opened count)))

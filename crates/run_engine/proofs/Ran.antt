@@ -20,21 +20,21 @@ use Rattle.stage_kinds.specs.Held.{op_of, faults_of, told_by}
 use Rattle.file_devices.specs.Told.{IsAsTold}
 use Rattle.stage_options.specs.declared.stage.StageSpec.{StageSpec}
 use Rattle.run_report.specs.declared.report.StageCount.{StageCount}
-use Rattle.answer_model.specs.Values.{Opened, stage_at, options_at, row_at, setting_at, stage_input, stage_fault, count_at, counts_of}
+use Rattle.answer_model.specs.Values.{Opened, stage_at, options_at, row_at, setting_at, stage_input, stage_fault, stage_value, count_at, counts_of}
 use Rattle.answer_model.proofs.Least.{least-nowhere}
 use Rattle.stage_runs.specs.Works.{AreNewStages, ReadersTell}
 use Rattle.stage_runs.specs.Parts.{AreLaterNodes}
 use Rattle.stage_runs.proofs.Places.{mapped-at, map-at}
 use Rattle.stage_kinds.specs.Files.{chosen}
-use Rattle.stage_forms.proofs.Works.{writes-form, writer-row, wrote-is}
-use Rattle.stage_kinds.specs.Stages.{HoldsAll}
+use Rattle.stage_forms.proofs.Works.{writes-form, writer-row, wrote-is, files-are}
+use Rattle.stage_kinds.specs.Stages.{keeps_of, HoldsAll}
 use Rattle.stage_runs.specs.Ran.{EndsAsStage, AreRanStages}
 use Rattle.run_outcome.specs.Faults.{fault_at, NoneFailed, AreSound}
 use Rattle.run_engine.specs.Counted.{node_count, AreCounted, AreFaultsOf}
 use Rattle.stage_forms.specs.Starts.{AreTold}
 use Rattle.set_engine.specs.Evaluated.{FailedAt, HaveEnded}
 use Rattle.stage_forms.specs.Later.{AreLater, CameToEnd}
-use Rattle.run_ending.specs.Finished.{AreFinished}
+use Rattle.run_ending.specs.Finished.{AreFinished, AreKept}
 use Rattle.run_engine.specs.Done.{AreDone}
 use Rattle.held_devices.proofs.Lists.{length-mapped}
 use Rattle.set_engine.proofs.Lists.{same-lists, range-at}
@@ -55,8 +55,8 @@ node-of [] i f e = absurd cc
 node-of (n ∷ nodes) zero f e = (n, refl, e)
 node-of (n ∷ nodes) (suc i) f e = node-of nodes i f e
 
-same-count : (i : ℕ) (k l : _) (v v' p p' : ℕ) (w w' : Option ℕ) → k ≡ l → v ≡ v' → p ≡ p' → w ≡ w' → ◌≡◌ {A = StageCount} (record { stage = i; kind = k; views = v; points = p; wrote = w }) (record { stage = i; kind = l; views = v'; points = p'; wrote = w' })
-same-count i k l v v' p p' w w' a b c d = cc
+same-count : (i : ℕ) (k l : _) (v v' p p' : ℕ) (w w' : Option ℕ) (f f' : ℕ) → k ≡ l → v ≡ v' → p ≡ p' → w ≡ w' → f ≡ f' → ◌≡◌ {A = StageCount} (record { stage = i; kind = k; views = v; points = p; wrote = w; files = f }) (record { stage = i; kind = l; views = v'; points = p'; wrote = w'; files = f' })
+same-count i k l v v' p p' w w' f f' a b c d e = cc
 
 module _ {S K : Type 0} (s : source.Ghosts S) (k : sink.Ghosts K) (stages : List StageSpec) (old new : List (Node (StageWork S K))) (works : List (StageWork S K))
     (is_works : map work_of old ≡ works) (fresh : AreNewStages s k stages old) (lasted : AreLaterNodes s k old new) where
@@ -107,15 +107,17 @@ module _ {S K : Type 0} (s : source.Ghosts S) (k : sink.Ghosts K) (stages : List
         counted = same-lists counts (counts_of stages opened) (size ∙ sym (length-map-range_with_len (count_at stages opened) 0 (length stages))) count-is;
         held = λ i w e x is. let m = mapped-at work_of new i w e in
             subst (HoldsAll k.bytes x (points (stage_input stages opened i))) m.2 ((ends i m.0 m.1).holds (sound i m.0 m.1) x is);
+        keeps = λ i w e. let m = mapped-at work_of new i w e in ap keeps_of (sym m.2) ∙ (ends i m.0 m.1).keeps;
       }
         where
           one-count : (i : ℕ) (t : StageSpec) (m : Node (StageWork S K)) → slice_get stages i ≡ Some t → slice_get new i ≡ Some m → node_count i t m ≡ count_at stages opened i
           one-count i t m e f =
               let g = (ends i m f).gave in
               let is = stage-is stages i t e in
-              same-count i t.kind ((stage_at stages i).kind) (up_to_limit m.views) _ (up_to_limit m.points) _ _ _
+              same-count i t.kind ((stage_at stages i).kind) (up_to_limit m.views) _ (up_to_limit m.points) _ _ _ _ _
               (ap (λ (x : StageSpec). x.kind) (sym is)) g.views g.points
-              ((ends i m f).wrote (sound i m f) ∙ wrote-is (options_at stages i) (setting_at stages opened i) (points (stage_input stages opened i)))
+              ((ends i m f).wrote (sound i m f) ∙ wrote-is (options_at stages i) (setting_at stages opened i) (stage_input stages opened i) (stage_value stages opened i))
+              ((ends i m f).files ∙ files-are (options_at stages i) (setting_at stages opened i) (stage_value stages opened i))
 
           count-is : (i : ℕ) → i < length counts → slice_get counts i ≡ slice_get (counts_of stages opened) i
           count-is i lt =
@@ -181,8 +183,8 @@ module _ {S K : Type 0} (faults : StageWork S K → ℕ) (old now new : List (St
     later = λ i v w e f. let x = mid i v e in let a = first.later i v x.0 e x.1 in let b = second.later i x.0 w x.1 f in omega (arith, a, b);
   }
 
-  pub done-on : (bytes : K → Option (List ℕ)) (stages : List StageSpec) (opened : Opened) (counts : List StageCount) → AreFinished bytes now new → CameToEnd bytes stages opened now counts → AreDone bytes stages opened new counts
-  done-on bytes stages opened counts finished c = record {
+  pub done-on : (bytes : K → Option (List ℕ)) (stages : List StageSpec) (opened : Opened) (counts : List StageCount) → AreFinished bytes now new → AreKept now new → CameToEnd bytes stages opened now counts → AreDone bytes stages opened new counts
+  done-on bytes stages opened counts finished kept c = record {
     sound = c.sound;
     counted = c.counted;
     told = λ i w e writes.
@@ -193,4 +195,6 @@ module _ {S K : Type 0} (faults : StageWork S K → ℕ) (old now new : List (St
         let row = writer-row (options_at stages i) setting x is in
         subst (λ bs. IsAsTold (told_by bytes w) (Some bs)) (row.bytes (chosen x.only ps) ∙ ap ((row_at stages opened i).bytes) (row.chooses ps))
         (finished i v.0 w v.1 e x ps (c.held i v.0 v.1 x is));
+    keeps = λ i w e. let v = some_at now i (let a = slice_get_within new i w e in let b = second.count in omega (arith, a, b)) in
+        kept i v.0 w v.1 e ∙ c.keeps i v.0 v.1;
   }

@@ -7,9 +7,12 @@ use Rattle.cloud_points.specs.declared.faults.StageFault.{StageFault}
 use Rattle.cloud_points.specs.declared.faults.StageFault.TheVariants.{Device}
 use Rattle.stage_kinds.specs.Files.{finishing_op}
 use Rattle.stage_kinds.specs.Held.{op_of}
-use Rattle.stage_kinds.specs.Stages.{writing_of}
+use Rattle.stage_kinds.specs.Stages.{keeps_of, writing_of}
 use Rattle.stage_kinds.specs.declared.file_form.Writing.{Writing}
 use Rattle.stage_kinds.specs.declared.stage_work.StageWork.{StageWork}
+use Rattle.cloud_points.specs.Flows.{Flow}
+use Rattle.cloud_points.specs.declared.point.Point.{Point}
+use Rattle.run_ending.specs.Each.{IsEachOp}
 use Rattle.run_outcome.specs.Faults.{fault_at, AreSound}
 use Rattle.run_engine.specs.declared.job.Step.{Step}
 use Rattle.run_engine.specs.declared.job.Step.TheVariants.{Done}
@@ -23,11 +26,13 @@ pub record FailedFirst {S K : Type 0} (faults : StageWork S K → ℕ) (found : 
   pub does : op_of work ≡ Some o
   pub count : 0 < faults work
 
--- a writer's file is ended by this, and then kept
+-- a writer's file is ended by this, and then kept; the files of views that it keeps are created, written, made whole and kept
 abbrev pub EndsBy : {S K : Type 0} → StageWork S K → Op → Type 0
-EndsBy work o = (option_map (λ (x : Writing). finishing_op x.form) (writing_of work) ≡ Some o) ⊎ ((op_of work ≡ Some Write) × (o ≡ Keep))
+EndsBy work o =
+    (option_map (λ (x : Writing). finishing_op x.form) (writing_of work) ≡ Some o)
+    ⊎ (((op_of work ≡ Some Write) × (o ≡ Keep)) ⊎ ((k : Writing × Flow Point) × (keeps_of work ≡ Some k) × IsEachOp k.0.form o))
 
--- no stage has a fault, and the file of stage i, a writer, couldn't be ended or kept; the count of the files' faults rose
+-- no stage has a fault, and the file of stage i, a writer, couldn't be ended or kept, or one of a view of it be written; the count of the files' faults rose
 pub record FailedLast {S K : Type 0} (rose : Type 0) (found : List (Option StageFault)) (works : List (StageWork S K)) (i : ℕ) (o : Op) : Type 0 where
   pub sound : AreSound found
   pub rises : rose

@@ -4,11 +4,11 @@ use Rattle.cloud_points.specs.declared.faults.StageFault.{StageFault}
 use Rattle.cloud_points.specs.Queue.{up_to_limit}
 use Rattle.network_core.specs.declared.node.Node.{Node}
 use Rattle.stage_kinds.specs.declared.stage_work.StageWork.{StageWork}
-use Rattle.stage_kinds.specs.Stages.{written_by}
+use Rattle.stage_kinds.specs.Stages.{files_by, written_by}
 use Rattle.stage_options.specs.declared.stage.StageSpec.{StageSpec}
 use Rattle.run_report.specs.declared.report.StageCount.{StageCount}
 
--- what a stage's node gave on, and how many points it wrote
+-- what a stage's node gave on, and how many points and files it wrote
 abbrev pub node_count : {S K : Type 0} → ℕ → StageSpec → Node (StageWork S K) → StageCount
 node_count i s n = record {
   stage = i;
@@ -16,6 +16,7 @@ node_count i s n = record {
   views = up_to_limit n.views;
   points = up_to_limit n.points;
   wrote = written_by n.work;
+  files = files_by n.work;
 }
 
 -- what the nodes of these stages gave on, as many as are counted

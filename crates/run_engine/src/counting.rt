@@ -10,7 +10,7 @@ use run_report::{Report, StageCount};
 use stage_kinds::StageWork;
 use stage_options::StageSpec;
 
-/// What the node of stage i gave on, and how many points it wrote.
+/// What the node of stage i gave on, and how many points and files it wrote.
 fn node_count<S: Source, K: FileSink>(
     i: u32,
     stage: &StageSpec,
@@ -24,6 +24,7 @@ fn node_count<S: Source, K: FileSink>(
         views: node.views(),
         points: node.points(),
         wrote: node.work().written(),
+        files: node.work().files(),
     }
 }
 

@@ -27,7 +27,7 @@ use crate::whole::whole_works;
 use file_devices::{FileSink, Files, Source};
 use held_devices::release_works;
 use network_solo::Scheduler;
-use run_ending::{Ran, finish, keep_works};
+use run_ending::{Ran, finish, keep_all};
 use run_outcome::{Ended, outcome};
 use run_report::{Refusal, Report};
 use stage_kinds::StageWork;
@@ -121,17 +121,19 @@ impl<S: Source, K: FileSink, E> Job<S, K, E> {
     }
 
     /// Ends the run: where the stages came to their end all writers finish their files, which are then kept under their names, in the
-    /// order of the stages. Answers what each stage gave on. Every object that was handed out is given back.
+    /// order of the stages; then the files of views are written and kept, in the order of the stages and of the views. Answers what each
+    /// stage gave on. Every object that was handed out is given back.
     ///
     /// Where stages have faults it answers the one that goes first, and where memory was wanting `Memory`, and keeps nothing. Else `Data`
     /// comes only where the files had that fault as the run was prepared, `Device` only where the device failed, `Memory` where there was
     /// none. The device of a stage is named for what the stages did in their turns only where that of no earlier stage failed, and for the
     /// end of its file only where no stage has a fault.
     ///
-    /// After a refusal the files are as before; only where the keeping of a file failed or found no memory are those of the writers
-    /// before it kept, and that one may be. Files that don't tell what they have don't tell it after the run.
+    /// After a refusal the files are as before; only where the keeping of a file failed or found no memory, or the file of a view couldn't be
+    /// written, are those before it kept, and one that couldn't be kept may be. Files that don't tell what they have don't tell it after the run.
     pub fn close<F: Files<In = S, Out = K>>(
         self,
+        alloc: Global,
         files: &mut F,
         stages: &[StageSpec],
     ) -> Result<Report, Refusal>
@@ -173,7 +175,7 @@ impl<S: Source, K: FileSink, E> Job<S, K, E> {
             release_works(files, works);
             return Err(refusal);
         }
-        match keep_works(files, works, stages) {
+        match keep_all(alloc, files, works, stages) {
             Ok(()) => Ok(ended.report),
             Err(refusal) => Err(refusal),
         }

@@ -20,11 +20,12 @@ use std::alloc::Global;
 
 /// Runs the stages of a tree: opens the readers' files, binds the names of dimensions, and creates the files of the writers, each
 /// in the order of the stages; lets the points go through, finishes all writers' files and then keeps them in the order of the
-/// stages, and answers what each stage gave on. Every object that was handed out is given back.
+/// stages, and behind them the files of views, and answers what each stage gave on. Every object that was handed out is given back.
 ///
 /// `Pipeline` comes only where a name in the options of a stage isn't bound, `Data` only where the files have that fault, `Device`
 /// only where the device failed or the file to read isn't there, `Memory` where there was none. After a refusal the files are as
-/// before; only where the keeping of a file failed or found no memory are those of the writers before it kept, and that one may be.
+/// before; only where the keeping of a file failed or found no memory, or the file of a view couldn't be written, are those before it
+/// kept, and one that couldn't be kept may be.
 /// Files that don't tell what they have don't tell it after the run.
 pub fn run_pipeline<F: Files, T: Scheduler<StageWork<F::In, F::Out>>>(
     alloc: Global,
@@ -48,5 +49,5 @@ pub fn run_pipeline<F: Files, T: Scheduler<StageWork<F::In, F::Out>>>(
 {
     let mut job = prepare(alloc, files, stages, engine, scheduler)?;
     let _enough = job.run(alloc, scheduler, stages);
-    job.close(files, stages)
+    job.close(alloc, files, stages)
 }

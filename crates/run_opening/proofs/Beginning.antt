@@ -2,7 +2,7 @@
 use Rattle.std.proofs.Common.{◌≡◌, ℕ, ◌<◌, true, List, length, Option, Some, IsOk, sym, subst, inr}
 use Rattle.file_devices.specs.Named.{Names}
 use Rattle.file_devices.specs.declared.devices.Op.TheVariants as op
-use Rattle.stage_options.specs.Roles.{Role, Reads, Filters, Gathers, Writes, is_writing}
+use Rattle.stage_options.specs.Roles.{Role, Reads, Filters, Gathers, Writes, WritesEach, is_writing}
 use Rattle.stage_options.specs.declared.stage.StageSpec.{StageSpec}
 use Rattle.run_report.specs.declared.refusal.Refusal.{Refusal}
 use Rattle.run_report.specs.declared.refusal.Refusal.TheVariants as of
@@ -16,6 +16,7 @@ at-writer : (earlier all right : Type 0) (role : Role) → is_writing role ≡ t
 at-writer earlier all right (Reads name) w a = cc
 at-writer earlier all right Filters w a = cc
 at-writer earlier all right Gathers w a = cc
+at-writer earlier all right (WritesEach name) w a = cc
 at-writer earlier all right (Writes name) w a = (a, a)
 
 -- a writer whose file couldn't be created is the cause, once all readers' files were read and all names are bound

@@ -10,7 +10,7 @@ use Rattle.stage_forms.specs.Below.{HaveReaders, Tells}
 use Rattle.stage_kinds.specs.declared.file_form.StageForm.{StageForm}
 use Rattle.stage_kinds.specs.declared.file_form.StageForm.TheVariants.{Reads}
 use Rattle.stage_kinds.specs.declared.stage_work.StageWork.{StageWork}
-use Rattle.stage_kinds.specs.declared.stage_work.StageWork.TheVariants.{Reader, Filter, Collector, Views, Writer}
+use Rattle.stage_kinds.specs.declared.stage_work.StageWork.TheVariants.{Reader, Filter, Collector, Views, ViewFiles, Writer}
 use Rattle.stage_options.specs.declared.stage.StageSpec.{StageSpec}
 use Rattle.run_report.specs.declared.refusal.Refusal.{Refusal}
 use Rattle.run_report.specs.declared.refusal.Refusal.TheVariants as of
@@ -32,6 +32,7 @@ is-reader (Reader q) r e = ap Reader (same_Some q r e)
 is-reader (Filter f) r e = absurd (none-some r e)
 is-reader (Collector c) r e = absurd (none-some r e)
 is-reader (Views h) r e = absurd (none-some r e)
+is-reader (ViewFiles t) r e = absurd (none-some r e)
 is-reader (Writer v) r e = absurd (none-some r e)
 
 -- works over readers and forms are at their start

@@ -12,9 +12,9 @@ use Rattle.answer_model.specs.Rows.{Setting}
 use Rattle.stage_forms.specs.Below.{AreReaders, HaveReaders, Tells}
 use Rattle.stage_kinds.specs.declared.file_form.StageForm.{StageForm}
 use Rattle.stage_kinds.specs.declared.stage_work.StageWork.{StageWork}
-use Rattle.stage_kinds.specs.declared.stage_work.StageWork.TheVariants.{Reader, Filter, Collector, Views, Writer}
+use Rattle.stage_kinds.specs.declared.stage_work.StageWork.TheVariants.{Reader, Filter, Collector, Views, ViewFiles, Writer}
 use Rattle.stage_kinds.specs.Held.{op_of}
-use Rattle.stage_options.specs.Roles.{Role, Reads, Filters, Gathers, Writes, role_of, is_reading, is_writing}
+use Rattle.stage_options.specs.Roles.{Role, Reads, Filters, Gathers, Writes, WritesEach, role_of, is_reading, is_writing}
 use Rattle.stage_options.specs.declared.options.Options.{Options}
 use Rattle.stage_options.specs.declared.stage.StageSpec.{StageSpec}
 use Rattle.run_report.specs.declared.refusal.Refusal.{Refusal}
@@ -35,6 +35,7 @@ opened-read s map i (Reads name) (Some r) is m e = is.read m e
 opened-read s map i (Reads name) None is m e = absurd is
 opened-read s map i Filters o is m e = refl
 opened-read s map i Gathers o is m e = refl
+opened-read s map i (WritesEach name) o is m e = refl
 opened-read s map i (Writes name) o is m e = refl
 
 pub are-read : {S : Type 0} (s : source.Ghosts S) (map : Option Names) (stages : List StageSpec) (readers : List (Option (LasReader S))) (count : ℕ) → count ≡ length readers → AreOpened s map stages readers → (m : Names) → map ≡ Some m → AreRead m stages count
@@ -74,16 +75,19 @@ unopened-cause rose map stages i refusal lt read why = go (role_at stages i) ref
     ])
     go Filters is (of.Device p o) w = absurd w
     go Gathers is (of.Device p o) w = absurd w
+    go (WritesEach name) is (of.Device p o) w = absurd w
     go (Writes name) is (of.Device p o) w = absurd w
     go (Reads name) is (of.Device at.PipelineFile o) w = absurd w
     go (Reads name) is (of.Device at.Generated o) w = absurd w
     go (Reads name) is (of.Device at.Out o) w = absurd w
     go Filters is (of.Pipeline f) w = absurd w
     go Gathers is (of.Pipeline f) w = absurd w
+    go (WritesEach name) is (of.Pipeline f) w = absurd w
     go (Reads name) is (of.Pipeline f) w = absurd w
     go (Writes name) is (of.Pipeline f) w = absurd w
     go Filters is (of.Usage k) w = absurd w
     go Gathers is (of.Usage k) w = absurd w
+    go (WritesEach name) is (of.Usage k) w = absurd w
     go (Reads name) is (of.Usage k) w = absurd w
     go (Writes name) is (of.Usage k) w = absurd w
 
@@ -92,6 +96,7 @@ module _ {S : Type 0} (s : source.Ghosts S) (map : Option Names) (i : ℕ) where
   by-reader (Reads name) r h = (refl, h)
   by-reader Filters r h = absurd h
   by-reader Gathers r h = absurd h
+  by-reader (WritesEach name) r h = absurd h
   by-reader (Writes name) r h = absurd h
 
   -- a reader stands exactly where a stage reads
@@ -101,7 +106,9 @@ module _ {S : Type 0} (s : source.Ghosts S) (map : Option Names) (i : ℕ) where
   reader-there Filters (Some r) h = absurd h
   reader-there Filters None h = refl
   reader-there Gathers (Some r) h = absurd h
+  reader-there (WritesEach name) (Some r) h = absurd h
   reader-there Gathers None h = refl
+  reader-there (WritesEach name) None h = refl
   reader-there (Writes name) (Some r) h = absurd h
   reader-there (Writes name) None h = refl
 
@@ -134,6 +141,7 @@ other-work {S} {K} s k map i o form w inner device start = record {
     reads_not (Reads name) i e = absurd (true≢false i)
     reads_not Filters i e = cc
     reads_not Gathers i e = cc
+    reads_not (WritesEach name) i e = cc
     reads_not (Writes name) i e = cc
 
     no_reader : (w : StageWork S K) → op_of w ≡ op_for (role_of o) → reader_of w ≡ None
@@ -141,6 +149,7 @@ other-work {S} {K} s k map i o form w inner device start = record {
     no_reader (Filter f) e = refl
     no_reader (Collector c) e = refl
     no_reader (Views h) e = refl
+    no_reader (ViewFiles t) e = refl
     no_reader (Writer v) e = refl
 
 module _ {S : Type 0} (s : source.Ghosts S) (map : Option Names) (stages : List StageSpec) (readers : List (Option (LasReader S))) (are : AreOpened s map stages readers) where
@@ -156,4 +165,5 @@ pub no-device : (role : Role) → is_reading role ≡ false → is_writing role 
 no-device (Reads name) r w = absurd (true≢false r)
 no-device Filters r w = refl
 no-device Gathers r w = refl
+no-device (WritesEach name) r w = refl
 no-device (Writes name) r w = absurd (true≢false w)

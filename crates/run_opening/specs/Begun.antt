@@ -1,5 +1,5 @@
 -- The stages of a tree before their first turn.
-use Rattle.std.specs.Prelude.{◌≡◌, ℕ, ◌<◌, List, length, slice_get, slice_index_or, true, Option, Some, None, ⊤}
+use Rattle.std.specs.Prelude.{◌≡◌, ℕ, ◌<◌, List, length, slice_get, slice_index_or, true, false, Option, Some, None, ⊤}
 use Rattle.file_devices.specs.Named.{Names}
 use Rattle.file_devices.specs.declared.devices.Source as source
 use Rattle.file_devices.specs.declared.devices.Sink as sink
@@ -11,10 +11,11 @@ use Rattle.stage_kinds.specs.declared.file_form.StageForm.{StageForm}
 use Rattle.stage_kinds.specs.declared.file_form.StageForm.TheVariants as form
 use Rattle.stage_kinds.specs.Files.{IsFileForm}
 use Rattle.stage_kinds.specs.Held.{op_of}
+use Rattle.stage_kinds.specs.Makings.{IsGoodMaking}
 use Rattle.run_report.specs.declared.refusal.Refusal.{Refusal}
 use Rattle.run_report.specs.declared.refusal.Refusal.TheVariants.{Memory, Pipeline}
 use Rattle.stage_forms.specs.Below.{HaveReaders, Tells}
-use Rattle.stage_options.specs.Roles.{Role, Reads, Filters, Gathers, role_of, is_reading, is_writing}
+use Rattle.stage_options.specs.Roles.{Role, Reads, Filters, role_of, is_reading, is_writing}
 use Rattle.stage_options.specs.declared.options.Options.{Options}
 use Rattle.stage_options.specs.declared.stage.StageSpec.{StageSpec}
 use Rattle.answer_model.specs.Rows.{Setting}
@@ -51,7 +52,7 @@ AreForms {S} stages readers forms = (opened : Opened) → HaveReaders readers op
 abbrev pub IsForm : Role → StageForm → Type 0
 IsForm role form.Reads = is_reading role ≡ true
 IsForm role (form.Filters f) = role ≡ Filters
-IsForm role (form.Gathers g) = role ≡ Gathers
+IsForm role (form.Gathers m) = (op_for role ≡ None) × (is_reading role ≡ false) × IsGoodMaking m
 IsForm role (form.Writes x) = (is_writing role ≡ true) × IsFileForm x.form
 
 abbrev pub FitRoles : List StageSpec → List StageForm → Type 0

@@ -18,11 +18,10 @@ use file_devices::{DeviceErr, Files, Op};
 use held_devices::{give_back, release_works};
 use las_reader::LasReader;
 use run_report::{Place, Refusal};
-use stage_kinds::{FileBeginErr, StageForm, StageWork, Writing, begin_file};
+use stage_kinds::{FileBeginErr, Gatherer, StageForm, StageWork, Writing, begin_file};
 use stage_options::{Role, StageSpec};
 use std::alloc::Global;
 use std::mem::replace;
-use view_works::Collector;
 
 /// The work of a writer, the stage with this number, on a new file. Where the file can't be created or begun, it
 /// is given back.
@@ -89,8 +88,8 @@ fn begin_work<F: Files>(
         return match form {
             StageForm::Reads => unreachable!(),
             StageForm::Filters(filter) => Ok(StageWork::Filter(filter)),
-            StageForm::Gathers(gathering) => {
-                Ok(StageWork::Collector(Collector::new(alloc, layout, gathering)))
+            StageForm::Gathers(making) => {
+                Ok(StageWork::Collector(Gatherer::new(alloc, layout, making)))
             }
             StageForm::Writes(writing) => match stage.options.role() {
                 Role::Writes(name) => open_writer(alloc, files, writing, name, number),

@@ -75,7 +75,7 @@ fn open_stage<F: Files>(
 {
     match stage.options.role() {
         Role::Reads(name) => Ok(Some(open_reader(alloc, files, name, number)?)),
-        Role::Filters | Role::Gathers | Role::Writes(_) => Ok(None),
+        _ => Ok(None),
     }
 }
 

@@ -1,12 +1,11 @@
 -- Why a step was refused, and what it leaves.
-use Rattle.std.specs.Prelude.{◌≡◌, ◌⊎◌, ℕ, ◌+◌, ◌<◌, ◌≤◌, nat_lt, Bool, true, false, List, length, Option, Some, Result, Err, IsOk, IsOkAnd, ⊤}
-use Rattle.std.specs.List.{filter}
+use Rattle.std.specs.Prelude.{◌≡◌, ◌⊎◌, ℕ, ◌+◌, ◌<◌, ◌≤◌, Bool, true, false, List, length, take, slice_get, is_some, Option, Some, Result, Err, IsOk, IsOkAnd, ⊤}
 use Rattle.file_devices.specs.Told.{IsAsTold}
 use Rattle.file_devices.specs.Named.{Names}
 use Rattle.file_devices.specs.Content.{Appends, AppendsPart}
 use Rattle.file_devices.specs.declared.devices.Op.{Op}
 use Rattle.file_devices.specs.declared.devices.Op.TheVariants as op
-use Rattle.stage_options.specs.Roles.{Role, Reads, Writes}
+use Rattle.stage_options.specs.Roles.{Role, Reads, Writes, WritesEach}
 use Rattle.stage_options.specs.declared.stage.StageSpec.{StageSpec}
 use Rattle.stage_options.specs.declared.options.Options.{Options}
 use Rattle.stage_options.specs.declared.options.Options.TheVariants.{WritersLas}
@@ -28,7 +27,8 @@ Because expected failed (of.Device p o) = (expected ≡ Err (of.Device p o)) ⊎
 Because expected failed refusal = expected ≡ Err refusal
 
 -- what the device of a stage may have failed in: a reader's once all earlier readers' files were read, a writer's once all were
--- and all names are bound, and the end of its file and its keeping only where the answer is right
+-- and all names are bound, and the end of its file and its keeping only where the answer is right; so it is with all that becomes of the
+-- files of views
 abbrev pub AtRole : Type 0 → Type 0 → Type 0 → Role → Op → Type 0
 AtRole earlier all right (Reads name) op.Open = earlier
 AtRole earlier all right (Reads name) op.Read = earlier
@@ -36,6 +36,10 @@ AtRole earlier all right (Writes name) op.Create = all
 AtRole earlier all right (Writes name) op.Write = all
 AtRole earlier all right (Writes name) op.Patch = right
 AtRole earlier all right (Writes name) op.Keep = right
+AtRole earlier all right (WritesEach name) op.Create = right
+AtRole earlier all right (WritesEach name) op.Write = right
+AtRole earlier all right (WritesEach name) op.Patch = right
+AtRole earlier all right (WritesEach name) op.Keep = right
 AtRole earlier all right role o = ⊥
 
 -- a stage with these options ends its file by a patch of its header
@@ -97,18 +101,35 @@ pub record IsPartDone (old new : Option Names) (out_before out : Option (List �
   pub put : WerePut old run.outputs new
   pub report : AppendsPart out_before run.report out
 
--- the outputs of the stages before one
-abbrev pub outputs_before : ℕ → List Output → List Output
-outputs_before i outputs = filter (λ output. nat_lt output.stage i) outputs
+-- the first so many outputs were put
+abbrev pub WerePutFirst : ℕ → Option Names → Option Names → Run → Type 0
+WerePutFirst n old new run = WerePut old (take n run.outputs) new
 
--- the outputs of the stages before one were put
-abbrev pub WerePutBefore : ℕ → Option Names → Option Names → Run → Type 0
-WerePutBefore i old new run = WerePut old (outputs_before i run.outputs) new
+-- behind the first so many outputs comes one of this stage
+pub record ComesNext (stage n : ℕ) (run : Run) : Type 0 where
+  pub next : Output
+  pub at : slice_get run.outputs n ≡ Some next
+  pub of : next.stage ≡ stage
+
+-- the first outputs were put up to one of a stage, which couldn't be kept, so that it may be there
+pub record WereKept (stage : ℕ) (old new : Option Names) (run : Run) : Type 0 where
+  pub count : ℕ
+  pub next : ComesNext stage count run
+  pub put : WerePutFirst count old new run ⊎ WerePutFirst (count + 1) old new run
+
+-- the first outputs were put up to the file of a view, which couldn't be created or written
+pub record WereWritten (stage : ℕ) (old new : Option Names) (run : Run) : Type 0 where
+  pub count : ℕ
+  pub next : ComesNext stage count run
+  pub view : is_some next.next.view ≡ true
+  pub put : WerePutFirst count old new run
 
 -- what a refusal leaves: all outputs where only the report couldn't be printed; where an output wasn't kept, those before it, and
--- perhaps that one; where memory was wanting, none or the first ones of a right answer; else nothing
+-- perhaps that one; where the file of a view wasn't written, those before it; where memory was wanting, none or the first ones of a right
+-- answer; else nothing
 abbrev pub IsLeft : Refusal → Option Names → Option Names → Result Run Refusal → Type 0
-IsLeft of.Memory old new expected = (new ≡ old) ⊎ IsOkAnd expected (λ run. (i : ℕ) × WerePutBefore i old new run)
+IsLeft of.Memory old new expected = (new ≡ old) ⊎ IsOkAnd expected (λ run. (n : ℕ) × WerePutFirst n old new run)
 IsLeft (of.Device at.Out o) old new expected = IsOkAnd expected (λ run. WerePut old run.outputs new)
-IsLeft (of.Device (at.Stage i) op.Keep) old new expected = IsOkAnd expected (λ run. WerePutBefore i old new run ⊎ WerePutBefore (i + 1) old new run)
+IsLeft (of.Device (at.Stage i) op.Keep) old new expected = IsOkAnd expected (WereKept i old new)
+IsLeft (of.Device (at.Stage i) o) old new expected = (new ≡ old) ⊎ IsOkAnd expected (WereWritten i old new)
 IsLeft refusal old new expected = new ≡ old

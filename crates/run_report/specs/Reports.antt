@@ -1,5 +1,7 @@
 -- What is printed of a run.
-use Rattle.std.specs.Prelude.{ℕ, List, [], ◌∷◌, ◌++◌, Option, Some, None, is_some, codes, decimal, count_by}
+use Rattle.std.specs.Prelude.{ℕ, List, [], ◌∷◌, ◌++◌, Option, Some, None, codes, decimal}
+use Rattle.std.specs.List.{sum_by}
+use Rattle.cloud_points.specs.Queue.{up_to_limit}
 use Rattle.stage_names.specs.Kinds.{name_of}
 use Rattle.run_report.specs.declared.report.StageCount.{StageCount}
 
@@ -17,9 +19,9 @@ abbrev pub lines_of : List StageCount → List ℕ
 lines_of [] = []
 lines_of (count ∷ counts) = stage_line count ++ lines_of counts
 
--- how many stages wrote a file
+-- how many files the stages wrote
 abbrev pub outputs_in : List StageCount → ℕ
-outputs_in counts = count_by (λ count. is_some count.wrote) counts
+outputs_in counts = up_to_limit (sum_by (λ count. count.files) counts)
 
 -- the report of a run, by what each of its stages gave on
 abbrev pub report_of : List StageCount → List ℕ

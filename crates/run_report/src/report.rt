@@ -28,6 +28,9 @@ pub struct StageCount {
 
     /// How many points it wrote, of a writer.
     pub wrote: Option<u64>,
+
+    /// How many files it wrote.
+    pub files: u64,
 }
 
 impl Default for StageCount {
@@ -39,6 +42,7 @@ impl Default for StageCount {
             views: 0,
             points: 0,
             wrote: None,
+            files: 0,
         }
     }
 }
@@ -76,20 +80,24 @@ fn stage_line(count: StageCount) -> Text
     text
 }
 
-/// How many stages wrote a file.
-fn outputs_in(counts: &[StageCount]) -> usize
+/// How many files the stages wrote; the number stands at the greatest u64.
+fn outputs_in(counts: &[StageCount]) -> u64
     ensures { result ≡ outputs_in counts.now }
 {
-    counts.iter().filter(|count| count.wrote.is_some()).count()
+    let mut files: u64 = 0;
+    for count in counts {
+        files = files.saturating_add(count.files);
+    }
+    files
 }
 
 /// The line that says how many files were written.
-fn outputs_line(outputs: usize) -> Text
+fn outputs_line(outputs: u64) -> Text
     ensures { result.bytes ≡ codes "outputs " ++ decimal outputs ++ codes "\n" }
 {
     let mut text = Text::new();
     text.push_str("outputs ");
-    push_number(outputs as u64, &mut text);
+    push_number(outputs, &mut text);
     text.push_str("\n");
     text
 }

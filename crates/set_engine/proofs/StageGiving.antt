@@ -1,10 +1,11 @@
 -- What a stage gives on.
-use Rattle.std.proofs.Common.{◌≡◌, ℕ, true, false, List, [], length, filter, Option, Some, None, Result, Ok, Err, refl, ap, sym, subst, ◌∙◌, true≢false}
+use Rattle.std.proofs.Common.{◌≡◌, ℕ, cond, true, false, List, [], length, Option, Some, None, Result, Ok, Err, refl, ap, sym, subst, ◌∙◌, true≢false}
 use Rattle.std.specs.Prelude.{option_map, IfOk}
-use Rattle.answer_model.specs.Rows.{Row, made, stop}
-use Rattle.answer_model.specs.Values.{value_of}
+use Rattle.std.proofs.lemmas.Option.{none-some}
+use Rattle.answer_model.specs.Rows.{Row, made, stop, value_on, fault_on}
+use Rattle.answer_model.specs.Values.{value_of, wrote_with, files_with}
 use Rattle.cloud_points.specs.Events.{is_device}
-use Rattle.cloud_points.specs.Flows.{Flow, points}
+use Rattle.cloud_points.specs.Flows.{Flow, all_of, points}
 use Rattle.cloud_points.specs.Marks.{flow_of, flow_marks}
 use Rattle.cloud_points.specs.Queue.{up_to_limit}
 use Rattle.cloud_points.specs.declared.faults.StageFault.TheVariants as stage
@@ -13,18 +14,25 @@ use Rattle.cloud_points.proofs.FlowLaws.{flow_of-flow_marks}
 use Rattle.las_reader.specs.Files.{Las, las_with}
 use Rattle.las_reader.specs.Flows.{las_flow, las_fault}
 use Rattle.stage_kinds.specs.Reads.{tells_of, told_of, told_fault_of}
-use Rattle.stage_kinds.specs.Stages.{holds_chosen, is_leaf, only_of, stops_nowhere, writes_of, writing_filter, writing_of, written_by}
+use Rattle.stage_kinds.specs.declared.making.Making.{Making}
+use Rattle.stage_kinds.specs.declared.making.Making.TheVariants.{Gathers as Made, WritesEach as Each}
+use Rattle.stage_kinds.specs.Held.{op_of}
+use Rattle.stage_kinds.specs.Makings.{kept_by}
+use Rattle.stage_kinds.specs.Stages.{files_by, holds_chosen, is_leaf, keeps_of, meaning_of, only_of, stops_nowhere, writes_of, writing_filter, writing_of, written_by}
+use Rattle.stage_kinds.proofs.Keeping.{keeps-same, wrote-none, no-files, wrote-each, files-each}
 use Rattle.stage_kinds.specs.Files.{chosen, count_of}
 use Rattle.stage_kinds.specs.declared.file_form.Writing.{Writing}
 use Rattle.stage_kinds.specs.declared.stage_work.StageWork.{StageWork}
-use Rattle.stage_kinds.specs.declared.stage_work.StageWork.TheVariants.{Reader, Filter, Collector, Views, Writer}
+use Rattle.stage_kinds.specs.declared.stage_work.StageWork.TheVariants.{Reader, Filter, Collector, Views, ViewFiles, Writer}
 use Rattle.stage_kinds.specs.declared.writer_stage.WriterStage.{WriterStage}
 use Rattle.stage_kinds.proofs.Streams.{sound_nowhere, written-count}
 use Rattle.stage_kinds.proofs.Telling.{reader_starts}
 use Rattle.stage_meanings.specs.Filtering.{filtered, filtered_stop}
-use Rattle.stage_options.specs.Roles.{Role, target_of}
-use Rattle.set_engine.specs.Fits.{IsFor, IsWriting, HasFile}
-use Rattle.set_engine.specs.Given.{HoldsTaken, IsGivenBy, fault_of}
+use Rattle.stage_options.specs.Roles.{Role}
+use Rattle.stage_forms.specs.Starts.{IsCollecting}
+use Rattle.set_engine.specs.Fits.{IsFor, IsMaking, IsWriting, HasFile}
+use Rattle.set_engine.specs.Gathering.{IsMadeBy}
+use Rattle.set_engine.specs.Given.{HoldsTaken, IsGivenBy, fault_of, kept_after}
 use Rattle.set_engine.specs.declared.output.StageOutput.{StageOutput}
 
 -- ---- writers
@@ -37,9 +45,9 @@ no_stop f (Some s) e = absurd cc
 begun-with : {K : Type 0} (bytes : K → Option (List ℕ)) (w : WriterStage K) → holds_chosen bytes w [] ≡ true → count_of w.file ≡ 0
 begun-with bytes w holds = written-count w bytes [] holds refl
 
-pub writer-given : {S K : Type 0} (bytes : K → Option (List ℕ)) (role : Role) (row : Row) (taken : Flow Point) (v w : WriterStage K) → IsWriting bytes role row v → writes_of w ≡ writes_of v
-    → filtered_stop (writing_filter (writes_of v)) taken ≡ None → (holds_chosen bytes v [] ≡ true → holds_chosen bytes w (points taken) ≡ true) → HoldsTaken {S = S} bytes role row taken (Writer w)
-writer-given bytes role row taken v w start same sound holds =
+pub writer-given : {S K : Type 0} (bytes : K → Option (List ℕ)) (role : Role) (row : Row) (taken given : Flow Point) (v w : WriterStage K) → IsWriting bytes role row v → writes_of w ≡ writes_of v
+    → filtered_stop (writing_filter (writes_of v)) taken ≡ None → (holds_chosen bytes v [] ≡ true → holds_chosen bytes w (points taken) ≡ true) → HoldsTaken {S = S} bytes role row taken given (Writer w)
+writer-given bytes role row taken given v w start same sound holds =
     let x = writes_of v in
     let held = holds start.holds in
     let nowhere : stops_nowhere x (points taken) ≡ true = sound_nowhere x taken sound in
@@ -47,7 +55,7 @@ writer-given bytes role row taken v w start same sound holds =
     record {
       wrote = ap Some (written-count w bytes (points taken) held (ap (λ y. stops_nowhere y (points taken)) same ∙ nowhere)
           ∙ ap (λ o. up_to_limit (length (chosen o (points taken)))) only ∙ ap (λ ps. up_to_limit (length ps)) (start.chooses (points taken)))
-          ∙ ap (λ r. option_map (λ (name : List ℕ). up_to_limit (length (filter (row.writes) (points taken)))) (target_of r)) (sym start.does);
+          ∙ ap (λ r. wrote_with r row taken given) (sym start.does);
       held = λ y is. record { is = is; holds = held; nowhere = (let z : writes_of w ≡ y = cc in ap (λ u. stops_nowhere u (points taken)) (sym z ∙ same) ∙ nowhere) };
     }
 
@@ -66,49 +74,107 @@ writer-gave sources sinks taken work v w (Ok given) is same fault value holds = 
     record {
       fault = fault calm begun ∙ ap (option_map stage.Point) (sym faults);
       value = value calm begun ∙ sym values;
-      sound = λ none. writer-given sinks role row taken v w start same (no_stop stage.Point (filtered_stop (writing_filter x) taken) (sym (fault calm begun) ∙ none)) (holds none);
+      files = ap (λ r. files_with r given.views) (sym start.does);
+      sound = λ none. writer-given sinks role row taken given.views v w start same (no_stop stage.Point (filtered_stop (writing_filter x) taken) (sym (fault calm begun) ∙ none)) (holds none);
     })
 writer-gave sources sinks taken work v w (Err s) is same fault value holds = tt
 
 -- ---- readers
 
 -- a leaf writes nothing
-leaf-writes : {S K : Type 0} (w : StageWork S K) → is_leaf w ≡ true → (writing_of w ≡ None) × (written_by w ≡ None)
-leaf-writes (Reader r) e = (refl, refl)
-leaf-writes (Filter f) e = absurd (true≢false (sym e))
-leaf-writes (Collector c) e = absurd (true≢false (sym e))
-leaf-writes (Views h) e = (refl, refl)
-leaf-writes (Writer w) e = absurd (true≢false (sym e))
+leaf-writes : {S K : Type 0} (w : StageWork S K) → is_leaf w ≡ true → keeps_of w ≡ None → (writing_of w ≡ None) × (written_by w ≡ None) × (files_by w ≡ 0)
+leaf-writes (Reader r) e none = (refl, refl, refl)
+leaf-writes (Filter f) e none = absurd (true≢false (sym e))
+leaf-writes (Collector c) e none = absurd (true≢false (sym e))
+leaf-writes (Views h) e none = (refl, refl, refl)
+leaf-writes (ViewFiles t) e none = absurd (none-some _ (sym none))
+leaf-writes (Writer w) e none = absurd (true≢false (sym e))
+
+leaf-begins : {S K : Type 0} (w : StageWork S K) → is_leaf w ≡ true → writing_of w ≡ None
+leaf-begins (Reader r) e = refl
+leaf-begins (Filter f) e = absurd (true≢false (sym e))
+leaf-begins (Collector c) e = absurd (true≢false (sym e))
+leaf-begins (Views h) e = refl
+leaf-begins (ViewFiles t) e = refl
+leaf-begins (Writer w) e = absurd (true≢false (sym e))
 
 pub leaf-writing : {S K : Type 0} (v w : StageWork S K) → is_leaf v ≡ true → is_leaf w ≡ true → writing_of w ≡ writing_of v
-leaf-writing v w a b = (leaf-writes w b).0 ∙ sym ((leaf-writes v a).0)
+leaf-writing v w a b = leaf-begins w b ∙ sym (leaf-begins v a)
+
+-- it keeps what it kept
+leaf-keeps : {S K : Type 0} (v w : StageWork S K) (given : Flow Point) → is_leaf v ≡ true → meaning_of w ≡ meaning_of v → keeps_of w ≡ kept_after v given
+leaf-keeps v w given a means = keeps-same w v means ∙ go v a
+  where
+    go : {S K : Type 0} (v : StageWork S K) → is_leaf v ≡ true → keeps_of v ≡ kept_after v given
+    go (Reader r) e = refl
+    go (Filter f) e = refl
+    go (Collector c) e = absurd (true≢false (sym e))
+    go (Views h) e = refl
+    go (ViewFiles t) e = refl
+    go (Writer x) e = refl
+
+pub leaf-kept : {S K E : Type 0} (v w : StageWork S K) (r : Result StageOutput E) → is_leaf v ≡ true → meaning_of w ≡ meaning_of v → IfOk r (λ given. keeps_of w ≡ kept_after v given.views)
+leaf-kept v w (Ok given) a means = leaf-keeps v w given.views a means
+leaf-kept v w (Err e) a means = tt
 
 module _ {S K : Type 0} (sources : S → Option (List ℕ)) (sinks : K → Option (List ℕ)) (role : Role) (row : Row) (las : Las) (taken : Flow Point) where
-  leaf-given : (v w : StageWork S K) (given : StageOutput) → IsFor sinks role row v → HasFile sources las v → is_leaf v ≡ true → is_leaf w ≡ true
+  leaf-given : (v w : StageWork S K) (given : StageOutput) → IsFor sinks role row v → HasFile sources las v → is_leaf v ≡ true → is_leaf w ≡ true → meaning_of w ≡ meaning_of v
       → (tells_of sources v ≡ true → told_of sources v ≡ flow_marks given.views) → (tells_of sources v ≡ true → told_fault_of sources v ≡ given.fault) → IsGivenBy sinks role row las taken w given
-  leaf-given (Reader r) w given start file a b gives says =
+  leaf-given (Reader r) w given start file a b means gives says =
       let t = file r refl in
       let f = reader_starts {K = K} sources r t.file start.start t.told in
-      let writes = leaf-writes w b in
+      let writes = leaf-writes w b (keeps-same w (Reader r) means) in
       let faults : fault_of role row las taken ≡ las_fault (las_with r.header t.file) = ap (λ r. fault_of r row las taken) start.does ∙ ap las_fault t.holds in
       record {
         fault = sym (says f.tells) ∙ f.fault ∙ ap (option_map stage.Point) (sym faults);
         value = sym (flow_of-flow_marks given.views) ∙ ap flow_of (sym (gives f.tells) ∙ f.told) ∙ flow_of-flow_marks (las_flow (las_with r.header t.file)) ∙ ap las_flow (sym t.holds)
             ∙ ap (λ r. value_of r row las taken) (sym start.does);
+        files = writes.2 ∙ ap (λ r. files_with r given.views) (sym start.does);
         sound = λ none. record {
-          wrote = writes.1 ∙ ap (λ r. option_map (λ (name : List ℕ). up_to_limit (length (filter (row.writes) (points taken)))) (target_of r)) (sym start.does);
+          wrote = writes.1 ∙ ap (λ r. wrote_with r row taken given.views) (sym start.does);
           held = λ x is. absurd (let none = sym (writes.0) ∙ is in cc);
         };
       }
-  leaf-given (Filter f) w given start file a b gives says = absurd (true≢false (sym a))
-  leaf-given (Collector c) w given start file a b gives says = absurd (true≢false (sym a))
-  leaf-given (Views h) w given start file a b gives says = absurd start
-  leaf-given (Writer x) w given start file a b gives says = absurd (true≢false (sym a))
+  leaf-given (Filter f) w given start file a b means gives says = absurd (true≢false (sym a))
+  leaf-given (Collector c) w given start file a b means gives says = absurd (true≢false (sym a))
+  leaf-given (Views h) w given start file a b means gives says = absurd start
+  leaf-given (ViewFiles t) w given start file a b means gives says = absurd start
+  leaf-given (Writer x) w given start file a b means gives says = absurd (true≢false (sym a))
 
 -- so it is with what it gave
-pub leaf-gave : {S K E : Type 0} (sources : S → Option (List ℕ)) (sinks : K → Option (List ℕ)) (taken : Flow Point) (v w : StageWork S K) (r : Result StageOutput E) → is_leaf v ≡ true → is_leaf w ≡ true
+pub leaf-gave : {S K E : Type 0} (sources : S → Option (List ℕ)) (sinks : K → Option (List ℕ)) (taken : Flow Point) (v w : StageWork S K) (r : Result StageOutput E) → is_leaf v ≡ true → is_leaf w ≡ true → meaning_of w ≡ meaning_of v
     → IfOk r (λ given. is_device given.fault ≡ false → tells_of sources v ≡ true → told_of sources v ≡ flow_marks given.views)
     → IfOk r (λ given. is_device given.fault ≡ false → tells_of sources v ≡ true → told_fault_of sources v ≡ given.fault)
     → IfOk r (λ given. is_device given.fault ≡ false → (role : Role) (row : Row) (las : Las) → IsFor sinks role row v → HasFile sources las v → IsGivenBy sinks role row las taken w given)
-leaf-gave sources sinks taken v w (Ok given) a b gives says = λ calm role row las start file. leaf-given sources sinks role row las taken v w given start file a b (gives calm) (says calm)
-leaf-gave sources sinks taken v w (Err s) a b gives says = tt
+leaf-gave sources sinks taken v w (Ok given) a b means gives says = λ calm role row las start file. leaf-given sources sinks role row las taken v w given start file a b means (gives calm) (says calm)
+leaf-gave sources sinks taken v w (Err s) a b means gives says = tt
+
+-- ---- stages that need whole views
+
+pub gathered-gave : {S K E : Type 0} (sources : S → Option (List ℕ)) (sinks : K → Option (List ℕ)) (taken : Flow Point) (v w : StageWork S K) (r : Result StageOutput E) → IsCollecting v → op_of w ≡ None → writing_of w ≡ None
+    → IfOk r (IsMadeBy v taken w)
+    → IfOk r (λ given. is_device given.fault ≡ false → (role : Role) (row : Row) (las : Las) → IsFor sinks role row v → HasFile sources las v → IsGivenBy sinks role row las taken w given)
+gathered-gave sources sinks taken (Collector c) w (Ok given) is op idle made = λ calm role row las start file. record {
+  fault = made.fault ∙ ap (option_map stage.Point) (start.fault taken ∙ sym (ap (λ b. cond b (las_fault las) (fault_on row taken)) start.inner));
+  value = made.views ∙ start.makes taken ∙ sym (ap (λ b. cond b (las_flow las) (value_on row taken)) start.inner);
+  files = files-so role row c.making start.writes made.keeps;
+  sound = λ none. record {
+    wrote = wrote-so role row c.making start.writes made.keeps;
+    held = λ x is. absurd (none-some x (sym idle ∙ is));
+  };
+}
+  where
+    wrote-so : (role : Role) (row : Row) (m : Making) → IsMaking role row m → keeps_of w ≡ kept_by m given.views → written_by w ≡ wrote_with role row taken given.views
+    wrote-so role row (Made g) does keeps = wrote-none w op (λ e. absurd cc) keeps ∙ ap (λ r. wrote_with r row taken given.views) (sym does)
+    wrote-so role row (Each x) does keeps = wrote-each w x given.views keeps ∙ ap (λ ps. Some (up_to_limit (length ps))) (does.2 (all_of given.views.views)) ∙ ap (λ r. wrote_with r row taken given.views) (sym does.1)
+
+    files-so : (role : Role) (row : Row) (m : Making) → IsMaking role row m → keeps_of w ≡ kept_by m given.views → files_by w ≡ files_with role given.views
+    files-so role row (Made g) does keeps = no-files w op (λ e. absurd cc) keeps ∙ ap (λ r. files_with r given.views) (sym does)
+    files-so role row (Each x) does keeps = files-each w x given.views keeps ∙ ap (λ r. files_with r given.views) (sym does.1)
+gathered-gave sources sinks taken (Collector c) w (Err e) is op idle made = tt
+gathered-gave sources sinks taken v w r is op idle made = absurd is
+
+pub gathered-keeps : {S K E : Type 0} (taken : Flow Point) (v w : StageWork S K) (r : Result StageOutput E) → IsCollecting v → IfOk r (IsMadeBy v taken w) → IfOk r (λ given. keeps_of w ≡ kept_after v given.views)
+gathered-keeps taken (Collector c) w (Ok given) is made = made.keeps
+gathered-keeps taken (Collector c) w (Err e) is made = tt
+gathered-keeps taken v w r is made = absurd is

@@ -1,14 +1,13 @@
 -- The stages of a tree that were evaluated so far.
-use Rattle.std.proofs.Common.{◌≡◌, ℕ, zero, suc, ◌+◌, ◌<◌, ◌≤◌, Bool, true, false, ◌||◌, List, [], ◌∷◌, ◌++◌, length, map, take, Option, Some, None, refl, ap, sym, subst, ◌∙◌, arith, add-one, inl, inr, All, filter, length-append}
+use Rattle.std.proofs.Common.{◌≡◌, ℕ, zero, suc, ◌+◌, ◌<◌, ◌≤◌, Bool, true, false, ◌||◌, List, [], ◌∷◌, ◌++◌, length, map, take, Option, Some, None, refl, ap, sym, subst, ◌∙◌, arith, add-one, inl, inr, All, length-append}
 use Rattle.std.specs.Prelude.{◌==◌, option_map, slice_get, slice_index_or}
 use Rattle.std.proofs.lemmas.Bool.Decides.{eqb_tells}
 use Rattle.std.proofs.lemmas.List.FromFn.{length-map-range_with_len}
-use Rattle.std.proofs.lemmas.Option.{get_or_from_slice_get, slice_get_within}
-use Rattle.answer_model.specs.Values.{Opened, IsDown, stage_at, role_at, row_at, stage_value, stage_input, stage_fault, count_at, counts_of, value_of}
+use Rattle.std.proofs.lemmas.Option.{get_or_from_slice_get, same_Some, slice_get_within}
+use Rattle.answer_model.specs.Values.{Opened, IsDown, stage_at, role_at, row_at, stage_value, stage_input, stage_fault, count_at, counts_of, value_of, wrote_with, files_with}
 use Rattle.answer_model.proofs.Least.{least-nowhere}
 use Rattle.answer_model.proofs.Values.{has-own, has-later, map-same, tree-down, value-input}
 use Rattle.cloud_points.specs.Flows.{Flow, empty_flow, join_all, points}
-use Rattle.cloud_points.specs.Queue.{up_to_limit}
 use Rattle.cloud_points.specs.declared.faults.PointFault.{PointFault}
 use Rattle.cloud_points.specs.declared.faults.StageFault.{StageFault}
 use Rattle.cloud_points.specs.declared.faults.StageFault.TheVariants as stage
@@ -18,15 +17,14 @@ use Rattle.pipeline_json.specs.Stages.{taken}
 use Rattle.pipeline_json.specs.Trees.{IsTree}
 use Rattle.pipeline_json.proofs.Taken.{times-append, present}
 use Rattle.run_report.specs.declared.report.StageCount.{StageCount}
-use Rattle.stage_kinds.specs.Stages.{HoldsAll, writing_of, written_by}
+use Rattle.stage_kinds.specs.Stages.{HoldsAll, files_by, keeps_of, writing_of, written_by}
 use Rattle.stage_kinds.specs.declared.file_form.Writing.{Writing}
 use Rattle.stage_kinds.specs.declared.stage_work.StageWork.{StageWork}
-use Rattle.stage_options.specs.Roles.{target_of}
 use Rattle.stage_options.specs.Shapes.{shapes}
 use Rattle.stage_options.specs.declared.stage.StageSpec.{StageSpec}
 use Rattle.run_outcome.specs.Faults.{AreSound, fault_at}
 use Rattle.set_engine.proofs.Values.{AreEvaluated}
-use Rattle.set_engine.specs.Given.{HoldsTaken, IsGivenBy, count_for, fault_of}
+use Rattle.set_engine.specs.Given.{HoldsTaken, IsGivenBy, count_for, fault_of, kept_after}
 use Rattle.set_engine.specs.declared.output.StageOutput.{StageOutput}
 use Rattle.set_engine.specs.Taking.{value_in}
 use Rattle.set_engine.proofs.After.{fault-front, fault-last}
@@ -122,15 +120,16 @@ no-point (Some f) e = absurd cc
 module _ {S K : Type 0} (bytes : K → Option (List ℕ)) (stages : List StageSpec) where
   -- the first so many stages have their faults, their values stand at their places where no stage took them, and those without a fault
   -- gave on so much, and the writers among them hold what they take
-  pub record AreUpTo (opened : Opened) (count : ℕ) (values : List (Flow Point)) (counts : List StageCount) (found : List (Option StageFault)) (works : List (StageWork S K)) : Type 0 where
+  pub record AreUpTo (opened : Opened) (start : List (StageWork S K)) (count : ℕ) (values : List (Flow Point)) (counts : List StageCount) (found : List (Option StageFault)) (works : List (StageWork S K)) : Type 0 where
     pub faults : (j : ℕ) → j < count → fault_at found j ≡ option_map stage.Point (stage_fault stages opened j)
     pub values_are : (j : ℕ) (v : Flow Point) → slice_get values j ≡ Some v → times j (taken_by stages count) ≡ 0 → v ≡ stage_value stages opened j
     pub counted : (j : ℕ) → j < count → stage_fault stages opened j ≡ None → slice_get counts j ≡ Some (count_at stages opened j)
     pub held : (j : ℕ) → j < count → stage_fault stages opened j ≡ None → (w : StageWork S K) → slice_get works j ≡ Some w → (x : Writing) → writing_of w ≡ Some x → HoldsAll bytes x (points (stage_input stages opened j)) w
+    pub keeps : (j : ℕ) → j < count → (v w : StageWork S K) → slice_get start j ≡ Some v → slice_get works j ≡ Some w → keeps_of w ≡ kept_after v (stage_value stages opened j)
 
   module _ (tree : IsTree (shapes stages)) where
-    module _ (opened : Opened) (i : ℕ) (lt : i < length stages) (values : List (Flow Point)) (counts : List StageCount) (found : List (Option StageFault)) (works : List (StageWork S K))
-        (so_far : AreUpTo opened i values counts found works) (size : length values ≡ i) where
+    module _ (opened : Opened) (start : List (StageWork S K)) (i : ℕ) (lt : i < length stages) (values : List (Flow Point)) (counts : List StageCount) (found : List (Option StageFault)) (works : List (StageWork S K))
+        (so_far : AreUpTo opened start i values counts found works) (size : length values ≡ i) where
       -- what the stage takes
       input-is : join_all (map (value_in values) ((stage_at stages i).ins)) ≡ stage_input stages opened i
       input-is = ap join_all (map-same (value_in values) (stage_value stages opened) ((stage_at stages i).ins) (λ j h.
@@ -151,28 +150,33 @@ module _ {S K : Type 0} (bytes : K → Option (List ℕ)) (stages : List StageSp
         stage-is : stage_at stages i ≡ s
         stage-is = get_or_from_slice_get stages i s _ is
 
-        holds : stage_fault stages opened i ≡ None → HoldsTaken bytes (role_at stages i) (row_at stages opened i) taken_now w
+        holds : stage_fault stages opened i ≡ None → HoldsTaken bytes (role_at stages i) (row_at stages opened i) taken_now given.views w
         holds none = gave.sound (fault-is ∙ ap (option_map stage.Point) none)
 
-        count-is : stage_fault stages opened i ≡ None → count_for i s given.views (written_by w) ≡ count_at stages opened i
+        count-is : stage_fault stages opened i ≡ None → count_for i s given.views (written_by w) (files_by w) ≡ count_at stages opened i
         count-is none =
-            ap (λ (t : StageSpec). count_for i t given.views (written_by w)) (sym stage-is) ∙ ap (λ f. count_for i (stage_at stages i) f (written_by w)) value-is
-            ∙ ap (λ o. count_for i (stage_at stages i) (stage_value stages opened i) o) (holds none).wrote
-            ∙ ap (λ f. count_for i (stage_at stages i) (stage_value stages opened i) (option_map (λ (name : List ℕ). up_to_limit (length (filter ((row_at stages opened i).writes) (points f)))) (target_of (role_at stages i)))) taken-is
+            let role = role_at stages i in
+            let row = row_at stages opened i in
+            ap (λ (t : StageSpec). count_for i t given.views (written_by w) (files_by w)) (sym stage-is)
+            ∙ ap (λ f. count_for i (stage_at stages i) f (written_by w) (files_by w)) value-is
+            ∙ ap (λ o. count_for i (stage_at stages i) (stage_value stages opened i) o (files_by w))
+            ((holds none).wrote ∙ ap (λ f. wrote_with role row f given.views) taken-is ∙ ap (wrote_with role row (stage_input stages opened i)) value-is)
+            ∙ ap (count_for i (stage_at stages i) (stage_value stages opened i) (wrote_with role row (stage_input stages opened i) (stage_value stages opened i))) (gave.files ∙ ap (files_with role) value-is)
 
         -- with one more, where the values that the stage took are gone
         pub one-more : (rest values_then : List (Flow Point)) (counts_then : List StageCount) (found_then : List (Option StageFault)) (works_then : List (StageWork S K)) → length rest ≡ i
             → ((j : ℕ) → has ((stage_at stages i).ins) j ≡ false → slice_get rest j ≡ slice_get values j) → values_then ≡ rest ++ given.views ∷ []
-            → length counts ≡ i → counts_then ≡ counts ++ count_for i s given.views (written_by w) ∷ [] → length found ≡ i → found_then ≡ found ++ given.fault ∷ []
-            → slice_get works_then i ≡ Some w → ((j : ℕ) → j < i → slice_get works_then j ≡ slice_get works j) → AreUpTo opened (i + 1) values_then counts_then found_then works_then
-        one-more rest values_then counts_then found_then works_then left others more few counted few-found pushed here same = record {
+            → length counts ≡ i → counts_then ≡ counts ++ count_for i s given.views (written_by w) (files_by w) ∷ [] → length found ≡ i → found_then ≡ found ++ given.fault ∷ []
+            → slice_get works_then i ≡ Some w → ((j : ℕ) → j < i → slice_get works_then j ≡ slice_get works j)
+            → (v : StageWork S K) → slice_get start i ≡ Some v → keeps_of w ≡ kept_after v given.views → AreUpTo opened start (i + 1) values_then counts_then found_then works_then
+        one-more rest values_then counts_then found_then works_then left others more few counted few-found pushed here same v was kept = record {
           faults = λ j l. ap (λ fs. fault_at fs j) pushed ∙ elim (eqb_tells j i) as (λ _. fault_at (found ++ given.fault ∷ []) j ≡ option_map stage.Point (stage_fault stages opened j)) [
             | inl p ↦ ap (fault_at (found ++ given.fault ∷ [])) (p.1 ∙ sym few-found) ∙ fault-last found given.fault ∙ fault-is ∙ ap (λ k. option_map stage.Point (stage_fault stages opened k)) (sym p.1)
             | inr p ↦ (let ne = p.1 in fault-front found given.fault j (omega (arith, l, ne, few-found)) ∙ so_far.faults j (omega (arith, l, ne)))
           ];
-          counted = λ j l none. ap (λ cs. slice_get cs j) counted ∙ elim (eqb_tells j i) as (λ _. slice_get (counts ++ count_for i s given.views (written_by w) ∷ []) j ≡ Some (count_at stages opened j)) [
-            | inl p ↦ at-last counts (count_for i s given.views (written_by w)) j (few ∙ sym p.1) ∙ ap Some (count-is (ap (stage_fault stages opened) (sym p.1) ∙ none)) ∙ ap (λ k. Some (count_at stages opened k)) (sym p.1)
-            | inr p ↦ (let ne = p.1 in in-front counts (count_for i s given.views (written_by w) ∷ []) j (omega (arith, l, ne, few)) ∙ so_far.counted j (omega (arith, l, ne)) none)
+          counted = λ j l none. ap (λ cs. slice_get cs j) counted ∙ elim (eqb_tells j i) as (λ _. slice_get (counts ++ count_for i s given.views (written_by w) (files_by w) ∷ []) j ≡ Some (count_at stages opened j)) [
+            | inl p ↦ at-last counts (count_for i s given.views (written_by w) (files_by w)) j (few ∙ sym p.1) ∙ ap Some (count-is (ap (stage_fault stages opened) (sym p.1) ∙ none)) ∙ ap (λ k. Some (count_at stages opened k)) (sym p.1)
+            | inr p ↦ (let ne = p.1 in in-front counts (count_for i s given.views (written_by w) (files_by w) ∷ []) j (omega (arith, l, ne, few)) ∙ so_far.counted j (omega (arith, l, ne)) none)
           ];
           values_are = λ j x e untook.
               let there : slice_get (rest ++ given.views ∷ []) j ≡ Some x = ap (λ vs. slice_get vs j) (sym more) ∙ e in
@@ -190,11 +194,19 @@ module _ {S K : Type 0} (bytes : K → Option (List ℕ)) (stages : List StageSp
                 (subst (HoldsAll bytes x (points taken_now)) r (own.held x (ap writing_of r ∙ is)))))
             | inr p ↦ (let ne = p.1 in let l : j < i = omega (arith, l, ne) in so_far.held j l none z (sym (same j l) ∙ e) x is)
           ];
+          keeps = λ j l y z a e. elim (eqb_tells j i) as (λ _. keeps_of z ≡ kept_after y (stage_value stages opened j)) [
+            | inl p ↦ (
+                let r : w ≡ z = same_Some w z (sym here ∙ ap (slice_get works_then) (sym p.1) ∙ e) in
+                let q : v ≡ y = same_Some v y (sym was ∙ ap (slice_get start) (sym p.1) ∙ a) in
+                ap keeps_of (sym r) ∙ kept ∙ ap (λ u. kept_after u given.views) q ∙ ap (kept_after y) (value-is ∙ ap (stage_value stages opened) (sym p.1)))
+            | inr p ↦ (let ne = p.1 in let l : j < i = omega (arith, l, ne) in so_far.keeps j l y z a (sym (same j l) ∙ e))
+          ];
         }
 
     -- nothing was evaluated yet
-    pub none-yet : (opened : Opened) (works : List (StageWork S K)) → AreUpTo opened 0 [] [] [] works
-    none-yet opened works = record {
+    pub none-yet : (opened : Opened) (start works : List (StageWork S K)) → AreUpTo opened start 0 [] [] [] works
+    none-yet opened start works = record {
+      keeps = λ j l. absurd (omega (arith, l));
       faults = λ j l. absurd (omega (arith, l));
       counted = λ j l. absurd (omega (arith, l));
       values_are = λ j v e none. absurd cc;
@@ -202,13 +214,14 @@ module _ {S K : Type 0} (bytes : K → Option (List ℕ)) (stages : List StageSp
     }
 
     -- all were, and no stage has a fault
-    pub all-done : (opened : Opened) (n : ℕ) (values : List (Flow Point)) (counts : List StageCount) (found : List (Option StageFault)) (works : List (StageWork S K)) → n ≡ length stages → length counts ≡ n
-        → length works ≡ length stages → AreUpTo opened n values counts found works → AreSound found → AreEvaluated bytes stages opened works counts
-    all-done opened n values counts found works all few size up sound = record {
+    pub all-done : (opened : Opened) (start : List (StageWork S K)) (n : ℕ) (values : List (Flow Point)) (counts : List StageCount) (found : List (Option StageFault)) (works : List (StageWork S K)) → n ≡ length stages → length counts ≡ n
+        → length works ≡ length stages → AreUpTo opened start n values counts found works → AreSound found → AreEvaluated bytes stages opened start works counts
+    all-done opened start n values counts found works all few size up sound = record {
       sound = least-nowhere (stage_fault stages opened) (length stages) (λ j l. none j (omega (arith, l, all)));
       counted = same-lists counts (counts_of stages opened) (few ∙ all ∙ sym (length-map-range_with_len (count_at stages opened) 0 (length stages))) (λ j l.
           up.counted j (omega (arith, l, few)) (none j (omega (arith, l, few))) ∙ ap (λ k. Some (count_at stages opened k)) (zero-first j) ∙ sym (range-at (count_at stages opened) 0 (length stages) j (omega (arith, l, few, all))));
       held = λ j w e x is. (let lt = (let a = slice_get_within works j w e in let l : j < n = omega (arith, a, size, all) in l) in up.held j lt (none j lt) w e x is);
+      keeps = λ j v w a e. up.keeps j (let l = slice_get_within works j w e in omega (arith, l, size, all)) v w a e;
     }
       where
         none : (j : ℕ) → j < n → stage_fault stages opened j ≡ None

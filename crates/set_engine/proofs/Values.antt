@@ -1,15 +1,15 @@
 -- What stages are evaluated to.
 use Rattle.std.specs.Prelude.{◌≡◌, ℕ, List, length, slice_get, Option, Some, None}
-use Rattle.answer_model.specs.Values.{Opened, role_at, row_at, stage_input, least_fault, counts_of}
+use Rattle.answer_model.specs.Values.{Opened, role_at, row_at, stage_input, stage_value, least_fault, counts_of}
 use Rattle.cloud_points.specs.Flows.{points}
 use Rattle.file_devices.specs.declared.devices.Source as source
 use Rattle.run_report.specs.declared.report.StageCount.{StageCount}
-use Rattle.stage_kinds.specs.Stages.{HoldsAll, writing_of}
+use Rattle.stage_kinds.specs.Stages.{HoldsAll, keeps_of, writing_of}
 use Rattle.stage_kinds.specs.declared.file_form.Writing.{Writing}
 use Rattle.stage_kinds.specs.declared.stage_work.StageWork.{StageWork}
 use Rattle.stage_options.specs.declared.stage.StageSpec.{StageSpec}
 use Rattle.set_engine.specs.Fits.{IsFor}
-use Rattle.set_engine.specs.Given.{IsAfter}
+use Rattle.set_engine.specs.Given.{IsAfter, kept_after}
 use Rattle.stage_forms.specs.Starts.{AreTold}
 
 -- the works of the stages, which had no point yet; over files that the readers tell
@@ -22,8 +22,9 @@ pub record AreAfter {S K : Type 0} (faults : StageWork S K → ℕ) (old new : L
   pub count : length new ≡ length old
   pub each : (i : ℕ) (v w : StageWork S K) → slice_get old i ≡ Some v → slice_get new i ≡ Some w → IsAfter faults v w
 
--- none has a fault, they gave on so much, and writers hold what they took
-pub record AreEvaluated {S K : Type 0} (bytes : K → Option (List ℕ)) (stages : List StageSpec) (opened : Opened) (works : List (StageWork S K)) (counts : List StageCount) : Type 0 where
+-- none has a fault, they gave on so much, and writers hold what they took, or keep what they are to write
+pub record AreEvaluated {S K : Type 0} (bytes : K → Option (List ℕ)) (stages : List StageSpec) (opened : Opened) (start works : List (StageWork S K)) (counts : List StageCount) : Type 0 where
   pub sound : least_fault stages opened ≡ None
   pub counted : counts ≡ counts_of stages opened
   pub held : (i : ℕ) (w : StageWork S K) → slice_get works i ≡ Some w → (x : Writing) → writing_of w ≡ Some x → HoldsAll bytes x (points (stage_input stages opened i)) w
+  pub keeps : (i : ℕ) (v w : StageWork S K) → slice_get start i ≡ Some v → slice_get works i ≡ Some w → keeps_of w ≡ kept_after v (stage_value stages opened i)

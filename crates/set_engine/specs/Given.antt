@@ -1,7 +1,7 @@
 -- What a stage gave on, and what its work is then.
-use Rattle.std.specs.Prelude.{◌≡◌, ℕ, ◌≤◌, cond, List, filter, length, Option, Some, None, option_map}
+use Rattle.std.specs.Prelude.{◌≡◌, ℕ, ◌≤◌, cond, List, length, Option, Some, None, option_map}
 use Rattle.answer_model.specs.Rows.{Row, fault_on}
-use Rattle.answer_model.specs.Values.{value_of}
+use Rattle.answer_model.specs.Values.{value_of, wrote_with, files_with}
 use Rattle.cloud_points.specs.Flows.{Flow, points}
 use Rattle.cloud_points.specs.Queue.{up_to_limit}
 use Rattle.cloud_points.specs.declared.point.Point.{Point}
@@ -11,10 +11,12 @@ use Rattle.las_reader.specs.Files.{Las}
 use Rattle.las_reader.specs.Flows.{las_fault}
 use Rattle.run_report.specs.declared.report.StageCount.{StageCount}
 use Rattle.stage_kinds.specs.Held.{op_of}
-use Rattle.stage_kinds.specs.Stages.{HoldsAll, writing_of, written_by}
+use Rattle.stage_kinds.specs.Makings.{kept_by}
+use Rattle.stage_kinds.specs.Stages.{HoldsAll, files_by, keeps_of, writing_of, written_by}
 use Rattle.stage_kinds.specs.declared.file_form.Writing.{Writing}
 use Rattle.stage_kinds.specs.declared.stage_work.StageWork.{StageWork}
-use Rattle.stage_options.specs.Roles.{Role, is_reading, target_of}
+use Rattle.stage_kinds.specs.declared.stage_work.StageWork.TheVariants.{Collector}
+use Rattle.stage_options.specs.Roles.{Role, is_reading}
 use Rattle.stage_options.specs.declared.stage.StageSpec.{StageSpec}
 use Rattle.set_engine.specs.declared.output.StageOutput.{StageOutput}
 
@@ -22,16 +24,22 @@ use Rattle.set_engine.specs.declared.output.StageOutput.{StageOutput}
 abbrev pub fault_of : Role → Row → Las → Flow Point → Option PointFault
 fault_of role row las flow = cond (is_reading role) (las_fault las) (fault_on row flow)
 
--- it holds what it writes of the points that it took
-pub record HoldsTaken {S K : Type 0} (bytes : K → Option (List ℕ)) (role : Role) (row : Row) (taken : Flow Point) (w : StageWork S K) : Type 0 where
-  pub wrote : written_by w ≡ option_map (λ (name : List ℕ). up_to_limit (length (filter (row.writes) (points taken)))) (target_of role)
+-- it holds what it writes of the points that it took, or of the views that it gave
+pub record HoldsTaken {S K : Type 0} (bytes : K → Option (List ℕ)) (role : Role) (row : Row) (taken given : Flow Point) (w : StageWork S K) : Type 0 where
+  pub wrote : written_by w ≡ wrote_with role row taken given
   pub held : (x : Writing) → writing_of w ≡ Some x → HoldsAll bytes x (points taken) w
 
 -- it says its fault and gave its value, and holds what it writes where it has no fault
 pub record IsGivenBy {S K : Type 0} (bytes : K → Option (List ℕ)) (role : Role) (row : Row) (las : Las) (taken : Flow Point) (w : StageWork S K) (given : StageOutput) : Type 0 where
   pub fault : given.fault ≡ option_map stage.Point (fault_of role row las taken)
   pub value : given.views ≡ value_of role row las taken
-  pub sound : given.fault ≡ None → HoldsTaken bytes role row taken w
+  pub sound : given.fault ≡ None → HoldsTaken bytes role row taken given.views w
+  pub files : files_by w ≡ files_with role given.views
+
+-- what a work keeps once its stage has given this: a stage that needs whole views keeps those that it is to write
+abbrev pub kept_after : {S K : Type 0} → StageWork S K → Flow Point → Option (Writing × Flow Point)
+kept_after (Collector c) given = kept_by c.making given
+kept_after w given = keeps_of w
 
 -- the same work later: over its device, whose count of faults didn't fall, and with the same to write
 pub record IsAfter {S K : Type 0} (faults : StageWork S K → ℕ) (old new : StageWork S K) : Type 0 where
@@ -39,12 +47,13 @@ pub record IsAfter {S K : Type 0} (faults : StageWork S K → ℕ) (old new : St
   pub later : faults old ≤ faults new
   pub writing : writing_of new ≡ writing_of old
 
--- how much a stage gave on
-abbrev pub count_for : ℕ → StageSpec → Flow Point → Option ℕ → StageCount
-count_for i s given wrote = record {
+-- how much a stage gave on, and how many points and files it wrote
+abbrev pub count_for : ℕ → StageSpec → Flow Point → Option ℕ → ℕ → StageCount
+count_for i s given wrote files = record {
   stage = i;
   kind = s.kind;
   views = up_to_limit (length given.views);
   points = up_to_limit (length (points given));
   wrote = wrote;
+  files = files;
 }

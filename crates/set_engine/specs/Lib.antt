@@ -2,4 +2,5 @@ pub mod Stops
 pub mod Taking
 pub mod Fits
 pub mod Given
+pub mod Gathering
 pub mod Evaluated

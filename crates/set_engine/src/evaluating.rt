@@ -20,9 +20,15 @@ use stage_options::StageSpec;
 use std::alloc::{AllocError, Global};
 use whole_filters::Views;
 
-/// What a stage, the one with this number, gave on, and how many points it wrote.
-fn stage_count(number: u32, stage: &StageSpec, given: &Views, wrote: Option<u64>) -> StageCount
-    ensures { result ≡ count_for number stage.now given.now wrote }
+/// What a stage, the one with this number, gave on, and how many points and files it wrote.
+fn stage_count(
+    number: u32,
+    stage: &StageSpec,
+    given: &Views,
+    wrote: Option<u64>,
+    files: u64,
+) -> StageCount
+    ensures { result ≡ count_for number stage.now given.now wrote files }
 {
     let mut points: u64 = 0;
     for v in 0..given.views() {
@@ -34,6 +40,7 @@ fn stage_count(number: u32, stage: &StageSpec, given: &Views, wrote: Option<u64>
         views: given.views() as u64,
         points: points.saturating_add(given.len(given.views()) as u64),
         wrote,
+        files,
     }
 }
 
@@ -61,7 +68,9 @@ pub fn evaluate_stages<S: Source, K: FileSink>(
         let inputs = stages[i].ins.as_slice();
         let taken = take_joined(alloc, values.as_mut_slice(), inputs)?;
         let StageOutput { views, fault } = stage_views(alloc, &mut works[i], taken)?;
-        report.push(stage_count(i as u32, &stages[i], &views, works[i].written()));
+        let work = &works[i];
+        let count = stage_count(i as u32, &stages[i], &views, work.written(), work.files());
+        report.push(count);
         faults.push(fault);
         values.push_reserved(views);
     }

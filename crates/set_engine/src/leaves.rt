@@ -26,6 +26,7 @@ pub(crate) fn leaf_views<W: Work>(
         (Rose (W.faults leaf.old) (W.faults leaf.new)) given.fault) }
     ensures leaf { W.leaf leaf.new ≡ true }
     ensures op { W.op leaf.new ≡ W.op leaf.old }
+    ensures meaning { W.meaning leaf.new ≡ W.meaning leaf.old }
     ensures later { W.faults leaf.old ≤ W.faults leaf.new }
 {
     let mut points = Box::new(alloc, Spread::new())?;

@@ -3,6 +3,7 @@
 
 mod evaluating;
 mod filters;
+mod gathering;
 mod inputs;
 mod leaves;
 mod output;

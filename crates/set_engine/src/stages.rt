@@ -6,12 +6,14 @@ ghost use Rattle.cloud_points.specs.Events.{is_device};
 ghost use Rattle.file_devices.specs.Counts.{Rose};
 ghost use Rattle.las_reader.specs.Files.{Las};
 ghost use Rattle.set_engine.specs.Fits.{IsFor, HasFile};
-ghost use Rattle.set_engine.specs.Given.{IsAfter, IsGivenBy};
+ghost use Rattle.set_engine.specs.Given.{IsAfter, IsGivenBy, kept_after};
 ghost use Rattle.set_engine.specs.Stops.{IsCaused};
 ghost use Rattle.stage_kinds.specs.Held.{faults_of, op_of};
+ghost use Rattle.stage_kinds.specs.Stages.{keeps_of};
 ghost use Rattle.stage_options.specs.Roles.{Role};
 
 use crate::filters::filter_all;
+use crate::gathering::gathered_views;
 use crate::leaves::leaf_views;
 use crate::output::StageOutput;
 use crate::writers::written_views;
@@ -22,7 +24,6 @@ use stage_kinds::StageWork;
 use std::alloc::{AllocError, Global};
 use std::mem::replace;
 use stream_filters::Filter;
-use tile_filters::gather;
 use whole_filters::Views;
 
 /// The dimensions of the points that a reader gives.
@@ -34,8 +35,8 @@ fn layout_of<S: Source, K: FileSink>(work: &StageWork<S, K>) -> Layout {
 }
 
 /// What a stage gives on for the views that it takes: a reader gives those of its file, and a writer takes their points. At the first
-/// point with a fault, and where its device fails, it gives what it has by then. A filter's work is used up. Refuses for want of
-/// memory alone.
+/// point with a fault, and where its device fails, it gives what it has by then. The work of a filter is used up, and so is that of a
+/// stage that needs whole views, unless it keeps those of which it writes files. Refuses for want of memory alone.
 pub(crate) fn stage_views<S: Source, K: FileSink>(
     alloc: Global,
     work: &mut StageWork<S, K>,
@@ -46,15 +47,15 @@ pub(crate) fn stage_views<S: Source, K: FileSink>(
         → IsGivenBy K.bytes role row las taken work.new given) }
     ensures caused { IfOk result (λ given. IsCaused (op_of work.old)
         (Rose (faults_of S.faults K.faults work.old) (faults_of S.faults K.faults work.new)) given.fault) }
+    ensures keeps { IfOk result (λ given. keeps_of work.new ≡ kept_after work.old given.views) }
     ensures after { IsAfter (faults_of S.faults K.faults) work.old work.new }
 {
     match work {
-        StageWork::Reader(_) | StageWork::Views(_) => leaf_views(alloc, &layout_of(work), work),
         StageWork::Filter(filter) => filter_all(replace(filter, Filter::Merge), taken),
-        StageWork::Collector(collector) => Ok(StageOutput {
-            views: gather(alloc, taken, collector.gathering())?,
-            fault: None,
-        }),
+        StageWork::Collector(_) => gathered_views(alloc, work, taken),
         StageWork::Writer(writer) => written_views(writer, taken),
+        StageWork::Reader(_) | StageWork::Views(_) | StageWork::ViewFiles(_) => {
+            leaf_views(alloc, &layout_of(work), work)
+        }
     }
 }

@@ -1,5 +1,5 @@
 -- What the works of stages tell and make, by what they are made of.
-use Rattle.std.proofs.Common.{◌≡◌, ℕ, true, false, List, [], filter, Option, Some, None, refl, ap, sym, subst, ◌∙◌, true≢false}
+use Rattle.std.proofs.Common.{◌≡◌, ℕ, Bool, true, false, List, [], filter, Option, Some, None, refl, ap, sym, subst, ◌∙◌, true≢false}
 use Rattle.std.specs.Prelude.{option_map, length}
 use Rattle.las_reader.specs.declared.reader.Progress.TheVariants.{Records}
 use Rattle.stage_names.specs.Kinds as names
@@ -7,7 +7,7 @@ use Rattle.stage_options.specs.Kinds.{kind_of}
 use Rattle.file_devices.specs.declared.devices.Source as source
 use Rattle.cloud_points.specs.declared.point.Point.{Point}
 use Rattle.cloud_points.specs.declared.faults.StageFault.TheVariants as stage
-use Rattle.cloud_points.specs.Flows.{Flow, points}
+use Rattle.cloud_points.specs.Flows.{Flow, all_of, points}
 use Rattle.cloud_points.specs.Queue.{up_to_limit}
 use Rattle.cloud_points.specs.Marks.{flow_marks}
 use Rattle.las_reader.specs.Files.{Las as LasPoints}
@@ -23,20 +23,24 @@ use Rattle.stage_kinds.specs.declared.file_form.Writing.{Writing}
 use Rattle.stage_kinds.specs.declared.stage_work.StageWork.{StageWork}
 use Rattle.stage_kinds.specs.declared.stage_work.StageWork.TheVariants.{Reader, Filter, Collector, Writer}
 use Rattle.stage_kinds.specs.declared.stage_work.StageState.TheVariants.{Filtering as At}
-use Rattle.stage_kinds.specs.Files.{chosen, file_bytes}
+use Rattle.stage_kinds.specs.declared.making.Making.{Making}
+use Rattle.stage_kinds.specs.declared.making.Making.TheVariants.{Gathers as Views, WritesEach as Each}
+use Rattle.stage_kinds.specs.Files.{chosen, file_bytes, unwritten}
+use Rattle.stage_kinds.specs.Makings.{made_by, fault_by}
 use Rattle.stage_kinds.specs.Held.{op_of}
-use Rattle.stage_kinds.specs.Stages.{filter_work, writer_work, writing_filter, stops_nowhere, meaning_of, state_of, is_leaf, holds_of, writing_of}
+use Rattle.stage_kinds.specs.Stages.{filter_work, writer_work, writing_filter, stops_nowhere, meaning_of, state_of, is_leaf, holds_of, keeps_of, writing_of}
 use Rattle.stage_kinds.specs.Reads.{tells_of, told_of, told_fault_of}
 use Rattle.stage_kinds.proofs.Streams.{filter_gives, filter_fault, writer_gives, writer_fault, sound_nowhere}
 use Rattle.stage_kinds.proofs.Telling.{reader_starts}
 use Rattle.stage_options.specs.declared.options.Options.{Options}
 use Rattle.stage_options.specs.declared.options.Options.TheVariants.{ReadersLas, FiltersSort, FiltersTail, FiltersGroupby, FiltersSplitter, FiltersVoxeldownsize, WritersLas, WritersText}
-use Rattle.stage_options.specs.Roles.{Role, role_of, target_of, is_reading, is_gathering, is_writing}
+use Rattle.stage_options.specs.Roles.{Role, role_of, is_reading, is_gathering, is_writing}
+use Rattle.stage_options.specs.Values.{is_numbered}
 use Rattle.stage_options.specs.Roles as role
-use Rattle.answer_model.specs.Rows.{Setting, row_of, value_on}
+use Rattle.answer_model.specs.Rows.{Row, Setting, row_of, value_on}
 use Rattle.answer_model.specs.Rows as rows
-use Rattle.answer_model.specs.Values.{LasFile, Opened}
-use Rattle.stage_forms.specs.Starts.{wrote_of, IsCollecting, HoldsNone, IsAtStart, IsStarted, form_for, op_for}
+use Rattle.answer_model.specs.Values.{LasFile, Opened, wrote_with, files_with}
+use Rattle.stage_forms.specs.Starts.{files_of, wrote_of, writes_as, IsCollecting, HoldsNone, IsAtStart, IsStarted, form_for, op_for}
 use Rattle.whole_filters.specs.declared.gathering.Gathering.{Gathering}
 use Rattle.view_works.specs.declared.collector.Collector.{Collector as Collecting}
 use Rattle.stage_forms.specs.Below.{Tells}
@@ -61,9 +65,14 @@ pub record IsFilterRow (f : Filtering) (o : Options) (setting : Setting) : Type 
   pub begins : spot_of f ≡ spot_at 0
   pub filtering : (row_of o setting).making ≡ rows.Judging (filtering_of f)
 
-pub record IsGatherRow (g : Gathering) (o : Options) (setting : Setting) : Type 0 where
-  pub does : role_of o ≡ role.Gathers
-  pub gathers : (row_of o setting).making ≡ rows.Gathered g
+-- by its role; and what it makes of a flow is the stage's value, and its fault there
+pub record IsGatherRow (m : Making) (o : Options) (setting : Setting) : Type 0 where
+  pub gathers : is_gathering (role_of o) ≡ true
+  pub inner : is_reading (role_of o) ≡ false
+  pub later : is_writing (role_of o) ≡ false
+  pub device : op_for (role_of o) ≡ None
+  pub makes : (flow : Flow Point) → made_by m flow ≡ value_on (row_of o setting) flow
+  pub fault : (flow : Flow Point) → fault_by m flow ≡ rows.fault_on (row_of o setting) flow
 
 pub record IsWriterRow (x : Writing) (o : Options) (setting : Setting) : Type 0 where
   pub name : List ℕ
@@ -72,22 +81,69 @@ pub record IsWriterRow (x : Writing) (o : Options) (setting : Setting) : Type 0 
   pub chooses : (ps : List Point) → chosen x.only ps ≡ filter ((row_of o setting).writes) ps
   pub bytes : (ps : List Point) → file_bytes x.form ps ≡ (row_of o setting).bytes ps
 
+-- a writer of a file for each view
+pub record IsEachRow (x : Writing) (o : Options) (setting : Setting) : Type 0 where
+  pub name : List ℕ
+  pub does : role_of o ≡ role.WritesEach name
+  pub chooses : (ps : List Point) → chosen x.only ps ≡ filter ((row_of o setting).writes) ps
+  pub bytes : (ps : List Point) → file_bytes x.form ps ≡ (row_of o setting).bytes ps
+
+abbrev pub IsMakingRow : Making → Options → Setting → Type 0
+IsMakingRow (Views g) o setting = role_of o ≡ role.Gathers
+IsMakingRow (Each x) o setting = IsEachRow x o setting
+
 abbrev pub IsRow : StageForm → Options → Setting → Type 0
 IsRow Reads o setting = (is_reading (role_of o) ≡ true) × (op_for (role_of o) ≡ op_for (role.Reads []))
 IsRow (Filters f) o setting = IsFilterRow f o setting
-IsRow (Gathers g) o setting = IsGatherRow g o setting
+IsRow (Gathers m) o setting = IsGatherRow m o setting × IsMakingRow m o setting
 IsRow (Writes x) o setting = IsWriterRow x o setting
+
+-- a writer by whether it writes a file of each view
+writes-row : (each : Bool) (name : List ℕ) (x : Writing) (o : Options) (setting : Setting) → role_of o ≡ role.writing_by each name
+    → (row_of o setting).making ≡ rows.admits each (unwritten x.form) x.only
+    → ((ps : List Point) → chosen x.only ps ≡ filter ((row_of o setting).writes) ps) → ((ps : List Point) → file_bytes x.form ps ≡ (row_of o setting).bytes ps)
+    → IsRow (writes_as (role.writing_by each name) x) o setting
+writes-row false name x o setting does making chooses bytes = record { name = name; does = does; filtering = making; chooses = chooses; bytes = bytes }
+writes-row true name x o setting does making chooses bytes = (
+  record {
+    gathers = ap is_gathering does;
+    inner = ap is_reading does;
+    later = ap is_writing does;
+    device = ap op_for does;
+    makes = λ flow. ap (λ m. rows.made m flow) (sym making);
+    fault = λ flow. ap (λ m. rows.stop m flow) (sym making);
+  },
+  record { name = name; does = does; chooses = chooses; bytes = bytes },
+)
+
+gathers-row : (g : Gathering) (o : Options) (setting : Setting) → role_of o ≡ role.Gathers → (row_of o setting).making ≡ rows.Gathered g → IsRow (Gathers (Views g)) o setting
+gathers-row g o setting does making = (
+  record {
+    gathers = ap is_gathering does;
+    inner = ap is_reading does;
+    later = ap is_writing does;
+    device = ap op_for does;
+    makes = λ flow. ap (λ m. rows.made m flow) (sym making);
+    fault = λ flow. ap (λ m. rows.stop m flow) (sym making);
+  },
+  does,
+)
 
 pub row-is : (o : Options) (setting : Setting) → IsRow (form_for o setting) o setting
 row-is (ReadersLas o) setting = (refl, refl)
-row-is (WritersLas o) setting = record { name = o.filename; does = refl; filtering = refl; chooses = λ ps. refl; bytes = λ ps. refl }
-row-is (WritersText o) setting = record { name = o.filename; does = refl; filtering = refl; chooses = λ ps. refl; bytes = λ ps. refl }
-row-is (FiltersSort o) setting = record { does = refl; gathers = refl }
-row-is (FiltersTail o) setting = record { does = refl; gathers = refl }
-row-is (FiltersGroupby o) setting = record { does = refl; gathers = refl }
-row-is (FiltersSplitter o) setting = record { does = refl; gathers = refl }
-row-is (FiltersVoxeldownsize o) setting = record { does = refl; gathers = refl }
+row-is (WritersLas o) setting = writes-row (is_numbered o.filename) o.filename _ (WritersLas o) setting refl refl (λ ps. refl) (λ ps. refl)
+row-is (WritersText o) setting = writes-row (is_numbered o.filename) o.filename _ (WritersText o) setting refl refl (λ ps. refl) (λ ps. refl)
+row-is (FiltersSort o) setting = gathers-row _ (FiltersSort o) setting refl refl
+row-is (FiltersTail o) setting = gathers-row _ (FiltersTail o) setting refl refl
+row-is (FiltersGroupby o) setting = gathers-row _ (FiltersGroupby o) setting refl refl
+row-is (FiltersSplitter o) setting = gathers-row _ (FiltersSplitter o) setting refl refl
+row-is (FiltersVoxeldownsize o) setting = gathers-row _ (FiltersVoxeldownsize o) setting refl refl
 row-is o setting = record { does = refl; begins = refl; filtering = refl }
+
+-- no writer reads
+writer-inner : (each : Bool) (name : List ℕ) → is_reading (role.writing_by each name) ≡ false
+writer-inner true name = refl
+writer-inner false name = refl
 
 -- ---- works at their start
 
@@ -121,7 +177,7 @@ module _ {S K : Type 0} (s : source.Ghosts S) (bytes : K → Option (List ℕ)) 
         makes = λ flow. ap (λ t. made_of (filter_work (filtering_of f)) (At t) flow) row.begins ∙ filter_gives (filtering_of f) flow ∙ ap (λ m. flow_marks (rows.made m flow)) (sym row.filtering);
         fault = λ flow. ap (λ t. fault_on (filter_work (filtering_of f)) (At t) flow) row.begins ∙ filter_fault (filtering_of f) flow ∙ ap (λ m. option_map stage.Point (rows.stop m flow)) (sym row.filtering);
       })
-      go (Gathers g) row (Collector c) start inner = absurd (true≢false (sym (ap is_gathering row.does) ∙ streams))
+      go (Gathers g) row (Collector c) start inner = absurd (true≢false (sym row.0.gathers ∙ streams))
       go (Writes x) row (Writer v) start inner = record {
         inner = ap is_reading row.does;
         makes = λ flow. ap (λ t. made_of writer_work t flow) start.state ∙ writer_gives x flow ∙ ap (λ m. flow_marks (rows.made m flow)) (sym row.filtering);
@@ -140,14 +196,25 @@ module _ {S K : Type 0} (s : source.Ghosts S) (bytes : K → Option (List ℕ)) 
       go (Writes x) (Writer v) start = start.holds
       go form w start = absurd start
 
-  -- and the device of its stage's role
+  -- and keeps no views
+  pub keeps-at-start : (o : Options) (setting : Setting) (w : StageWork S K) → IsAtStart bytes o setting w → keeps_of w ≡ None
+  keeps-at-start o setting w start = go (form_for o setting) w start
+    where
+      go : (form : StageForm) (w : StageWork S K) → IsStarted bytes form w → keeps_of w ≡ None
+      go Reads (Reader r) start = refl
+      go (Filters f) (Filter g) start = refl
+      go (Gathers g) (Collector c) start = refl
+      go (Writes x) (Writer v) start = refl
+      go form w start = absurd start
+
+  -- and has the device of its stage's role
   pub op-at-start : (o : Options) (setting : Setting) (w : StageWork S K) → IsAtStart bytes o setting w → op_of w ≡ op_for (role_of o)
   op-at-start o setting w start = go (form_for o setting) (row-is o setting) w start
     where
       go : (form : StageForm) → IsRow form o setting → (w : StageWork S K) → IsStarted bytes form w → op_of w ≡ op_for (role_of o)
       go Reads row (Reader r) start = sym row.1
       go (Filters f) row (Filter g) start = sym (ap op_for row.does)
-      go (Gathers g) row (Collector c) start = sym (ap op_for row.does)
+      go (Gathers g) row (Collector c) start = sym row.0.device
       go (Writes x) row (Writer v) start = sym (ap op_for row.does)
       go form row w start = absurd start
 
@@ -158,7 +225,7 @@ module _ {S K : Type 0} (s : source.Ghosts S) (bytes : K → Option (List ℕ)) 
       go : (form : StageForm) → IsRow form o setting → (w : StageWork S K) → IsStarted bytes form w → is_leaf w ≡ is_reading (role_of o)
       go Reads row (Reader r) start = sym row.0
       go (Filters f) row (Filter g) start = sym (ap is_reading row.does)
-      go (Gathers g) row (Collector c) start = sym (ap is_reading row.does)
+      go (Gathers g) row (Collector c) start = sym row.0.inner
       go (Writes x) row (Writer v) start = sym (ap is_reading row.does)
       go form row w start = absurd start
 
@@ -168,32 +235,35 @@ module _ {S K : Type 0} (s : source.Ghosts S) (bytes : K → Option (List ℕ)) 
     where
       same : (o : Options) → is_reading (role_of o) ≡ names.is_reader (kind_of o)
       same (ReadersLas o) = refl
+      same (WritersLas o) = writer-inner (is_numbered o.filename) o.filename
+      same (WritersText o) = writer-inner (is_numbered o.filename) o.filename
       same o = refl
 
   -- a stage that needs whole views has a work that takes them
   pub collects-at-start : (o : Options) (setting : Setting) (w : StageWork S K) → IsAtStart bytes o setting w → is_gathering (role_of o) ≡ true
-      → (c : Collecting) × (g : Gathering) × (w ≡ Collector c) × HoldsNone g c × ((row_of o setting).making ≡ rows.Gathered g)
-  collects-at-start o setting w start gathers = go (form_for o setting) (row-is o setting) w start
+      → (c : Collecting Making) × (m : Making) × (w ≡ Collector c) × HoldsNone m c × (form_for o setting ≡ Gathers m)
+  collects-at-start o setting w start gathers = go (form_for o setting) refl (row-is o setting) w start
     where
       not-reading : (r : Role) → is_reading r ≡ true → is_gathering r ≡ true → ⊥
       not-reading (role.Reads name) a b = absurd (true≢false (sym b))
       not-reading role.Gathers a b = absurd (true≢false (sym a))
+      not-reading (role.WritesEach name) a b = absurd (true≢false (sym a))
       not-reading r a b = absurd (true≢false (sym b))
 
-      go : (form : StageForm) → IsRow form o setting → (w : StageWork S K) → IsStarted bytes form w
-          → (c : Collecting) × (g : Gathering) × (w ≡ Collector c) × HoldsNone g c × ((row_of o setting).making ≡ rows.Gathered g)
-      go Reads row (Reader r) start = absurd (not-reading (role_of o) row.0 gathers)
-      go (Filters f) row (Filter h) start = absurd (true≢false (sym gathers ∙ ap is_gathering row.does))
-      go (Gathers g) row (Collector c) start = (c, g, refl, start, row.gathers)
-      go (Writes x) row (Writer v) start = absurd (true≢false (sym gathers ∙ ap is_gathering row.does))
-      go form row w start = absurd start
+      go : (form : StageForm) → form_for o setting ≡ form → IsRow form o setting → (w : StageWork S K) → IsStarted bytes form w
+          → (c : Collecting Making) × (m : Making) × (w ≡ Collector c) × HoldsNone m c × (form_for o setting ≡ Gathers m)
+      go Reads e row (Reader r) start = absurd (not-reading (role_of o) row.0 gathers)
+      go (Filters f) e row (Filter h) start = absurd (true≢false (sym gathers ∙ ap is_gathering row.does))
+      go (Gathers m) e row (Collector c) start = (c, m, refl, start, e)
+      go (Writes x) e row (Writer v) start = absurd (true≢false (sym gathers ∙ ap is_gathering row.does))
+      go form e row w start = absurd start
 
   -- and a work that takes them is that of a stage that needs them
   pub collects-gathers : (o : Options) (setting : Setting) (w : StageWork S K) → IsAtStart bytes o setting w → IsCollecting w → is_gathering (role_of o) ≡ true
   collects-gathers o setting (Collector c) start collects = go (form_for o setting) (row-is o setting) start
     where
       go : (form : StageForm) → IsRow form o setting → IsStarted {S = S} {K = K} bytes form (Collector c) → is_gathering (role_of o) ≡ true
-      go (Gathers g) row start = ap is_gathering row.does
+      go (Gathers g) row start = row.0.gathers
       go form row start = absurd start
   collects-gathers o setting w start collects = absurd collects
 
@@ -212,7 +282,7 @@ module _ {S K : Type 0} (s : source.Ghosts S) (bytes : K → Option (List ℕ)) 
       go : (form : StageForm) → IsRow form o setting → is_reading (role_of o) ≡ true → r.progress ≡ Records 0 → IsStarted {S = S} {K = K} bytes form (Reader r)
       go Reads row reads start = start
       go (Filters f) row reads start = absurd (true≢false (sym reads ∙ ap is_reading row.does))
-      go (Gathers g) row reads start = absurd (true≢false (sym reads ∙ ap is_reading row.does))
+      go (Gathers g) row reads start = absurd (true≢false (sym reads ∙ row.0.inner))
       go (Writes x) row reads start = absurd (true≢false (sym reads ∙ ap is_reading row.does))
 
 -- ---- what writers write
@@ -229,8 +299,14 @@ writes-form o setting writes = go (form_for o setting) refl (row-is o setting)
     go : (form : StageForm) → form_for o setting ≡ form → IsRow form o setting → (x : Writing) × (form_for o setting ≡ Writes x)
     go Reads e row = absurd (not-both (role_of o) row.0 writes)
     go (Filters f) e row = absurd (true≢false (sym writes ∙ ap is_writing row.does))
-    go (Gathers g) e row = absurd (true≢false (sym writes ∙ ap is_writing row.does))
+    go (Gathers g) e row = absurd (true≢false (sym writes ∙ row.0.later))
     go (Writes x) e row = (x, e)
+
+pub gather-row : (o : Options) (setting : Setting) (m : Making) → form_for o setting ≡ Gathers m → IsGatherRow m o setting
+gather-row o setting m e = (subst (λ form. IsRow form o setting) e (row-is o setting)).0
+
+pub each-row : (o : Options) (setting : Setting) (x : Writing) → form_for o setting ≡ Gathers (Each x) → IsEachRow x o setting
+each-row o setting x e = (subst (λ form. IsRow form o setting) e (row-is o setting)).1
 
 pub writer-row : (o : Options) (setting : Setting) (x : Writing) → form_for o setting ≡ Writes x → IsWriterRow x o setting
 writer-row o setting x e = subst (λ form. IsRow form o setting) e (row-is o setting)
@@ -239,13 +315,30 @@ writer-row o setting x e = subst (λ form. IsRow form o setting) e (row-is o set
 pub nowhere-is : (o : Options) (setting : Setting) (x : Writing) (flow : Flow Point) → form_for o setting ≡ Writes x → rows.fault_on (row_of o setting) flow ≡ None → stops_nowhere x (points flow) ≡ true
 nowhere-is o setting x flow e sound = sound_nowhere x flow (ap (λ m. rows.stop m flow) (sym ((writer-row o setting x e).filtering)) ∙ sound)
 
--- a stage wrote what its row writes
-pub wrote-is : (o : Options) (setting : Setting) (ps : List Point) → wrote_of (form_for o setting) ps ≡ option_map (λ (name : List ℕ). up_to_limit (length (filter ((row_of o setting).writes) ps))) (target_of (role_of o))
-wrote-is (WritersLas o) setting ps = refl
-wrote-is (WritersText o) setting ps = refl
-wrote-is o setting ps = refl
+-- a writer writes what its row writes, and so many files, by whether it writes a file of each view
+wrote-by : (each : Bool) (name : List ℕ) (x : Writing) (row : Row) (taken given : Flow Point) → ((ps : List Point) → chosen x.only ps ≡ filter (row.writes) ps)
+    → wrote_of (writes_as (role.writing_by each name) x) taken given ≡ wrote_with (role.writing_by each name) row taken given
+wrote-by true name x row taken given chooses = ap (λ ps. Some (up_to_limit (length ps))) (chooses (all_of given.views))
+wrote-by false name x row taken given chooses = ap (λ ps. Some (up_to_limit (length ps))) (chooses (points taken))
+
+files-by : (each : Bool) (name : List ℕ) (x : Writing) (given : Flow Point) → files_of (writes_as (role.writing_by each name) x) given ≡ files_with (role.writing_by each name) given
+files-by true name x given = refl
+files-by false name x given = refl
+
+-- so it is with every stage
+pub wrote-is : (o : Options) (setting : Setting) (taken given : Flow Point) → wrote_of (form_for o setting) taken given ≡ wrote_with (role_of o) (row_of o setting) taken given
+wrote-is (WritersLas o) setting taken given = wrote-by (is_numbered o.filename) o.filename _ (row_of (WritersLas o) setting) taken given (λ ps. refl)
+wrote-is (WritersText o) setting taken given = wrote-by (is_numbered o.filename) o.filename _ (row_of (WritersText o) setting) taken given (λ ps. refl)
+wrote-is o setting taken given = refl
+
+pub files-are : (o : Options) (setting : Setting) (given : Flow Point) → files_of (form_for o setting) given ≡ files_with (role_of o) given
+files-are (WritersLas o) setting given = files-by (is_numbered o.filename) o.filename _ given
+files-are (WritersText o) setting given = files-by (is_numbered o.filename) o.filename _ given
+files-are o setting given = refl
 
 -- a reader has no fault on what it would take
 pub reader-sound : (o : Options) (setting : Setting) (flow : Flow Point) → is_reading (role_of o) ≡ true → rows.fault_on (row_of o setting) flow ≡ None
 reader-sound (ReadersLas o) setting flow reads = refl
+reader-sound (WritersLas o) setting flow reads = absurd (true≢false (sym reads ∙ writer-inner (is_numbered o.filename) o.filename))
+reader-sound (WritersText o) setting flow reads = absurd (true≢false (sym reads ∙ writer-inner (is_numbered o.filename) o.filename))
 reader-sound o setting flow reads = absurd (true≢false (sym reads))

@@ -5,9 +5,8 @@ use Rattle.file_devices.specs.declared.devices.Op.TheVariants.{Read, Write}
 use Rattle.file_devices.specs.declared.devices.Source as source
 use Rattle.cloud_points.specs.declared.dims.Dim.{Dim}
 use Rattle.cloud_points.specs.declared.work.Work.{Ghosts}
-use Rattle.cloud_points.specs.Flows.{empty_flow}
+use Rattle.cloud_points.specs.Flows.{Flow, all_of, points, empty_flow}
 use Rattle.expr_lang.specs.Formula.{Formula}
-use Rattle.whole_filters.specs.declared.gathering.Gathering.{Gathering}
 use Rattle.view_works.specs.declared.collector.Collector.{Collector as Collecting}
 use Rattle.forward_rules.specs.Forwarded.{form_of}
 use Rattle.las_reader.specs.declared.reader.LasReader.{LasReader}
@@ -17,12 +16,15 @@ use Rattle.stage_kinds.specs.declared.file_form.FileForm.TheVariants as file
 use Rattle.stage_kinds.specs.declared.file_form.StageForm.{StageForm}
 use Rattle.stage_kinds.specs.declared.file_form.StageForm.TheVariants.{Reads, Filters, Gathers, Writes}
 use Rattle.stage_kinds.specs.declared.file_form.Writing.{Writing}
+use Rattle.stage_kinds.specs.declared.making.Making.{Making}
+use Rattle.stage_kinds.specs.declared.making.Making.TheVariants.{Gathers as Views, WritesEach as Each}
 use Rattle.stage_kinds.specs.declared.stage_work.StageWork.{StageWork}
 use Rattle.stage_kinds.specs.declared.stage_work.StageWork.TheVariants.{Reader, Filter, Collector, Writer}
 use Rattle.stage_kinds.specs.Files.{IsFileForm, chosen}
+use Rattle.stage_kinds.specs.Makings.{IsGoodMaking, kept_by}
 use Rattle.stage_kinds.specs.Held.{op_of}
 use Rattle.stage_kinds.specs.Stages.{begun, state_of, holds_of, writing_of}
-use Rattle.stage_options.specs.Roles.{Role}
+use Rattle.stage_options.specs.Roles.{Role, role_of}
 use Rattle.stage_options.specs.Roles as role
 use Rattle.stage_options.specs.declared.options.Options.{Options}
 use Rattle.stage_options.specs.declared.options.Options.TheVariants.{WritersLas, WritersText}
@@ -62,16 +64,21 @@ file_for (WritersLas o) setting = Some (file.Las (form_of o.fields setting.reads
 file_for (WritersText o) setting = Some (file.Text (text_form setting.names o))
 file_for _ setting = None
 
--- by what a stage does; each that writes has a file
-abbrev pub does_with : BoundStage → Option FileForm → StageForm
-does_with (does.Filters f only) form = Filters (started f only)
-does_with (does.Gathers g) form = Gathers g
-does_with (does.Writes only) (Some form) = Writes (record { form = form; only = only })
-does_with _ form = Reads
+-- a writer writes one file, or one of each view
+abbrev pub writes_as : Role → Writing → StageForm
+writes_as (role.WritesEach name) writing = Gathers (Each writing)
+writes_as _ writing = Writes writing
+
+-- by what a stage does; each that writes has the form of a file
+abbrev pub does_with : Role → BoundStage → Option FileForm → StageForm
+does_with r (does.Filters f only) form = Filters (started f only)
+does_with r (does.Gathers g) form = Gathers (Views g)
+does_with r (does.Writes only) (Some form) = writes_as r (record { form = form; only = only })
+does_with r _ form = Reads
 
 -- by its options, and where it stands
 abbrev pub form_for : Options → Setting → StageForm
-form_for o setting = does_with (bound_stage setting.names o) (file_for o setting)
+form_for o setting = does_with (role_of o) (bound_stage setting.names o) (file_for o setting)
 
 -- its options are bound beside the extra names before it, and these are the ones behind it
 pub record IsBoundBehind (o : Options) (b : BoundStage) (before after : List (List ℕ)) : Type 0 where
@@ -81,6 +88,7 @@ pub record IsBoundBehind (o : Options) (b : BoundStage) (before after : List (Li
 -- a file that it writes can be written
 abbrev pub IsGood : StageForm → Type 0
 IsGood (Writes writing) = IsFileForm writing.form
+IsGood (Gathers making) = IsGoodMaking making
 IsGood _ = ⊤
 
 -- ---- works at their start
@@ -92,8 +100,8 @@ pub record IsBegun {S K : Type 0} (bytes : K → Option (List ℕ)) (writing : W
   pub holds : holds_of bytes w [] ≡ true
 
 -- a stage that needs whole views and took none yet
-pub record HoldsNone (g : Gathering) (c : Collecting) : Type 0 where
-  pub gathering : c.gathering ≡ g
+pub record HoldsNone (making : Making) (c : Collecting Making) : Type 0 where
+  pub makes : c.making ≡ making
   pub short : c.short ≡ false
   pub views : c.views ≡ empty_flow
 
@@ -115,6 +123,7 @@ op_for (role.Reads name) = Some Read
 op_for role.Filters = None
 op_for role.Gathers = None
 op_for (role.Writes name) = Some Write
+op_for (role.WritesEach name) = None
 
 -- works that hold the devices of their stages' roles
 abbrev pub HaveDevices : {S K : Type 0} → List StageSpec → List (StageWork S K) → Type 0
@@ -138,7 +147,19 @@ abbrev pub IsCollecting : {S K : Type 0} → StageWork S K → Type 0
 IsCollecting (Collector c) = ⊤
 IsCollecting w = ⊥
 
--- how many of these points a stage wrote
-abbrev pub wrote_of : StageForm → List Point → Option ℕ
-wrote_of (Writes x) points = Some (up_to_limit (length (chosen x.only points)))
-wrote_of _ points = None
+-- how many points a stage writes, of those that it takes or of the views that it gives on
+abbrev pub wrote_of : StageForm → Flow Point → Flow Point → Option ℕ
+wrote_of (Writes x) taken given = Some (up_to_limit (length (chosen x.only (points taken))))
+wrote_of (Gathers (Each x)) taken given = Some (up_to_limit (length (chosen x.only (all_of given.views))))
+wrote_of _ taken given = None
+
+-- what it writes of each of these views, which it keeps for that
+abbrev pub kept_for : StageForm → Flow Point → Option (Writing × Flow Point)
+kept_for (Gathers making) given = kept_by making given
+kept_for _ given = None
+
+-- how many files
+abbrev pub files_of : StageForm → Flow Point → ℕ
+files_of (Writes x) given = 1
+files_of (Gathers (Each x)) given = up_to_limit (length given.views)
+files_of _ given = 0

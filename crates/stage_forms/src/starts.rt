@@ -3,8 +3,10 @@
 ghost use Rattle.std.specs.Prelude.{◌≡◌, ◌<◌, ℕ, List, All, Some, true, length, IfOk};
 ghost use Rattle.stage_forms.specs.Below.{reads_in};
 ghost use Rattle.stage_kinds.specs.Files.{IsFileForm};
-ghost use Rattle.stage_options.specs.Roles.{is_writing, role_of};
-ghost use Rattle.stage_forms.specs.Starts.{IsBoundBehind, IsGood, file_for, form_for, started};
+ghost use Rattle.stage_names.specs.Kinds.{is_writer};
+ghost use Rattle.stage_options.specs.Kinds.{kind_of};
+ghost use Rattle.stage_options.specs.Seen.{role_view};
+ghost use Rattle.stage_forms.specs.Starts.{IsBoundBehind, IsGood, file_for, form_for, started, writes_as};
 
 use crate::{las_form, text_form};
 use cloud_points::ExtraNames;
@@ -12,8 +14,8 @@ use expr_eval::Bound;
 use file_devices::Source;
 use las_reader::LasReader;
 use name_binding::{BoundFilter, BoundStage};
-use stage_kinds::{FileForm, StageForm, Writing};
-use stage_options::Options;
+use stage_kinds::{FileForm, Making, StageForm, Writing};
+use stage_options::{Options, Role};
 use std::alloc::{AllocError, Global};
 use stream_filters::{Condition, Crop, Decimation, Filter, Head, PointFilter};
 
@@ -55,7 +57,7 @@ fn file_form<S: Source>(
     readers: &[Option<LasReader<S>>],
     below: &[u32],
 ) -> Result<FileForm, AllocError>
-    requires writes { is_writing (role_of options.now) ≡ true }
+    requires writes { is_writer (kind_of options.now) ≡ true }
     requires inside { All (λ j. j < length readers.now) below.now }
     ensures form { IfOk result (λ form. file_for options.now
         (record { names = names.now; reads = reads_in readers.now below.now }) ≡ Some form) }
@@ -70,6 +72,18 @@ fn file_form<S: Source>(
         )?)),
         Options::WritersText(text) => Ok(FileForm::Text(text_form(alloc, names, text)?)),
         _ => unreachable!(),
+    }
+}
+
+/// What the work of a writer that does this is made of: it writes one file, or one of each view.
+fn writes_as(role: Role<'_>, writing: Writing) -> StageForm
+    requires { IsFileForm writing.form }
+    ensures form { result ≡ writes_as (role_view role.entry) writing }
+    ensures good { IsGood result }
+{
+    match role {
+        Role::WritesEach(_) => StageForm::Gathers(Making::WritesEach(writing)),
+        _ => StageForm::Writes(writing),
     }
 }
 
@@ -92,10 +106,10 @@ pub fn stage_form<S: Source>(
     match bound {
         BoundStage::Reads => Ok(StageForm::Reads),
         BoundStage::Filters(filter, only) => Ok(StageForm::Filters(filter_of(filter, only))),
-        BoundStage::Gathers(gathering) => Ok(StageForm::Gathers(gathering)),
+        BoundStage::Gathers(gathering) => Ok(StageForm::Gathers(Making::Gathers(gathering))),
         BoundStage::Writes(only) => {
             let form = file_form(alloc, options, names, readers, below)?;
-            Ok(StageForm::Writes(Writing { form, only }))
+            Ok(writes_as(options.role(), Writing { form, only }))
         }
     }
 }

@@ -5,6 +5,9 @@ use Rattle.text_writer.specs.declared.form.TextBeginErr.{TextBeginErr}
 use Rattle.text_writer.specs.declared.form.TextBeginErr.TheVariants as text
 use Rattle.stage_kinds.specs.declared.beginning.FileBeginErr.{FileBeginErr}
 use Rattle.stage_kinds.specs.declared.beginning.FileBeginErr.TheVariants.{Failed, Memory}
+use Rattle.stage_kinds.specs.declared.view_writing.ViewErr.{ViewErr}
+use Rattle.stage_kinds.specs.declared.view_writing.ViewErr.TheVariants as view
+use Rattle.file_devices.specs.declared.devices.Op.TheVariants.{Write}
 
 abbrev pub begin_err_of_text : TextBeginErr → FileBeginErr
 begin_err_of_text text.Failed = Failed
@@ -13,3 +16,8 @@ begin_err_of_text text.Memory = Memory
 abbrev pub begin_err_of_las : LasBeginErr → FileBeginErr
 begin_err_of_las las.Failed = Failed
 begin_err_of_las las.Memory = Memory
+
+-- the same of the file of a view
+abbrev pub view_err_of : FileBeginErr → ViewErr
+view_err_of Failed = view.Failed Write
+view_err_of Memory = view.Memory

@@ -5,6 +5,7 @@ use Rattle.cloud_points.specs.declared.point.Point.{Point}
 use Rattle.expr_lang.specs.Formula.{Formula}
 use Rattle.file_devices.specs.declared.devices.Op.{Op}
 use Rattle.file_devices.specs.declared.devices.Op.TheVariants.{Write, Patch}
+use Rattle.forward_rules.specs.declared.form.LasForm.{LasForm}
 use Rattle.las_writer.specs.Holding.{holds_las}
 use Rattle.las_writer.specs.LasOutput.{IsForm, las_output}
 use Rattle.las_writer.specs.Records.{fits, written}
@@ -16,6 +17,7 @@ use Rattle.stage_meanings.specs.Records.{unrecorded}
 use Rattle.stage_meanings.specs.declared.reason.Reason.{Reason}
 use Rattle.stage_meanings.specs.declared.reason.Reason.TheVariants as reason
 use Rattle.text_writer.specs.TextOutput.{IsTextForm, text_output, holds_text}
+use Rattle.text_writer.specs.declared.form.TextForm.{TextForm}
 use Rattle.stage_kinds.specs.declared.file_form.FileForm.{FileForm}
 use Rattle.stage_kinds.specs.declared.file_form.FileForm.TheVariants as form
 use Rattle.stage_kinds.specs.declared.file_writer.FileWriter.{FileWriter}
@@ -29,6 +31,11 @@ use Rattle.stage_kinds.specs.declared.file_writer.PutErr.TheVariants.{Refused, F
 abbrev pub IsFileForm : FileForm → Type 0
 IsFileForm (form.Text f) = IsTextForm f
 IsFileForm (form.Las f) = IsForm f
+
+-- the same as a fact of a type: whatever the form is, it can be written
+pub record HasFileForm (f : FileForm) : Type 0 where
+  pub text : (t : TextForm) → f ≡ form.Text t → IsTextForm t
+  pub las : (l : LasForm) → f ≡ form.Las l → IsForm l
 
 -- why a point has no place in a file behind so many that were written: in one of text each has one
 abbrev pub unwritten : FileForm → ℕ → Point → Option Reason

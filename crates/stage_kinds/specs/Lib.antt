@@ -1,4 +1,6 @@
 pub mod Files
+pub mod Judging
+pub mod Makings
 pub mod Begins
 pub mod Stages
 pub mod Gathers
@@ -6,3 +8,4 @@ pub mod Held
 pub mod Reads
 pub mod Keeps
 pub mod Takes
+pub mod Views

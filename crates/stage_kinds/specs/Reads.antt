@@ -11,9 +11,9 @@ use Rattle.las_reader.specs.Files.{Las, las_with}
 use Rattle.las_reader.specs.declared.reader.Progress.{Progress}
 use Rattle.las_reader.specs.declared.reader.Progress.TheVariants.{Records, ViewEnded, Ended}
 use Rattle.network_theory.specs.Net.{count_views, count_points}
-use Rattle.view_works.specs.Giving.{still_gives}
+use Rattle.view_works.specs.Giving.{left_of}
 use Rattle.stage_kinds.specs.declared.stage_work.StageWork.{StageWork}
-use Rattle.stage_kinds.specs.declared.stage_work.StageWork.TheVariants.{Reader, Views}
+use Rattle.stage_kinds.specs.declared.stage_work.StageWork.TheVariants.{Reader, Views, ViewFiles}
 
 -- the fault of a file as that of a stage
 abbrev pub fault_with : Option PointFault → Option StageFault
@@ -73,23 +73,28 @@ module _ {S K : Type 0} where
   abbrev pub tells_of : (S → Option (List ℕ)) → StageWork S K → Bool
   tells_of bytes (Reader r) = tells_at (bytes r.source) r.header r.progress
   tells_of bytes (Views h) = not h.ended
+  tells_of bytes (ViewFiles t) = not t.views.ended
   tells_of bytes _ = false
 
   abbrev pub told_of : (S → Option (List ℕ)) → StageWork S K → List (Mark Point)
   told_of bytes (Reader r) = told_at (bytes r.source) r.header r.progress
-  told_of bytes (Views h) = still_gives h.ended h.views h.view h.at
+  told_of bytes (Views h) = left_of h
+  told_of bytes (ViewFiles t) = left_of t.views
   told_of bytes _ = []
 
   abbrev pub told_fault_of : (S → Option (List ℕ)) → StageWork S K → Option StageFault
   told_fault_of bytes (Reader r) = told_fault_at (bytes r.source) r.header r.progress
+  told_fault_of bytes (ViewFiles t) = fault_with t.fault
   told_fault_of bytes _ = None
 
   abbrev pub points_left_of : StageWork S K → ℕ
   points_left_of (Reader r) = points_left (points_in r.header) r.progress
-  points_left_of (Views h) = count_points (still_gives h.ended h.views h.view h.at)
+  points_left_of (Views h) = count_points (left_of h)
+  points_left_of (ViewFiles t) = count_points (left_of t.views)
   points_left_of _ = 0
 
   abbrev pub views_left_of : StageWork S K → ℕ
   views_left_of (Reader r) = views_left r.progress
-  views_left_of (Views h) = count_views (still_gives h.ended h.views h.view h.at)
+  views_left_of (Views h) = count_views (left_of h)
+  views_left_of (ViewFiles t) = count_views (left_of t.views)
   views_left_of _ = 0

@@ -3,6 +3,7 @@ use Rattle.std.specs.Prelude.{◌≡◌, ℕ, ◌==◌, Bool, true, false, not, 
 use Rattle.cloud_points.specs.declared.dims.Dim.{Dim}
 use Rattle.cloud_points.specs.declared.point.Point.{Point}
 use Rattle.cloud_points.specs.declared.faults.StageFault.{StageFault}
+use Rattle.cloud_points.specs.Flows.{Flow}
 use Rattle.cloud_points.specs.Lifted.{lifted}
 use Rattle.cloud_points.specs.Meaning.{Meaning}
 use Rattle.cloud_points.specs.Queue.{up_to_limit}
@@ -18,12 +19,12 @@ use Rattle.stage_meanings.specs.declared.spot.Spot.{Spot}
 use Rattle.stream_filters.specs.Kinds.{filtering_of, spot_of}
 use Rattle.view_works.specs.Collecting.{Held, collecting, held}
 use Rattle.view_works.specs.Giving.{resting}
-use Rattle.whole_filters.specs.declared.gathering.Gathering.{Gathering}
 use Rattle.stage_kinds.specs.declared.file_form.Writing.{Writing as Writes}
+use Rattle.stage_kinds.specs.declared.making.Making.{Making}
 use Rattle.stage_kinds.specs.declared.stage_work.StageState.{StageState}
-use Rattle.stage_kinds.specs.declared.stage_work.StageState.TheVariants.{Reading, Filtering as At, Collecting, Writing}
+use Rattle.stage_kinds.specs.declared.stage_work.StageState.TheVariants.{Reading, Filtering as At, Collecting, Keeping, Writing}
 use Rattle.stage_kinds.specs.declared.stage_work.StageWork.{StageWork}
-use Rattle.stage_kinds.specs.declared.stage_work.StageWork.TheVariants.{Reader, Filter, Collector, Views, Writer}
+use Rattle.stage_kinds.specs.declared.stage_work.StageWork.TheVariants.{Reader, Filter, Collector, Views, ViewFiles, Writer}
 use Rattle.stage_kinds.specs.declared.writer_stage.WriterStage.{WriterStage}
 use Rattle.stage_kinds.specs.Files.{chosen, count_of, file_form, file_holds, unwritten}
 
@@ -86,7 +87,7 @@ abbrev pub filtering_in : StageState → Option Spot
 filtering_in (At spot) = Some spot
 filtering_in _ = None
 
-abbrev pub collecting_in : StageState → Option (Gathering × Held)
+abbrev pub collecting_in : StageState → Option (Making × Held)
 collecting_in (Collecting g views) = Some (g, views)
 collecting_in _ = None
 
@@ -104,24 +105,31 @@ writer_work = lifted writing_meaning writing_in (λ s. Writing s.0 s.1)
 abbrev pub collector_work : Meaning StageState Point StageFault
 collector_work = lifted collecting collecting_in (λ s. Collecting s.0 s.1)
 
+-- a leaf that keeps what it gives, and writes files of it: that is the state in which an end leaves it
+abbrev pub keeping : Writes → Flow Point → Meaning StageState Point StageFault
+keeping x views = record resting { at_end = λ s cut. (Keeping x views, false) }
+
 module _ {S K : Type 0} where
   abbrev pub meaning_of : StageWork S K → Meaning StageState Point StageFault
   meaning_of (Reader r) = resting
   meaning_of (Filter f) = filter_work (filtering_of f)
   meaning_of (Collector c) = collector_work
   meaning_of (Views h) = resting
+  meaning_of (ViewFiles t) = keeping t.writing t.views.views
   meaning_of (Writer w) = writer_work
 
   abbrev pub state_of : StageWork S K → StageState
   state_of (Reader r) = Reading
   state_of (Filter f) = At (spot_of f)
-  state_of (Collector c) = Collecting c.gathering (held c.short c.views)
+  state_of (Collector c) = Collecting c.making (held c.short c.views)
   state_of (Views h) = Reading
+  state_of (ViewFiles t) = Keeping t.writing t.views.views
   state_of (Writer w) = Writing (writes_of w) (spot_in w)
 
   abbrev pub is_leaf : StageWork S K → Bool
   is_leaf (Reader r) = true
   is_leaf (Views h) = true
+  is_leaf (ViewFiles t) = true
   is_leaf _ = false
 
   -- whether memory was wanting for what it takes
@@ -139,10 +147,22 @@ module _ {S K : Type 0} where
   writing_of (Writer w) = Some (writes_of w)
   writing_of _ = None
 
-  -- how many points it wrote
+  -- what it writes of each view, and the views that it keeps for that
+  abbrev pub keeps_of : StageWork S K → Option (Writes × Flow Point)
+  keeps_of (ViewFiles t) = Some (t.writing, t.views.views)
+  keeps_of _ = None
+
+  -- how many points it writes
   abbrev pub written_by : StageWork S K → Option ℕ
   written_by (Writer w) = Some (count_of w.file)
+  written_by (ViewFiles t) = Some t.wrote
   written_by _ = None
+
+  -- how many files it writes
+  abbrev pub files_by : StageWork S K → ℕ
+  files_by (Writer w) = 1
+  files_by (ViewFiles t) = up_to_limit (length t.views.views.views)
+  files_by _ = 0
 
 -- a writer of this holds these points, and stops at none of them
 pub record HoldsAll {S K : Type 0} (bytes : K → Option (List ℕ)) (writing : Writes) (points : List Point) (w : StageWork S K) : Type 0 where

@@ -4,11 +4,11 @@ ghost use Rattle.std.specs.Prelude.{◌≡◌, ◌≤◌, [], Some, true, IfOk, 
 ghost use Rattle.file_devices.specs.Counts.{Rose};
 ghost use Rattle.file_devices.specs.Told.{IsAsTold};
 ghost use Rattle.file_devices.specs.declared.devices.Op as op_type;
-ghost use Rattle.stage_kinds.specs.declared.beginning.FileBeginErr.TheVariants.{Failed as BeginFailed, Memory as BeginMemory};
 ghost use Rattle.stage_kinds.specs.Files.{IsFileForm, count_of, file_form, file_holds, sink_of};
 ghost use Rattle.stage_kinds.specs.Held.{op_of, faults_of};
 ghost use Rattle.stage_kinds.specs.Begins.{begin_err_of_text, begin_err_of_las};
-ghost use Rattle.stage_kinds.specs.Stages.{begun, state_of, holds_of, writing_of};
+ghost use Rattle.stage_kinds.specs.Stages.{begun, state_of, holds_chosen, holds_of, spot_in, writes_of, writing_of};
+ghost use Rattle.stage_meanings.specs.ByRule.{spot_at};
 
 use crate::{FileForm, FileWriter, StageWork, WriterStage, Writing};
 use cloud_points::Spread;
@@ -76,6 +76,37 @@ fn begin_form<K: FileSink>(
     }
 }
 
+/// A writer onto a sink to which nothing was appended; what stands in front of the points is appended.
+///
+/// A refusal gives the sink back. It is `Failed` only where the sink failed, and `Memory` only where there is none for what
+/// the writer holds.
+pub(crate) fn begin_stage<K: FileSink>(
+    alloc: Global,
+    sink: K,
+    writing: Writing,
+) -> Result<WriterStage<K>, (K, FileBeginErr)>
+    requires { IsFileForm writing.form }
+    ensures form { IfOk result (λ w. writes_of w ≡ writing) }
+    ensures spot { IfOk result (λ w. spot_in w ≡ spot_at 0) }
+    ensures holds { IfOk result (λ w. IsAsTold (K.bytes sink) (Some []) → holds_chosen K.bytes w [] ≡ true) }
+    ensures later { IfOk result (λ w. K.faults sink ≤ K.faults (sink_of w.file)) }
+    ensures failed { IfErr result (λ e. e.1 ≡ FileBeginErr.Failed → Rose (K.faults sink) (K.faults e.0)) }
+    ensures count { IfErr result (λ e. K.faults sink ≤ K.faults e.0) }
+{
+    let Writing { form, only } = writing;
+    let Ok(chosen) = Box::new(alloc, Spread::new()) else {
+        return Err((sink, FileBeginErr::Memory));
+    };
+    match begin_form(alloc, sink, form) {
+        Ok(file) => Ok(WriterStage {
+            file,
+            taken: WriterWhere::new(only),
+            chosen,
+        }),
+        Err(refused) => Err(refused),
+    }
+}
+
 /// The work of a writer onto a sink to which nothing was appended; what stands in front of the points is appended.
 ///
 /// A refusal gives the sink back. It is `Failed` only where the sink failed, and `Memory` only where there is none for what
@@ -94,16 +125,8 @@ pub fn begin_file<S: Source, K: FileSink>(
     ensures failed { IfErr result (λ e. e.1 ≡ FileBeginErr.Failed → Rose (K.faults sink) (K.faults e.0)) }
     ensures count { IfErr result (λ e. K.faults sink ≤ K.faults e.0) }
 {
-    let Writing { form, only } = writing;
-    let Ok(chosen) = Box::new(alloc, Spread::new()) else {
-        return Err((sink, FileBeginErr::Memory));
-    };
-    match begin_form(alloc, sink, form) {
-        Ok(file) => Ok(StageWork::Writer(WriterStage {
-            file,
-            taken: WriterWhere::new(only),
-            chosen,
-        })),
+    match begin_stage(alloc, sink, writing) {
+        Ok(writer) => Ok(StageWork::Writer(writer)),
         Err(refused) => Err(refused),
     }
 }

@@ -1,10 +1,10 @@
 //! The files that stages write, and what a stage is made of.
 
+use crate::Making;
 use expr_eval::Bound;
 use forward_rules::LasForm;
 use stream_filters::Filter;
 use text_writer::TextForm;
-use whole_filters::Gathering;
 
 /// The form of a file that a stage writes.
 #[derive(Drop)]
@@ -36,7 +36,7 @@ pub enum StageForm {
     Filters(Filter),
 
     /// It needs whole views, and makes this of them.
-    Gathers(Gathering),
+    Gathers(Making),
 
     /// It writes a file.
     Writes(Writing),

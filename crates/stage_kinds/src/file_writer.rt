@@ -5,9 +5,10 @@ ghost use Rattle.cloud_points.specs.Queue.{up_to_limit};
 ghost use Rattle.cloud_points.specs.declared.point.Point as point_type;
 ghost use Rattle.file_devices.specs.Counts.{HasCause, Rose};
 ghost use Rattle.file_devices.specs.Told.{IsAsTold};
-ghost use Rattle.stage_kinds.specs.Files.{IsUnwritten, count_of, file_bytes, file_form, file_holds, finishing_op, first_unwritten, reason_of_record, sink_of};
+ghost use Rattle.stage_kinds.specs.Files.{IsFileForm, IsUnwritten, count_of, file_bytes, file_form, file_holds, finishing_op, first_unwritten, reason_of_record, sink_of};
 ghost use Rattle.stage_meanings.specs.Filters.{points_before};
 
+use crate::FileForm;
 use cloud_points::{MOST_POINTS, Point};
 use file_devices::{Failed, FileSink, Op};
 use las_writer::{ChunkErr, LasWriter, RecordFault};
@@ -34,7 +35,7 @@ pub(crate) enum PutErr {
 }
 
 /// Why a LAS file has no place for a point, as the reason of a stage.
-fn reason_of(fault: RecordFault) -> Reason
+pub(crate) fn reason_of(fault: RecordFault) -> Reason
     ensures { result ≡ reason_of_record fault }
 {
     match fault {
@@ -126,6 +127,7 @@ impl<K: FileSink> FileWriter<K> {
         ensures file { OnOk result ((points : List point_type.Point) → file_holds K.bytes self.old points ≡ true
             → first_unwritten (file_form self.old) 0 points ≡ None
             → IsAsTold (K.bytes (sink_of self.new)) (Some (file_bytes (file_form self.old) points))) }
+        ensures form { file_form self.new ≡ file_form self.old }
         ensures named { IfErr result (λ op. op ≡ finishing_op (file_form self.old)) }
         ensures cause { HasCause (K.faults (sink_of self.old)) (K.faults (sink_of self.new)) result }
     {
@@ -145,9 +147,24 @@ impl<K: FileSink> FileWriter<K> {
     pub(crate) fn release(self) -> K
         ensures { result ≡ sink_of self }
     {
+        self.into_parts().0
+    }
+
+    /// The sink, and the form of the file, with the file ended.
+    pub(crate) fn into_parts(self) -> (K, FileForm)
+        ensures sink { result.0 ≡ sink_of self }
+        ensures form { result.1 ≡ file_form self }
+        ensures decided { IsFileForm result.1 }
+    {
         match self {
-            FileWriter::Text(writer, _) => writer.release(),
-            FileWriter::Las(writer) => writer.release(),
+            FileWriter::Text(writer, _) => {
+                let (sink, form) = writer.into_parts();
+                (sink, FileForm::Text(form))
+            }
+            FileWriter::Las(writer) => {
+                let (sink, form) = writer.into_parts();
+                (sink, FileForm::Las(form))
+            }
         }
     }
 }

@@ -1,6 +1,6 @@
 //! The works of the stages.
 
-use crate::{Held, WriterStage, Writing};
+use crate::{Gatherer, Held, Making, ViewFiles, WriterStage, Writing};
 use cloud_points::{Make, Spread, StageFault, Work};
 use file_devices::{FileSink, Op, Source};
 use las_reader::LasReader;
@@ -8,8 +8,8 @@ use stage_meanings::Spot;
 use std::alloc::{AllocError, Global};
 use stream_filters::Filter;
 use tile_filters::gather;
-use view_works::{Collector, HeldViews};
-use whole_filters::{Gathering, Views};
+use view_works::HeldViews;
+use whole_filters::Views;
 
 /// What a stage remembers while it runs.
 #[derive(Drop)]
@@ -21,7 +21,10 @@ pub enum StageState {
     Filtering(Spot),
 
     /// A stage that needs whole views remembers what it is to make of them, and those that it took; None where memory was wanting.
-    Collecting(Gathering, Option<Views>),
+    Collecting(Making, Option<Views>),
+
+    /// A writer of a file for each view remembers what it writes, and the views.
+    Keeping(Writing, Views),
 
     /// A writer remembers what it writes, and where its next point stands: behind how many of its points, and how many that it wrote.
     /// Of its points it remembers nothing but what its sink holds.
@@ -37,10 +40,13 @@ pub enum StageWork<S, K: FileSink> {
     Filter(Filter),
 
     /// Takes the points of whole views.
-    Collector(Collector),
+    Collector(Gatherer),
 
     /// Gives what was made of whole views.
     Views(HeldViews),
+
+    /// Gives whole views, of each of which a file is to be written.
+    ViewFiles(ViewFiles),
 
     /// Writes a file of its points, and lets them pass.
     Writer(WriterStage<K>),
@@ -81,38 +87,42 @@ impl<S: Source, K: FileSink> Work for StageWork<S, K> {
     ghost cutting = { λ w. meaning_keeps w };
 
     fn is_leaf(&self) -> bool {
-        matches!(self, StageWork::Reader(_) | StageWork::Views(_))
+        matches!(
+            self,
+            StageWork::Reader(_) | StageWork::Views(_) | StageWork::ViewFiles(_)
+        )
     }
 
     fn make(&mut self, chunk: usize, into: &mut Spread) -> Make {
         match self {
             StageWork::Reader(reader) => reader.next(chunk, into),
             StageWork::Views(views) => views.make(chunk, into),
+            StageWork::ViewFiles(files) => files.make(chunk, into),
             _ => unreachable!(),
         }
     }
 
     fn on_chunk(&mut self, points: &mut Spread) -> Option<StageFault> {
         match self {
-            StageWork::Reader(_) | StageWork::Views(_) => unreachable!(),
             StageWork::Filter(filter) => filter.on_chunk(points),
             StageWork::Collector(collector) => {
                 collector.on_chunk(points);
                 None
             }
             StageWork::Writer(writer) => writer.on_chunk(points),
+            _leaf => unreachable!(),
         }
     }
 
     fn on_end_view(&mut self) -> bool {
         match self {
-            StageWork::Reader(_) | StageWork::Views(_) => unreachable!(),
             StageWork::Filter(filter) => filter.on_end_view(),
             StageWork::Collector(collector) => {
                 collector.on_end_view();
                 true
             }
             StageWork::Writer(_) => true,
+            _leaf => unreachable!(),
         }
     }
 
@@ -129,15 +139,17 @@ impl<S: Source, K: FileSink> Work for StageWork<S, K> {
 }
 
 impl<S: Source, K: FileSink> StageWork<S, K> {
-    ghost use Rattle.std.specs.Prelude.{◌≡◌, List, Some, None, true, option_map, IfErr, IfOk, OnOk};
+    ghost use Rattle.std.specs.Prelude.{◌≡◌, List, Some, None, true, is_some, option_map, IfErr, IfOk, OnOk};
     ghost use Rattle.cloud_points.specs.declared.point.Point as point_type;
     ghost use Rattle.file_devices.specs.Counts.{HasCause};
     ghost use Rattle.file_devices.specs.Told.{IsAsTold};
     ghost use Rattle.stage_kinds.specs.declared.file_form.Writing as writing_type;
     ghost use Rattle.stage_kinds.specs.Held.{held_by, op_of, faults_of, told_by};
     ghost use Rattle.stage_kinds.specs.Files.{chosen, file_bytes, finishing_op};
-    ghost use Rattle.stage_kinds.specs.Gathers.{IsGathered};
-    ghost use Rattle.stage_kinds.specs.Stages.{holds_of, is_short, stops_nowhere, written_by, writing_of};
+    ghost use Rattle.stage_kinds.specs.Gathers.{IsGathered, IsMade};
+    ghost use Rattle.stage_kinds.specs.Makings.{IsGoodMaking};
+    ghost use Rattle.stage_kinds.specs.declared.held.Held.TheVariants.{Nothing};
+    ghost use Rattle.stage_kinds.specs.Stages.{files_by, holds_of, is_short, keeps_of, stops_nowhere, written_by, writing_of};
 
     /// Makes a writer's file whole: a text writer's sink writes what it holds back, and a LAS writer appends its EVLRs and
     /// puts the totals of its points into the header. Any other stage does nothing.
@@ -153,6 +165,7 @@ impl<S: Source, K: FileSink> StageWork<S, K> {
             ≡ Some op) }
         ensures cause { HasCause (faults_of S.faults K.faults self.old) (faults_of S.faults K.faults self.new)
             result }
+        ensures keeps { keeps_of self.new ≡ keeps_of self.old }
     {
         match self {
             StageWork::Writer(writer) => writer.file.finish(),
@@ -168,11 +181,25 @@ impl<S: Source, K: FileSink> StageWork<S, K> {
     {
         match self {
             StageWork::Collector(collector) => {
-                let gathering = collector.gathering();
-                let taken = collector.into_views().ok_or(AllocError)?;
-                Ok(StageWork::Views(HeldViews::new(gather(alloc, taken, gathering)?)))
+                let (making, taken) = collector.into_parts();
+                StageWork::made_of(alloc, making, taken.ok_or(AllocError)?)
             }
             other => Ok(other),
+        }
+    }
+
+    /// A leaf that gives what a stage makes of whole views. It is refused for want of memory alone, and the views are dropped then.
+    pub fn made_of(alloc: Global, making: Making, taken: Views) -> Result<Self, AllocError>
+        requires { IsGoodMaking making }
+        ensures made { IfOk result (IsMade making taken) }
+        ensures device { IfOk result (λ made. held_by made ≡ Nothing) }
+    {
+        match making {
+            Making::Gathers(gathering) => {
+                let views = gather(alloc, taken, gathering)?;
+                Ok(StageWork::Views(HeldViews::new(views)))
+            }
+            Making::WritesEach(writing) => Ok(StageWork::ViewFiles(ViewFiles::new(taken, writing))),
         }
     }
 
@@ -181,7 +208,10 @@ impl<S: Source, K: FileSink> StageWork<S, K> {
         requires { op_of self ≡ None }
     {
         match self {
-            StageWork::Filter(_) | StageWork::Collector(_) | StageWork::Views(_) => {}
+            StageWork::Filter(_)
+            | StageWork::Collector(_)
+            | StageWork::Views(_)
+            | StageWork::ViewFiles(_) => {}
             _device => unreachable!(),
         }
     }
@@ -196,13 +226,32 @@ impl<S: Source, K: FileSink> StageWork<S, K> {
         }
     }
 
-    /// How many points a writer wrote; None exactly where it is none.
+    /// How many points a writer writes, up to the greatest u64; None exactly where it is none.
     pub fn written(&self) -> Option<u64>
         ensures { result ≡ written_by self.now }
     {
         match self {
             StageWork::Writer(writer) => Some(writer.file.count()),
+            StageWork::ViewFiles(files) => Some(files.count()),
             _ => None,
+        }
+    }
+
+    /// Whether it keeps views of which files are to be written.
+    pub fn keeps_views(&self) -> bool
+        ensures { result ≡ is_some (keeps_of self.now) }
+    {
+        matches!(self, StageWork::ViewFiles(_))
+    }
+
+    /// How many files it writes.
+    pub fn files(&self) -> u64
+        ensures { result ≡ files_by self.now }
+    {
+        match self {
+            StageWork::Writer(_) => 1,
+            StageWork::ViewFiles(files) => files.files() as u64,
+            _ => 0,
         }
     }
 
@@ -212,10 +261,11 @@ impl<S: Source, K: FileSink> StageWork<S, K> {
     {
         match self {
             StageWork::Reader(reader) => Held::Source(reader.release()),
+            StageWork::Writer(writer) => Held::Sink(writer.release()),
             StageWork::Filter(_) => Held::Nothing,
             StageWork::Collector(_) => Held::Nothing,
             StageWork::Views(_) => Held::Nothing,
-            StageWork::Writer(writer) => Held::Sink(writer.release()),
+            StageWork::ViewFiles(_) => Held::Nothing,
         }
     }
 }

@@ -15,6 +15,7 @@ ghost use Rattle.stage_kinds.specs.Stages.{first_stop, holds_chosen, only_of, sp
 ghost use Rattle.stage_kinds.specs.Takes.{IsUntaken, take_err_of};
 ghost use Rattle.stage_meanings.specs.Conditions.{passes};
 
+use crate::Writing;
 use crate::file_writer::{FileWriter, PutErr};
 use cloud_points::{MOST_POINTS, Point, Spread, StageFault};
 use expr_eval::holds;
@@ -185,11 +186,21 @@ impl<K: FileSink> WriterStage<K> {
     pub(crate) fn release(self) -> K
         ensures { result ≡ sink_of self.file }
     {
+        self.into_parts().0
+    }
+
+    /// The sink, and what is written, with the writer ended.
+    pub(crate) fn into_parts(self) -> (K, Writing)
+        ensures sink { result.0 ≡ sink_of self.file }
+        ensures writing { result.1 ≡ writes_of self }
+    {
         let WriterStage {
             file,
-            taken: _,
+            taken,
             chosen: _,
         } = self;
-        file.release()
+        let (sink, form) = file.into_parts();
+        let only = taken.into_only();
+        (sink, Writing { form, only })
     }
 }

@@ -1,5 +1,5 @@
 -- What a filter makes of whole views and flows.
-use Rattle.std.specs.Prelude.{ℕ, ◌+◌, Bool, true, false, not, ◌||◌, if◌then◌else◌, List, [], ◌∷◌, map, filter, take, Option, Some, None, Result, Ok, Err}
+use Rattle.std.specs.Prelude.{ℕ, ◌+◌, Bool, true, false, not, ◌||◌, if◌then◌else◌, List, [], ◌∷◌, map, filter, flat_map, take, is_some, Option, Some, None, Result, Ok, Err}
 use Rattle.std.specs.List.{filter_map}
 use Rattle.std.specs.Option.{option_map}
 use Rattle.cloud_points.specs.Queue.{up_to_limit}
@@ -134,6 +134,22 @@ refusal_of against only flow = first_refused against only 0 0 (points flow)
 -- all views as they are, up to that point
 abbrev pub admitted : {P R : Type 0} → (ℕ → P → Option R) → (P → Result Bool R) → Flow P → Flow P
 admitted against only flow = before_stop (refusal_of against only flow) flow
+
+-- ---- points that are admitted in each view by itself
+
+-- the same where those that passed are counted in each view anew
+abbrev pub refusal_in_views : {P R : Type 0} → (ℕ → P → Option R) → (P → Result Bool R) → Flow P → Option (ℕ × R)
+refusal_in_views against only flow = first_from (refused_by against only) 0 (flat_map (positions (λ p. is_true (only p)) 0) flow.views)
+
+-- nothing, cut
+abbrev pub nothing_cut : {P : Type 0} → Flow P
+nothing_cut = record { views = []; open_view = []; cut = true }
+
+-- all complete views as they are, where each of their points is admitted; else nothing goes on, nor of a cut flow
+abbrev pub admitted_in_views : {P R : Type 0} → (ℕ → P → Option R) → (P → Result Bool R) → Flow P → Flow P
+admitted_in_views against only flow =
+    if flow.cut || is_some (refusal_in_views against only flow) then nothing_cut
+    else record { views = flow.views; open_view = []; cut = false }
 
 -- ---- all views as one
 

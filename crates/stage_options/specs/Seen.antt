@@ -54,3 +54,4 @@ role_view (role.Reads name) = roles.Reads name.now
 role_view role.Filters = roles.Filters
 role_view role.Gathers = roles.Gathers
 role_view (role.Writes name) = roles.Writes name.now
+role_view (role.WritesEach name) = roles.WritesEach name.now

@@ -1,5 +1,5 @@
 -- What a value of JSON is as an option.
-use Rattle.std.specs.Prelude.{ℕ, ℤ, pos, ◌*ℤ◌, unsigned_abs, ◌&&◌, ◌==◌, nat_le, nat_lt, Bool, true, false, not, List, length, codes, bytes_eq, Option, Some, None, option_map, option_and_then, if◌then◌else◌}
+use Rattle.std.specs.Prelude.{ℕ, ℤ, pos, ◌*ℤ◌, unsigned_abs, ◌&&◌, ◌==◌, nat_le, nat_lt, Bool, true, false, not, List, [], ◌∷◌, length, count_by, flat_map, decimal, codes, bytes_eq, Option, Some, None, option_map, option_and_then, if◌then◌else◌}
 use Rattle.std.specs.List.{list_any, ends_with}
 use Rattle.std.specs.Result.{result_ok}
 use Rattle.std.specs.Str.{all_ascii_digits}
@@ -62,6 +62,18 @@ is_part name = ends_with (λ a b. a == b) name (codes ".lasline-part")
 abbrev pub is_source : List ℕ → Bool
 is_source name = not (is_part name)
 
--- `#` has the code 35
+-- the byte `#`
+abbrev pub is_mark : ℕ → Bool
+is_mark b = b == 35
+
+-- a name with at most one `#`, and not one of a file that isn't done yet
 abbrev pub is_target : List ℕ → Bool
-is_target name = not (is_part name) && not (list_any (λ b. b == 35) name)
+is_target name = not (is_part name) && nat_le (count_by is_mark name) 1
+
+-- a name that holds a `#`
+abbrev pub is_numbered : List ℕ → Bool
+is_numbered name = list_any is_mark name
+
+-- the name with the digits of a number in place of each `#`
+abbrev pub numbered : List ℕ → ℕ → List ℕ
+numbered name n = flat_map (λ b. if is_mark b then decimal n else b ∷ []) name

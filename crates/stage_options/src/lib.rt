@@ -25,4 +25,4 @@ pub use role::Role;
 pub use rules::{Allowed, Rule, rules_of};
 pub use stage::StageSpec;
 pub use tree::Tree;
-pub use values::{Given, is_source, is_target, value_of};
+pub use values::{Given, is_numbered, is_source, is_target, numbered, value_of};

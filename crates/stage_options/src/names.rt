@@ -43,8 +43,8 @@ impl SourceName {
     }
 }
 
-/// The name of a file that is written, which contracts see as the list of its bytes. It has no `#`, and doesn't end as the
-/// name of a file that isn't done yet does.
+/// The name of a file that is written, which contracts see as the list of its bytes. It has at most one `#`, for which the
+/// numbers of views stand in the names of their files, and doesn't end as the name of a file that isn't done yet does.
 #[derive(Drop)]
 pub struct TargetName {
     name: Name,

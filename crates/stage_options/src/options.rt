@@ -221,7 +221,7 @@ pub struct VoxeldownsizeOptions {
 /// The options of `writers.las`.
 #[derive(Drop)]
 pub struct LasWriterOptions {
-    /// The name of the file.
+    /// The name of the file, or with a `#` of the files of the views.
     pub filename: TargetName,
 
     /// What its header block says, and what is forwarded.
@@ -234,7 +234,7 @@ pub struct LasWriterOptions {
 /// The options of `writers.text`.
 #[derive(Drop)]
 pub struct TextOptions {
-    /// The name of the file.
+    /// The name of the file, or with a `#` of the files of the views.
     pub filename: TargetName,
 
     /// The columns, in their order.
@@ -288,8 +288,8 @@ impl Options {
     {
         match self {
             Options::ReadersLas(options) => Role::Reads(options.filename.as_str()),
-            Options::WritersLas(options) => Role::Writes(options.filename.as_str()),
-            Options::WritersText(options) => Role::Writes(options.filename.as_str()),
+            Options::WritersLas(options) => Role::writing(options.filename.as_str()),
+            Options::WritersText(options) => Role::writing(options.filename.as_str()),
             Options::FiltersSort(_)
             | Options::FiltersTail(_)
             | Options::FiltersGroupby(_)

@@ -5,7 +5,7 @@ ghost use Rattle.std.specs.List.{range_with_len};
 ghost use Rattle.pipeline_json.specs.Lists.{has};
 ghost use Rattle.stage_planner.specs.Plans.{needs_whole, is_whole, taker, next, end_of};
 
-use stage_options::{Role, StageSpec};
+use stage_options::StageSpec;
 use std::alloc::{AllocError, Global};
 
 /// Whether a stage takes stage j.
@@ -38,7 +38,7 @@ fn taker_of(stages: &[StageSpec], j: usize) -> usize
 fn needs_whole(stage: &StageSpec) -> bool
     ensures { result ≡ needs_whole stage.now }
 {
-    matches!(stage.options.role(), Role::Gathers)
+    stage.options.role().needs_views()
 }
 
 /// Whether stage i needs whole views.

@@ -71,9 +71,10 @@ fn push_step(
 }
 
 /// The steps in which the stages of a tree are run. A stage that needs whole views, as those of `filters.sort`,
-/// `filters.tail` and `filters.groupby` do, is a step of its own. The others fall into the largest pieces of the tree that
-/// hang together with none of these between, and each piece is one run. The steps stand in the order of their greatest
-/// stages, so what a step takes from outside stands in earlier ones. Refuses only where memory is wanting.
+/// `filters.tail` and `filters.groupby` do and a writer of a file for each view, is a step of its own. The others fall into
+/// the largest pieces of the tree that hang together with none of these between, and each piece is one run. The steps stand
+/// in the order of their greatest stages, so what a step takes from outside stands in earlier ones. Refuses only where
+/// memory is wanting.
 pub fn plan(alloc: Global, tree: &Tree) -> Result<StepList, AllocError>
     ensures plan { IfOk result (λ steps. steps ≡ plan_of (specs_view tree.now)) }
     ensures covers { IfOk result (Covers (specs_view tree.now)) }

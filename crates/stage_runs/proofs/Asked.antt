@@ -14,14 +14,15 @@ use Rattle.network_core.specs.Shown.{shown, work_of}
 use Rattle.network_core.proofs.Opened.{some_at}
 use Rattle.view_works.specs.declared.collector.Collector.{Collector as Collecting}
 use Rattle.stage_kinds.specs.declared.stage_work.StageState.TheVariants as state
+use Rattle.stage_kinds.specs.declared.making.Making.{Making}
 use Rattle.stage_kinds.specs.declared.stage_work.StageWork.{StageWork}
-use Rattle.stage_kinds.specs.declared.stage_work.StageWork.TheVariants.{Reader, Filter, Collector, Views, Writer}
+use Rattle.stage_kinds.specs.declared.stage_work.StageWork.TheVariants.{Reader, Filter, Collector, Views, ViewFiles, Writer}
 use Rattle.stage_kinds.specs.Stages.{is_leaf, meaning_of}
 use Rattle.stage_options.specs.Roles.{is_gathering}
 use Rattle.stage_options.specs.declared.stage.StageSpec.{StageSpec}
 use Rattle.stage_parts.specs.Parts.{AreHomes, home_at, is_of, strangers, part_ins}
 use Rattle.stage_parts.proofs.Trees.{at_root, at_inner, at_gathering}
-use Rattle.answer_model.specs.Values.{IsDown, role_at, stage_at}
+use Rattle.answer_model.specs.Values.{IsDown, role_at, stage_at, options_at}
 use Rattle.stage_runs.specs.Works.{as_works, ins_of, AreNewStages}
 use Rattle.stage_runs.specs.Parts.{gathers_of, IsNewLeaf, IsPartRun, AreRunBefore, Besides}
 use Rattle.stage_forms.specs.Starts.{IsCollecting}
@@ -44,21 +45,22 @@ no-length (x ∷ xs) e = absurd (omega (arith, e))
 
 -- ---- a work that means what a collector means is one
 
-pub keeps-collecting : {S K : Type 0} (c : Collecting) (w : StageWork S K) → meaning_of w ≡ meaning_of {S = S} {K = K} (Collector c) → IsCollecting w
+pub keeps-collecting : {S K : Type 0} (c : Collecting Making) (w : StageWork S K) → meaning_of w ≡ meaning_of {S = S} {K = K} (Collector c) → IsCollecting w
 keeps-collecting c (Collector d) e = tt
-keeps-collecting c (Reader r) e = true≢false (sym (ap (λ m. (m.at_view (state.Collecting c.gathering None)).1) e))
-keeps-collecting c (Filter f) e = true≢false (sym (ap (λ m. (m.at_view (state.Collecting c.gathering None)).1) e))
-keeps-collecting c (Views h) e = true≢false (sym (ap (λ m. (m.at_view (state.Collecting c.gathering None)).1) e))
-keeps-collecting c (Writer v) e = true≢false (sym (ap (λ m. (m.at_view (state.Collecting c.gathering None)).1) e))
+keeps-collecting c (Reader r) e = true≢false (sym (ap (λ m. (m.at_view (state.Collecting c.making None)).1) e))
+keeps-collecting c (Filter f) e = true≢false (sym (ap (λ m. (m.at_view (state.Collecting c.making None)).1) e))
+keeps-collecting c (Views h) e = true≢false (sym (ap (λ m. (m.at_view (state.Collecting c.making None)).1) e))
+keeps-collecting c (ViewFiles t) e = true≢false (sym (ap (λ m. (m.at_view (state.Collecting c.making None)).1) e))
+keeps-collecting c (Writer v) e = true≢false (sym (ap (λ m. (m.at_view (state.Collecting c.making None)).1) e))
 
 module _ {S K : Type 0} (s : source.Ghosts S) (k : sink.Ghosts K) (stages : List StageSpec) (old : List (Node (StageWork S K))) (new : AreNewStages s k stages old) (down : IsDown stages)
     (forest : IsForest (ins_of stages) (length (ins_of stages) - 1)) (size : length (ins_of stages) ≡ length stages)
     (homes : List ℕ) (are : AreHomes (gathers_of stages) (ins_of stages) homes) (besides : Besides S K) where
   -- a stage that gathers begins as a collector
-  collects-first : (i : ℕ) (n : Node (StageWork S K)) → slice_get old i ≡ Some n → is_gathering (role_at stages i) ≡ true → (c : Collecting) × (n.work ≡ Collector c)
+  collects-first : (i : ℕ) (n : Node (StageWork S K)) → slice_get old i ≡ Some n → is_gathering (role_at stages i) ≡ true → (c : Collecting Making) × (n.work ≡ Collector c)
   collects-first i n e g =
       let start = somehow k.bytes stages (map work_of old) new.works i n.work (map-at work_of old i n e) in
-      let row = collects-at-start s k.bytes _ start.0 n.work start.1 g in
+      let row = collects-at-start s k.bytes (options_at stages i) start.0 n.work start.1 g in
       (row.0, row.2)
 
   module _ (home root : ℕ) (is_root : IsRoot stages homes home root) (now : List (Node (StageWork S K))) (count : length now ≡ length stages) (inside : root < length stages)

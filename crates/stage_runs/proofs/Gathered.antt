@@ -12,7 +12,7 @@ use Rattle.network_solo.specs.Trees.{IsRanTree}
 use Rattle.network_core.specs.declared.node.Node.{Node}
 use Rattle.stage_runs.specs.Works.{as_works}
 use Rattle.stage_kinds.specs.declared.stage_work.StageWork.{StageWork}
-use Rattle.stage_kinds.specs.declared.stage_work.StageWork.TheVariants.{Collector, Views}
+use Rattle.stage_kinds.specs.declared.stage_work.StageWork.TheVariants.{Collector}
 use Rattle.stage_kinds.specs.Gathers.{IsGathered}
 use Rattle.stage_kinds.specs.Held.{op_of, op_on, held_by}
 use Rattle.stage_kinds.specs.Stages.{is_leaf, is_short}
@@ -26,8 +26,7 @@ module _ {S K : Type 0} where
   collecting-op w is = absurd is
 
   pub gathered-leaf : (v w : StageWork S K) → IsCollecting v → IsGathered v w → is_leaf w ≡ true
-  gathered-leaf (Collector c) (Views h) is made = refl
-  gathered-leaf (Collector c) w is made = absurd made
+  gathered-leaf (Collector c) w is made = made.made.leaf
   gathered-leaf v w is made = absurd is
 
 -- what was made is a leaf before its first turn

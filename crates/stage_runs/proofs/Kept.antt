@@ -1,5 +1,5 @@
 -- A work keeps what it writes, which stands in its state.
-use Rattle.std.proofs.Common.{◌≡◌, ◌+◌, Bool, true, false, cond, List, [], ◌∷◌, Option, Some, None, is_some, refl, ap, sym, ◌∙◌}
+use Rattle.std.proofs.Common.{◌≡◌, ◌+◌, Bool, true, false, cond, List, [], ◌∷◌, Option, Some, None, is_some, refl, ap, sym, ◌∙◌, true≢false}
 use Rattle.std.specs.Prelude.{◌==◌}
 use Rattle.cloud_points.specs.declared.point.Point.{Point}
 use Rattle.cloud_points.specs.declared.faults.StageFault.{StageFault}
@@ -8,10 +8,10 @@ use Rattle.cloud_points.specs.Marks.{Mark, At, View_end, End, flow_marks}
 use Rattle.network_theory.specs.Machine.{Machine, next, after_all, at_last, one_end, state_after, at_start}
 use Rattle.stage_kinds.specs.declared.file_form.Writing.{Writing as Writes}
 use Rattle.stage_kinds.specs.declared.stage_work.StageState.{StageState}
-use Rattle.stage_kinds.specs.declared.stage_work.StageState.TheVariants.{Reading, Filtering, Collecting, Writing}
+use Rattle.stage_kinds.specs.declared.stage_work.StageState.TheVariants.{Reading, Filtering, Collecting, Keeping, Writing}
 use Rattle.stage_kinds.specs.declared.stage_work.StageWork.{StageWork}
-use Rattle.stage_kinds.specs.declared.stage_work.StageWork.TheVariants.{Reader, Filter, Collector, Views, Writer}
-use Rattle.stage_kinds.specs.Stages.{meaning_of, state_of, writing_of}
+use Rattle.stage_kinds.specs.declared.stage_work.StageWork.TheVariants.{Reader, Filter, Collector, Views, ViewFiles, Writer}
+use Rattle.stage_kinds.specs.Stages.{is_leaf, meaning_of, state_of, writing_of}
 
 -- what is written by a state
 abbrev pub written_in : StageState → Option Writes
@@ -24,77 +24,90 @@ module _ {S K : Type 0} where
   writing-is (Filter f) = refl
   writing-is (Collector c) = refl
   writing-is (Views h) = refl
+  writing-is (ViewFiles t) = refl
   writing-is (Writer w) = refl
 
   after-keeps : (w : StageWork S K) (t : StageState) (ps : List Point) → written_in ((meaning_of w).after t ps) ≡ written_in t
   after-keeps (Reader r) t ps = refl
   after-keeps (Views h) t ps = refl
+  after-keeps (ViewFiles f) t ps = refl
   after-keeps (Filter f) Reading ps = refl
   after-keeps (Filter f) (Filtering spot) ps = refl
   after-keeps (Filter f) (Collecting g views) ps = refl
+  after-keeps (Filter f) (Keeping x views) ps = refl
   after-keeps (Filter f) (Writing x spot) ps = refl
   after-keeps (Collector c) Reading ps = refl
   after-keeps (Collector c) (Filtering spot) ps = refl
   after-keeps (Collector c) (Collecting g views) ps = refl
+  after-keeps (Collector c) (Keeping x views) ps = refl
   after-keeps (Collector c) (Writing x spot) ps = refl
   after-keeps (Writer w) Reading ps = refl
   after-keeps (Writer w) (Filtering spot) ps = refl
   after-keeps (Writer w) (Collecting g views) ps = refl
+  after-keeps (Writer w) (Keeping x views) ps = refl
   after-keeps (Writer w) (Writing x spot) ps = refl
 
   view-keeps : (w : StageWork S K) (t : StageState) → written_in ((meaning_of w).at_view t).0 ≡ written_in t
   view-keeps (Reader r) t = refl
   view-keeps (Views h) t = refl
+  view-keeps (ViewFiles f) t = refl
   view-keeps (Filter f) Reading = refl
   view-keeps (Filter f) (Filtering spot) = refl
   view-keeps (Filter f) (Collecting g views) = refl
+  view-keeps (Filter f) (Keeping x views) = refl
   view-keeps (Filter f) (Writing x spot) = refl
   view-keeps (Collector c) Reading = refl
   view-keeps (Collector c) (Filtering spot) = refl
   view-keeps (Collector c) (Collecting g views) = refl
+  view-keeps (Collector c) (Keeping x views) = refl
   view-keeps (Collector c) (Writing x spot) = refl
   view-keeps (Writer w) Reading = refl
   view-keeps (Writer w) (Filtering spot) = refl
   view-keeps (Writer w) (Collecting g views) = refl
+  view-keeps (Writer w) (Keeping x views) = refl
   view-keeps (Writer w) (Writing x spot) = refl
 
-  end-keeps : (w : StageWork S K) (t : StageState) (cut : Bool) → written_in ((meaning_of w).at_end t cut).0 ≡ written_in t
-  end-keeps (Reader r) t cut = refl
-  end-keeps (Views h) t cut = refl
-  end-keeps (Filter f) Reading cut = refl
-  end-keeps (Filter f) (Filtering spot) cut = refl
-  end-keeps (Filter f) (Collecting g views) cut = refl
-  end-keeps (Filter f) (Writing x spot) cut = refl
-  end-keeps (Collector c) Reading cut = refl
-  end-keeps (Collector c) (Filtering spot) cut = refl
-  end-keeps (Collector c) (Collecting g views) cut = refl
-  end-keeps (Collector c) (Writing x spot) cut = refl
-  end-keeps (Writer w) Reading cut = refl
-  end-keeps (Writer w) (Filtering spot) cut = refl
-  end-keeps (Writer w) (Collecting g views) cut = refl
-  end-keeps (Writer w) (Writing x spot) cut = refl
+  end-keeps : (w : StageWork S K) (t : StageState) (cut : Bool) → is_leaf w ≡ false → written_in ((meaning_of w).at_end t cut).0 ≡ written_in t
+  end-keeps (Reader r) t cut inner = refl
+  end-keeps (Views h) t cut inner = refl
+  end-keeps (ViewFiles f) t cut inner = absurd (true≢false inner)
+  end-keeps (Filter f) Reading cut inner = refl
+  end-keeps (Filter f) (Filtering spot) cut inner = refl
+  end-keeps (Filter f) (Collecting g views) cut inner = refl
+  end-keeps (Filter f) (Keeping x views) cut inner = refl
+  end-keeps (Filter f) (Writing x spot) cut inner = refl
+  end-keeps (Collector c) Reading cut inner = refl
+  end-keeps (Collector c) (Filtering spot) cut inner = refl
+  end-keeps (Collector c) (Collecting g views) cut inner = refl
+  end-keeps (Collector c) (Keeping x views) cut inner = refl
+  end-keeps (Collector c) (Writing x spot) cut inner = refl
+  end-keeps (Writer w) Reading cut inner = refl
+  end-keeps (Writer w) (Filtering spot) cut inner = refl
+  end-keeps (Writer w) (Collecting g views) cut inner = refl
+  end-keeps (Writer w) (Keeping x views) cut inner = refl
+  end-keeps (Writer w) (Writing x spot) cut inner = refl
 
-  next-keeps : (w : StageWork S K) (c : Machine StageState StageFault) (t : Mark Point) → written_in (next (meaning_of w) c t).state ≡ written_in c.state
-  next-keeps w c (At p) = go (is_some c.fault)
+  next-keeps : (w : StageWork S K) → is_leaf w ≡ false → (c : Machine StageState StageFault) (t : Mark Point) → written_in (next (meaning_of w) c t).state ≡ written_in c.state
+  next-keeps w inner c (At p) = go (is_some c.fault)
     where
       go : (b : Bool) → written_in (cond b c (record c { state = (meaning_of w).after c.state (p ∷ []); fault = (meaning_of w).fault c.state (p ∷ []) })).state ≡ written_in c.state
       go true = refl
       go false = after-keeps w c.state (p ∷ [])
-  next-keeps w c View_end = go (is_some c.fault)
+  next-keeps w inner c View_end = go (is_some c.fault)
     where
       go : (b : Bool) → written_in (cond b c (record c { state = ((meaning_of w).at_view c.state).0 })).state ≡ written_in c.state
       go true = refl
       go false = view-keeps w c.state
-  next-keeps w c (End cut) = go (c.ended + 1 == c.inputs)
+  next-keeps w inner c (End cut) = go (c.ended + 1 == c.inputs)
     where
       go : (b : Bool) → written_in (cond b (at_last (meaning_of w) (one_end c cut)) (one_end c cut)).state ≡ written_in c.state
-      go true = end-keeps w c.state _
+      go true = end-keeps w c.state _ inner
       go false = refl
 
-  all-keep : (w : StageWork S K) (c : Machine StageState StageFault) (ts : List (Mark Point)) → written_in (after_all (meaning_of w) c ts).state ≡ written_in c.state
-  all-keep w c [] = refl
-  all-keep w c (t ∷ ts) = all-keep w (next (meaning_of w) c t) ts ∙ next-keeps w c t
+  all-keep : (w : StageWork S K) → is_leaf w ≡ false → (c : Machine StageState StageFault) (ts : List (Mark Point)) → written_in (after_all (meaning_of w) c ts).state ≡ written_in c.state
+  all-keep w inner c [] = refl
+  all-keep w inner c (t ∷ ts) = all-keep w inner (next (meaning_of w) c t) ts ∙ next-keeps w inner c t
 
-  -- so it does over a whole flow
-  pub writing-kept : (v w : StageWork S K) (flow : Flow Point) → state_of w ≡ state_after (meaning_of v) (state_of v) flow → writing_of w ≡ writing_of v
-  writing-kept v w flow e = writing-is w ∙ ap written_in e ∙ all-keep v (at_start 1 (state_of v)) (flow_marks flow) ∙ sym (writing-is v)
+  -- so one that is no leaf does over a whole flow
+  pub writing-kept : (v w : StageWork S K) (flow : Flow Point) → is_leaf v ≡ false → state_of w ≡ state_after (meaning_of v) (state_of v) flow → writing_of w ≡ writing_of v
+  writing-kept v w flow inner e = writing-is w ∙ ap written_in e ∙ all-keep v inner (at_start 1 (state_of v)) (flow_marks flow) ∙ sym (writing-is v)

@@ -27,8 +27,9 @@ use Rattle.stage_parts.proofs.Tops.{near, near_root, homes-above}
 use Rattle.answer_model.specs.Values.{IsDown, role_at, stage_value}
 use Rattle.stage_runs.specs.Works.{as_works, ins_of, AreNewStages}
 use Rattle.stage_runs.specs.Ran.{EndsAsStage, AreRanStages}
-use Rattle.stage_runs.specs.Parts.{gathers_of, IsNewLeaf, Gives, IsPartRun, IsLeafRun, is_past, NoneFailedBefore, AreRunBefore, Besides}
+use Rattle.stage_runs.specs.Parts.{gathers_of, IsNewLeaf, GivesAsStage, IsPartRun, IsLeafRun, is_past, NoneFailedBefore, AreRunBefore, Besides}
 use Rattle.stage_runs.proofs.Part.{IsRoot, gathers-are, same-number}
+use Rattle.stage_kinds.proofs.Keeping.{keeps-same}
 use Rattle.stage_runs.proofs.Ran.{held-ends}
 use Rattle.stage_runs.proofs.Steps.{lt-true, lt-false, true-lt, stays, home-end, root-end}
 
@@ -165,8 +166,8 @@ module _ {S K : Type 0} (s : source.Ghosts S) (k : sink.Ghosts K) (stages : List
       leaf : IsNewLeaf s k run.was
       leaf = done.held root run.was run.before root-past inside gathers
 
-      gives : Gives s k (stage_value stages opened root) run.was
-      gives = done.gives opened sound-now tell root run.was run.before root-past inside gathers
+      given : GivesAsStage s k stages opened root run.was
+      given = done.gives opened sound-now tell root run.was run.before root-past inside gathers
 
       calm : Calm (as_works s k) run.was run.is
       calm = run.ran.calm 0 run.was run.is refl refl
@@ -188,7 +189,7 @@ module _ {S K : Type 0} (s : source.Ghosts S) (k : sink.Ghosts K) (stages : List
       quiet (suc j) n l f g = absurd (none-some n f)
 
       tells : LeavesTell (as_works s k) (run.was ∷ [])
-      tells zero n f l = subst (λ (x : Node (StageWork S K)). tells_of s.bytes x.work ≡ true) (same_Some run.was n f) gives.tells
+      tells zero n f l = subst (λ (x : Node (StageWork S K)). tells_of s.bytes x.work ≡ true) (same_Some run.was n f) given.gives.tells
       tells (suc j) n f l = absurd (none-some n f)
 
       streams : Streams (as_works s k) ([] ∷ []) (run.was ∷ []) (λ _. stage_value stages opened root)
@@ -198,7 +199,7 @@ module _ {S K : Type 0} (s : source.Ghosts S) (k : sink.Ghosts K) (stages : List
       }
         where
           at-leaf : (j : ℕ) (n : Node (StageWork S K)) → slice_get (run.was ∷ []) j ≡ Some n → told_of s.bytes n.work ≡ flow_marks (stage_value stages opened root)
-          at-leaf zero n f = subst (λ (x : Node (StageWork S K)). told_of s.bytes x.work ≡ flow_marks (stage_value stages opened root)) (same_Some run.was n f) gives.told
+          at-leaf zero n f = subst (λ (x : Node (StageWork S K)). told_of s.bytes x.work ≡ flow_marks (stage_value stages opened root)) (same_Some run.was n f) given.gives.told
           at-leaf (suc j) n f = absurd (none-some n f)
 
           is-leaf : (j : ℕ) (n : Node (StageWork S K)) → slice_get (run.was ∷ []) j ≡ Some n → is_leaf n.work ≡ true
@@ -213,4 +214,5 @@ module _ {S K : Type 0} (s : source.Ghosts S) (k : sink.Ghosts K) (stages : List
           let o = some_at old root (let c = new.count in omega (arith, c, inside)) in
           let same : run.is ≡ m = same_Some run.is m (sym run.back ∙ f) in
           subst (EndsAsStage s k stages opened root) same
-          (held-ends s k stages old new down opened tell root o.0 run.is o.1 gathers (calm.op ∙ leaf.op) (over.gave 0 run.is refl) (over.told 0 run.was run.is refl refl leaf.leaf ∙ gives.sound))
+          (held-ends s k stages old new down opened tell root o.0 run.is o.1 gathers (calm.op ∙ leaf.op) (over.gave 0 run.is refl) (over.told 0 run.was run.is refl refl leaf.leaf ∙ given.gives.fault)
+          (keeps-same run.is.work run.was.work (run.ran.work 0 run.was run.is refl refl) ∙ given.keeps))

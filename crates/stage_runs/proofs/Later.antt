@@ -15,7 +15,7 @@ use Rattle.network_core.specs.Shown.{shown}
 use Rattle.network_core.proofs.Opened.{some_at}
 use Rattle.network_solo.specs.Trees.{IsRanTree}
 use Rattle.stage_kinds.specs.declared.stage_work.StageWork.{StageWork}
-use Rattle.stage_kinds.specs.declared.stage_work.StageWork.TheVariants.{Reader, Filter, Collector, Views, Writer}
+use Rattle.stage_kinds.specs.declared.stage_work.StageWork.TheVariants.{Reader, Filter, Collector, Views, ViewFiles, Writer}
 use Rattle.stage_kinds.specs.Held.{op_of, faults_of}
 use Rattle.stage_runs.specs.Works.{as_works}
 use Rattle.cloud_points.specs.Flows.{empty_flow}
@@ -122,10 +122,10 @@ module _ {S K : Type 0} (s : source.Ghosts S) (k : sink.Ghosts K) where
   }
 
   -- one leaf more that gives nothing
-  pub one-stands-in : (size : ℕ) (nodes : List (Node (StageWork S K))) (n : Node (StageWork S K)) → AreStandIns s k size nodes → IsNewLeaf s k n → Gives s k empty_flow n → AreStandIns s k (size + 1) (nodes ++ n ∷ [])
+  pub one-stands-in : (size : ℕ) (nodes : List (Node (StageWork S K))) (n : Node (StageWork S K)) → AreStandIns s k size nodes → IsNewLeaf s k n → Gives s k empty_flow None n → AreStandIns s k (size + 1) (nodes ++ n ∷ [])
   one-stands-in size nodes n are leaf gives = record {
     count = length-push nodes n ∙ ap (λ z. z + 1) are.count;
-    each = λ i m e. elim (at-push nodes n m i e) [ inl f ↦ are.each i m f | inr same ↦ (subst (IsNewLeaf s k) (sym same) leaf, subst (Gives s k empty_flow) (sym same) gives) ];
+    each = λ i m e. elim (at-push nodes n m i e) [ inl f ↦ are.each i m f | inr same ↦ (subst (IsNewLeaf s k) (sym same) leaf, subst (Gives s k empty_flow None) (sym same) gives) ];
   }
 
   pub none-stand-in : (nodes : List (Node (StageWork S K))) → nodes ≡ [] → AreStandIns s k 0 nodes
@@ -162,6 +162,7 @@ module _ {S K : Type 0} (s : source.Ghosts S) (k : sink.Ghosts K) where
       no-faults (Filter f) e = refl
       no-faults (Collector c) e = refl
       no-faults (Views h) e = refl
+      no-faults (ViewFiles t) e = refl
 
   pub alone-fresh : (node : Node (StageWork S K)) → IsNewLeaf s k node → (i : ℕ) (n : Node (StageWork S K)) → slice_get (node ∷ []) i ≡ Some n → IsFresh (shown (as_works s k) (children ([] ∷ []) i) n)
   alone-fresh node leaf zero n e = subst (λ x. IsFresh (shown (as_works s k) [] x)) (same_Some node n e) leaf.fresh

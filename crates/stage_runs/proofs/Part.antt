@@ -21,10 +21,11 @@ use Rattle.stage_kinds.specs.declared.stage_work.StageWork.{StageWork}
 use Rattle.stage_kinds.specs.declared.stage_work.StageState.TheVariants.{Collecting}
 use Rattle.stage_kinds.specs.Held.{op_of}
 use Rattle.stage_kinds.specs.Reads.{tells_of, told_of, told_fault_of}
-use Rattle.stage_kinds.specs.Stages.{is_leaf, is_short, state_of, collector_work, holds_of}
+use Rattle.stage_kinds.specs.Stages.{is_leaf, is_short, meaning_of, state_of, collector_work, holds_of}
 use Rattle.stage_kinds.proofs.Gathering.{collector-gives, collector-holds}
 use Rattle.view_works.specs.Collecting.{held as held_of}
-use Rattle.whole_filters.specs.declared.gathering.Gathering.{Gathering}
+use Rattle.stage_kinds.specs.declared.making.Making.{Making}
+use Rattle.stage_kinds.specs.declared.file_form.StageForm.TheVariants.{Gathers}
 use Rattle.stage_options.specs.Roles.{is_gathering}
 use Rattle.stage_options.specs.declared.stage.StageSpec.{StageSpec}
 use Rattle.stage_parts.specs.Parts.{AreHomes, gathers_at, home_at, is_of, strangers, part_ins}
@@ -34,11 +35,12 @@ use Rattle.stage_parts.proofs.Tops.{near, near_root}
 use Rattle.stage_parts.proofs.Trees.{own, strange}
 use Rattle.pipeline_json.specs.Lists.{has}
 use Rattle.answer_model.proofs.Values.{has-own, has-later}
-use Rattle.answer_model.specs.Rows as rows
-use Rattle.answer_model.specs.Values.{Opened, IsDown, stage_at, role_at, row_at, stage_value, stage_input}
+use Rattle.answer_model.specs.Values.{Opened, IsDown, stage_at, options_at, role_at, setting_at, stage_value, stage_input}
+use Rattle.stage_forms.specs.Starts.{form_for}
+use Rattle.stage_kinds.proofs.Keeping.{keeps-same}
 use Rattle.stage_runs.specs.Works.{as_works, ins_of, AreNewStages, ReadersTell}
 use Rattle.stage_runs.specs.Ran.{EndsAsStage}
-use Rattle.stage_runs.specs.Parts.{gathers_of, IsNewLeaf, Gives, IsNet}
+use Rattle.stage_runs.specs.Parts.{gathers_of, IsNewLeaf, GivesAsStage, IsNet}
 use Rattle.stage_runs.proofs.Forests.{children-are}
 use Rattle.stage_runs.proofs.Ran.{tells-value, makes-value, leaf-at, ends-as, held-ends, gathers-row}
 
@@ -114,7 +116,7 @@ module _ {S K : Type 0} (s : source.Ghosts S) (k : sink.Ghosts K) (stages : List
   -- ---- the flows of the nodes
 
   module _ (opened : Opened) (tell : ReadersTell s old opened)
-      (gives : (i : ℕ) (n : Node (StageWork S K)) → i < root → is_of homes home i ≡ true → is_gathering (role_at stages i) ≡ true → slice_get nodes i ≡ Some n → Gives s k (stage_value stages opened i) n) where
+      (gives : (i : ℕ) (n : Node (StageWork S K)) → i < root → is_of homes home i ≡ true → is_gathering (role_at stages i) ≡ true → slice_get nodes i ≡ Some n → GivesAsStage s k stages opened i n) where
     -- a root that gathers gives on what it takes
     abbrev root_value : Flow Point
     root_value = if is_gathering (role_at stages root) then stage_input stages opened root else stage_value stages opened root
@@ -190,8 +192,8 @@ module _ {S K : Type 0} (s : source.Ghosts S) (k : sink.Ghosts K) (stages : List
         go : (b : Bool) → is_gathering (role_at stages root) ≡ b → makes_of (as_works s k) n.work (stage_input stages opened root) ≡ flow_marks root_value
         go true g = (let row = gathers-row s k stages old new down opened tell root o.0 o.1 g in
             ap (λ w. makes_of (as_works s k) w (stage_input stages opened root)) (o.2 ∙ row.2)
-            ∙ ap (λ t. made_of collector_work (Collecting row.0.gathering t) (stage_input stages opened root)) (ap (λ b. held_of b row.0.views) row.3.short ∙ ap Some row.3.views)
-            ∙ collector-gives row.0.gathering (stage_input stages opened root) ∙ ap flow_marks (sym (when _ _ g)))
+            ∙ ap (λ t. made_of collector_work (Collecting row.0.making t) (stage_input stages opened root)) (ap (λ b. held_of b row.0.views) row.3.short ∙ ap Some row.3.views)
+            ∙ collector-gives row.0.making (stage_input stages opened root) ∙ ap flow_marks (sym (when _ _ g)))
         go false g =
             ap (λ w. makes_of (as_works s k) w (stage_input stages opened root)) o.2
             ∙ makes-value s k stages old new down opened tell root o.0 o.1 (ap is_leaf (sym o.2) ∙ l) g ∙ ap flow_marks (sym (unless _ _ g))
@@ -204,7 +206,7 @@ module _ {S K : Type 0} (s : source.Ghosts S) (k : sink.Ghosts K) (stages : List
         at = is_net.own i n less h e
 
         go : (b : Bool) → is_gathering (role_at stages i) ≡ b → (tells_of s.bytes n.work ≡ true) × (told_of s.bytes n.work ≡ flow_marks (stage_value stages opened i))
-        go true g = (let f = gives i n less h g at in (f.tells, f.told))
+        go true g = (let f = (gives i n less h g at).gives in (f.tells, f.told))
         go false g = (let w = waits i n less h g at in
             ((leaf-at s k stages old new down opened tell i n w l).tells, tells-value s k stages old new down opened tell i n w l))
 
@@ -303,8 +305,10 @@ module _ {S K : Type 0} (s : source.Ghosts S) (k : sink.Ghosts K) (stages : List
           go true g = (
               let x = held i was.0 less h g at in
               let o = some_at old i (omega (arith, less, inside, size)) in
-              held-ends s k stages old new down opened tell i o.0 m o.1 g (op ∙ x.op) gave (over.told i was.0 m was.1 f x.leaf ∙ (gives i was.0 less h g at).sound))
-          go false g = ends-as s k stages old new down opened tell i was.0 m (waits i was.0 less h g at) g op gave
+              let y = gives i was.0 less h g at in
+              held-ends s k stages old new down opened tell i o.0 m o.1 g (op ∙ x.op) gave (over.told i was.0 m was.1 f x.leaf ∙ y.gives.fault)
+              (keeps-same m.work was.0.work (ran.work i was.0 m was.1 f) ∙ y.keeps))
+          go false g = ends-as s k stages old new down opened tell i was.0 m (waits i was.0 less h g at) g op (ran.work i was.0 m was.1 f) gave
               (λ l. over.told i was.0 m was.1 f l)
               (λ l. subst (λ flow. Took (as_works s k) flow was.0 m) (input-home i less h g) (over.took i was.0 m was.1 f l))
 
@@ -324,15 +328,15 @@ module _ {S K : Type 0} (s : source.Ghosts S) (k : sink.Ghosts K) (stages : List
 
       -- a root that needs whole views holds those that the stage takes
       pub root-holds : (m : Node (StageWork S K)) → slice_get ended root ≡ Some m → is_gathering (role_at stages root) ≡ true
-          → (g : Gathering) × (state_of m.work ≡ Collecting g (Some (stage_input stages opened root))) × ((row_at stages opened root).making ≡ rows.Gathered g)
+          → (g : Making) × (state_of m.work ≡ Collecting g (Some (stage_input stages opened root))) × (form_for (options_at stages root) (setting_at stages opened root) ≡ Gathers g)
       root-holds m f g =
           let x = root-ended m f in
           let row = gathers-row s k stages old new down opened tell root x.1 x.3 g in
           let t = took-root x.0 x.1 m x.2 x.4 f (ap is_leaf (x.4 ∙ row.2)) in (
             row.1,
             t.state ∙ ap (λ w. state_left (as_works s k) w (stage_input stages opened root)) row.2
-                ∙ ap (λ h. state_after collector_work (Collecting row.0.gathering h) (stage_input stages opened root)) (ap (λ b. held_of b row.0.views) row.3.short ∙ ap Some row.3.views)
-                ∙ collector-holds row.0.gathering (stage_input stages opened root) ∙ ap (λ g. Collecting g (Some (stage_input stages opened root))) row.3.gathering,
+                ∙ ap (λ h. state_after collector_work (Collecting row.0.making h) (stage_input stages opened root)) (ap (λ b. held_of b row.0.views) row.3.short ∙ ap Some row.3.views)
+                ∙ collector-holds row.0.making (stage_input stages opened root) ∙ ap (λ g. Collecting g (Some (stage_input stages opened root))) row.3.makes,
             row.4,
           )
 
@@ -340,7 +344,7 @@ module _ {S K : Type 0} (s : source.Ghosts S) (k : sink.Ghosts K) (stages : List
       pub root-ends : (m : Node (StageWork S K)) → slice_get ended root ≡ Some m → is_gathering (role_at stages root) ≡ false → EndsAsStage s k stages opened root m
       root-ends m f g =
           let x = root-ended m f in
-          ends-as s k stages old new down opened tell root x.1 m x.3 g ((ran.calm root x.0 m x.2 f).op ∙ ap op_of x.4)
+          ends-as s k stages old new down opened tell root x.1 m x.3 g ((ran.calm root x.0 m x.2 f).op ∙ ap op_of x.4) (ran.work root x.0 m x.2 f ∙ ap meaning_of x.4)
           (subst (λ flow. Gave (as_works s k) flow m) (value-root ∙ unless _ _ g) (over.gave root m f))
           (λ l. over.told root x.0 m x.2 f (ap is_leaf x.4 ∙ l) ∙ ap (told_fault_of s.bytes) x.4)
           (λ l. took-root x.0 x.1 m x.2 x.4 f (ap is_leaf x.4 ∙ l))

@@ -19,36 +19,29 @@ use Rattle.stage_kinds.specs.Files.{chosen}
 use Rattle.stage_kinds.specs.Held.{op_of}
 use Rattle.stage_kinds.specs.Stages.{HoldsAll, is_leaf, holds_of, stops_nowhere, writes_of, writing_of, written_by}
 use Rattle.stage_kinds.specs.Reads.{told_of, told_fault_of}
+use Rattle.stage_kinds.proofs.Keeping.{keeps-same, wrote-none, no-files, one-file, wrote-each, files-each}
 use Rattle.stage_kinds.proofs.Streams.{written-count}
 use Rattle.view_works.specs.declared.collector.Collector.{Collector as Collecting}
-use Rattle.tile_filters.specs.Gathered.{gathered}
-use Rattle.whole_filters.specs.declared.gathering.Gathering.{Gathering}
-use Rattle.file_devices.specs.declared.devices.Op.{Op}
-use Rattle.file_devices.specs.declared.devices.Op.TheVariants.{Write}
+use Rattle.stage_kinds.specs.declared.making.Making.{Making}
+use Rattle.stage_kinds.specs.declared.making.Making.TheVariants.{Gathers as Made, WritesEach as Each}
+use Rattle.stage_kinds.specs.Makings.{made_by, fault_by}
+use Rattle.stage_kinds.specs.Stages.{files_by, keeps_of, meaning_of}
 use Rattle.cloud_points.specs.declared.point.Point.{Point}
 use Rattle.cloud_points.specs.Queue.{up_to_limit}
 use Rattle.stage_options.specs.Roles.{Role, is_reading, is_gathering, is_writing}
 use Rattle.stage_options.specs.Roles as role
 use Rattle.cloud_points.specs.declared.faults.PointFault.{PointFault}
-use Rattle.stage_kinds.specs.declared.stage_work.StageWork.TheVariants.{Reader, Filter, Collector, Views, Writer}
+use Rattle.stage_kinds.specs.declared.stage_work.StageWork.TheVariants.{Reader, Filter, Collector, Views, ViewFiles, Writer}
 use Rattle.stage_options.specs.declared.stage.StageSpec.{StageSpec}
 use Rattle.answer_model.specs.Values.{LasFile, Opened, IsDown, options_at, role_at, row_at, setting_at, stage_value, stage_input, stage_fault}
 use Rattle.answer_model.specs.Rows as rows
 use Rattle.answer_model.proofs.Values.{value-input}
-use Rattle.stage_forms.specs.Starts.{HoldsNone, form_for, op_for, HaveRead, IsAtStart, wrote_of}
+use Rattle.stage_forms.specs.Starts.{HoldsNone, files_of, form_for, kept_for, op_for, HaveRead, IsAtStart, wrote_of}
 use Rattle.stage_runs.specs.Works.{as_works, AreNewStages, ReadersTell}
 use Rattle.stage_runs.specs.Ran.{EndsAsStage}
 use Rattle.stage_runs.proofs.Kept.{writing-kept}
 use Rattle.stage_runs.proofs.Places.{mapped-at, map-at}
-use Rattle.stage_forms.proofs.Works.{IsLeaf, IsInner, leaf-is, inner-is, holds-nothing, IsRow, row-is, op-at-start, writing-at-start, collects-at-start, writer-row, nowhere-is}
-
--- a work that doesn't write wrote nothing
-wrote-none : {S K : Type 0} (w : StageWork S K) {o : Option Op} → op_of w ≡ o → (o ≡ Some Write → ⊥) → written_by w ≡ None
-wrote-none (Reader r) e reads = refl
-wrote-none (Filter f) e reads = refl
-wrote-none (Collector c) e reads = refl
-wrote-none (Views h) e reads = refl
-wrote-none (Writer v) e reads = absurd (reads (sym e))
+use Rattle.stage_forms.proofs.Works.{IsLeaf, IsInner, leaf-is, inner-is, holds-nothing, IsRow, row-is, gather-row, keeps-at-start, op-at-start, writing-at-start, collects-at-start, writer-row, nowhere-is}
 
 -- a writer that holds points and stops at none of them wrote those that it chose
 wrote-all : {S K : Type 0} (w : StageWork S K) (bytes : K → Option (List ℕ)) (x : Writing) (ps : List Point) → writing_of w ≡ Some x → holds_of bytes w ps ≡ true → stops_nowhere x ps ≡ true
@@ -57,6 +50,7 @@ wrote-all (Reader r) bytes x ps is holds nowhere = absurd (none-some x is)
 wrote-all (Filter f) bytes x ps is holds nowhere = absurd (none-some x is)
 wrote-all (Collector c) bytes x ps is holds nowhere = absurd (none-some x is)
 wrote-all (Views h) bytes x ps is holds nowhere = absurd (none-some x is)
+wrote-all (ViewFiles t) bytes x ps is holds nowhere = absurd (none-some x is)
 wrote-all (Writer v) bytes x ps is holds nowhere = ap (λ n. Some n) (written-count v bytes ps holds (ap (λ y. stops_nowhere y ps) (same_Some (writes_of v) x is) ∙ nowhere))
     ∙ ap (λ (y : Writing). Some (up_to_limit (length (chosen y.only ps)))) (same_Some (writes_of v) x is)
 
@@ -68,11 +62,6 @@ not-both : (r : Role) → is_reading r ≡ true → is_writing r ≡ true → �
 not-both (role.Reads name) r w = absurd (true≢false (sym w))
 not-both (role.Writes name) r w = absurd (true≢false (sym r))
 not-both does r w = absurd (true≢false (sym r))
-
-not-reading : (r : Role) → is_gathering r ≡ true → is_reading r ≡ false
-not-reading role.Gathers g = refl
-not-reading (role.Reads name) g = absurd (true≢false (sym g))
-not-reading does g = refl
 
 -- a new node of each stage
 module _ {S K : Type 0} (s : source.Ghosts S) (k : sink.Ghosts K) (stages : List StageSpec) (old : List (Node (StageWork S K))) (new : AreNewStages s k stages old) where
@@ -105,12 +94,12 @@ module _ {S K : Type 0} (s : source.Ghosts S) (k : sink.Ghosts K) (stages : List
     makes-value i n e l streams = let f = inner-at i n e l streams in f.makes (stage_input stages opened i) ∙ ap flow_marks (sym (value-inner i f.inner))
 
     -- where it took what the stage takes, it ends so
-    pub ends-as : (i : ℕ) (n m : Node (StageWork S K)) → slice_get old i ≡ Some n → is_gathering (role_at stages i) ≡ false → op_of m.work ≡ op_of n.work
+    pub ends-as : (i : ℕ) (n m : Node (StageWork S K)) → slice_get old i ≡ Some n → is_gathering (role_at stages i) ≡ false → op_of m.work ≡ op_of n.work → meaning_of m.work ≡ meaning_of n.work
         → Gave (as_works s k) (stage_value stages opened i) m
         → (is_leaf n.work ≡ true → m.fault ≡ told_fault_of s.bytes n.work)
         → (is_leaf n.work ≡ false → Took (as_works s k) (stage_input stages opened i) n m)
         → EndsAsStage s k stages opened i m
-    ends-as i n m was streams op gave told took = record { gave = gave; fault = fault-is; holds = holds-so; wrote = wrote-so }
+    ends-as i n m was streams op means gave told took = record { gave = gave; fault = fault-is; holds = holds-so; wrote = wrote-so; files = files-so; keeps = keeps-so }
       where
         by_leaf : (b : Bool) → is_leaf n.work ≡ b → m.fault ≡ option_map stage.Point (stage_fault stages opened i)
         by_leaf true l =
@@ -146,50 +135,91 @@ module _ {S K : Type 0} (s : source.Ghosts S) (k : sink.Ghosts K) (stages : List
             by_kind false l =
                 let t = took l in
                 record {
-                  is = writing-kept n.work m.work (stage_input stages opened i) t.state
+                  is = writing-kept n.work m.work (stage_input stages opened i) l t.state
                       ∙ writing-at-start s k.bytes (options_at stages i) (setting_at stages opened i) n.work start writing is;
                   holds = t.holds sound (holds-nothing s k.bytes (options_at stages i) (setting_at stages opened i) n.work start);
                   nowhere = nowhere-is (options_at stages i) (setting_at stages opened i) writing (stage_input stages opened i) is
                       (elim (sound-so sound) [ inl e ↦ e | inr e ↦ absurd (not-both (role_at stages i) e writes) ]);
                 }
 
-        wrote-so : m.fault ≡ None → written_by m.work ≡ wrote_of (form_for (options_at stages i) (setting_at stages opened i)) (points (stage_input stages opened i))
-        wrote-so sound = by_form (form_for (options_at stages i) (setting_at stages opened i)) refl
+        form : StageForm
+        form = form_for (options_at stages i) (setting_at stages opened i)
+
+        device : op_of m.work ≡ op_for (role_at stages i)
+        device = op ∙ op-at-start s k.bytes (options_at stages i) (setting_at stages opened i) n.work (start-at i n was)
+
+        row : (f : StageForm) → form ≡ f → IsRow f (options_at stages i) (setting_at stages opened i)
+        row f is = subst (λ g. IsRow g (options_at stages i) (setting_at stages opened i)) is (row-is (options_at stages i) (setting_at stages opened i))
+
+        -- it keeps no views, since it didn't at its start
+        none-kept : keeps_of m.work ≡ None
+        none-kept = keeps-same m.work n.work means ∙ keeps-at-start s k.bytes (options_at stages i) (setting_at stages opened i) n.work (start-at i n was)
+
+        keeps-so : keeps_of m.work ≡ kept_for form (stage_value stages opened i)
+        keeps-so = none-kept ∙ sym (by_form form refl)
           where
-            device : op_of m.work ≡ op_for (role_at stages i)
-            device = op ∙ op-at-start s k.bytes (options_at stages i) (setting_at stages opened i) n.work (start-at i n was)
+            by_form : (f : StageForm) → form ≡ f → kept_for form (stage_value stages opened i) ≡ None
+            by_form Reads is = ap (λ f. kept_for f (stage_value stages opened i)) is
+            by_form (Filters g) is = ap (λ f. kept_for f (stage_value stages opened i)) is
+            by_form (Makes x) is = ap (λ f. kept_for f (stage_value stages opened i)) is
+            by_form (Gathers g) is = absurd (true≢false (sym (row (Gathers g) is).0.gathers ∙ streams))
 
-            row : (form : StageForm) → form_for (options_at stages i) (setting_at stages opened i) ≡ form → IsRow form (options_at stages i) (setting_at stages opened i)
-            row form is = subst (λ g. IsRow g (options_at stages i) (setting_at stages opened i)) is (row-is (options_at stages i) (setting_at stages opened i))
-
-            by_form : (form : StageForm) → form_for (options_at stages i) (setting_at stages opened i) ≡ form → written_by m.work ≡ wrote_of form (points (stage_input stages opened i))
+        wrote-so : m.fault ≡ None → written_by m.work ≡ wrote_of form (stage_input stages opened i) (stage_value stages opened i)
+        wrote-so sound = by_form form refl
+          where
+            by_form : (f : StageForm) → form ≡ f → written_by m.work ≡ wrote_of f (stage_input stages opened i) (stage_value stages opened i)
             by_form (Makes x) is = let all = holds-so sound x is in wrote-all m.work k.bytes x (points (stage_input stages opened i)) all.is all.holds all.nowhere
-            by_form Reads is = wrote-none m.work (device ∙ (row Reads is).1) (λ e. absurd cc)
-            by_form (Filters g) is = wrote-none m.work (device ∙ ap op_for (row (Filters g) is).does) (λ e. absurd cc)
-            by_form (Gathers g) is = wrote-none m.work (device ∙ ap op_for (row (Gathers g) is).does) (λ e. absurd cc)
+            by_form Reads is = wrote-none m.work (device ∙ (row Reads is).1) (λ e. absurd cc) none-kept
+            by_form (Filters g) is = wrote-none m.work (device ∙ ap op_for (row (Filters g) is).does) (λ e. absurd cc) none-kept
+            by_form (Gathers g) is = absurd (true≢false (sym (row (Gathers g) is).0.gathers ∙ streams))
 
-    -- a stage that needs whole views has no fault, and its value is what it makes of those that it takes
+        files-so : files_by m.work ≡ files_of form (stage_value stages opened i)
+        files-so = by_form form refl
+          where
+            by_form : (f : StageForm) → form ≡ f → files_by m.work ≡ files_of f (stage_value stages opened i)
+            by_form (Makes x) is = one-file m.work (device ∙ ap op_for (row (Makes x) is).does)
+            by_form Reads is = no-files m.work (device ∙ (row Reads is).1) (λ e. absurd cc) none-kept
+            by_form (Filters g) is = no-files m.work (device ∙ ap op_for (row (Filters g) is).does) (λ e. absurd cc) none-kept
+            by_form (Gathers g) is = absurd (true≢false (sym (row (Gathers g) is).0.gathers ∙ streams))
+
+    -- the value of a stage that needs whole views is what it makes of those that it takes, and so is its fault
     pub gathers-row : (i : ℕ) (n : Node (StageWork S K)) → slice_get old i ≡ Some n → is_gathering (role_at stages i) ≡ true
-        → (c : Collecting) × (g : Gathering) × (n.work ≡ Collector c) × HoldsNone g c × ((row_at stages opened i).making ≡ rows.Gathered g)
+        → (c : Collecting Making) × (m : Making) × (n.work ≡ Collector c) × HoldsNone m c × (form_for (options_at stages i) (setting_at stages opened i) ≡ Gathers m)
     gathers-row i n e gathers = collects-at-start s k.bytes (options_at stages i) (setting_at stages opened i) n.work (start-at i n e) gathers
 
-    pub gathers-value : (i : ℕ) (g : Gathering) → is_gathering (role_at stages i) ≡ true → (row_at stages opened i).making ≡ rows.Gathered g
-        → stage_value stages opened i ≡ gathered g (stage_input stages opened i)
-    gathers-value i g gathers making = value-inner i (not-reading (role_at stages i) gathers) ∙ ap (λ m. rows.made m (stage_input stages opened i)) making
+    pub gathers-value : (i : ℕ) (m : Making) → form_for (options_at stages i) (setting_at stages opened i) ≡ Gathers m → stage_value stages opened i ≡ made_by m (stage_input stages opened i)
+    gathers-value i m form = let row = gather-row (options_at stages i) (setting_at stages opened i) m form in value-inner i row.inner ∙ sym (row.makes (stage_input stages opened i))
 
-    -- a leaf that tells its value ends so
+    pub gathers-fault : (i : ℕ) (m : Making) → form_for (options_at stages i) (setting_at stages opened i) ≡ Gathers m → stage_fault stages opened i ≡ fault_by m (stage_input stages opened i)
+    gathers-fault i m form = let row = gather-row (options_at stages i) (setting_at stages opened i) m form in
+        ap (λ b. cond b (las_fault (opened i).las) (rows.fault_on (row_at stages opened i) (stage_input stages opened i))) row.inner ∙ sym (row.fault (stage_input stages opened i))
+
+    -- a leaf that gave its value, had its fault and keeps what it writes ends so
     pub held-ends : (i : ℕ) (n m : Node (StageWork S K)) → slice_get old i ≡ Some n → is_gathering (role_at stages i) ≡ true → op_of m.work ≡ None
-        → Gave (as_works s k) (stage_value stages opened i) m → m.fault ≡ None → EndsAsStage s k stages opened i m
-    held-ends i n m was gathers op gave fault =
+        → Gave (as_works s k) (stage_value stages opened i) m → m.fault ≡ option_map stage.Point (stage_fault stages opened i)
+        → keeps_of m.work ≡ kept_for (form_for (options_at stages i) (setting_at stages opened i)) (stage_value stages opened i) → EndsAsStage s k stages opened i m
+    held-ends i n m was gathers op gave fault keeps =
         let row = gathers-row i n was gathers in
         record {
           gave = gave;
-          fault = fault ∙ ap (λ making. option_map stage.Point (rows.stop making (stage_input stages opened i))) (sym row.4)
-              ∙ ap (λ b. option_map stage.Point (cond b (las_fault (opened i).las) (rows.fault_on (row_at stages opened i) (stage_input stages opened i)))) (sym (not-reading (role_at stages i) gathers));
+          fault = fault;
           holds = λ sound writing is. absurd (true≢false (sym gathers ∙ ap is_gathering ((writer-row (options_at stages i) (setting_at stages opened i) writing is).does)));
-          wrote = λ sound. wrote-none m.work op (λ e. absurd cc) ∙ sym (gathers-wrote (form_for (options_at stages i) (setting_at stages opened i)) refl (row-is (options_at stages i) (setting_at stages opened i)));
+          wrote = λ sound. wrote-so row.1 row.4;
+          files = files-so row.1 row.4;
+          keeps = keeps;
         }
       where
-        gathers-wrote : (form : StageForm) → form_for (options_at stages i) (setting_at stages opened i) ≡ form → IsRow form (options_at stages i) (setting_at stages opened i) → wrote_of form (points (stage_input stages opened i)) ≡ None
-        gathers-wrote (Makes x) is row = absurd (true≢false (sym gathers ∙ ap is_gathering row.does))
-        gathers-wrote form is row = refl
+        form : StageForm
+        form = form_for (options_at stages i) (setting_at stages opened i)
+
+        wrote-so : (making : Making) → form ≡ Gathers making → written_by m.work ≡ wrote_of form (stage_input stages opened i) (stage_value stages opened i)
+        wrote-so (Made g) is = wrote-none m.work op (λ e. absurd cc) (keeps ∙ ap (λ f. kept_for f (stage_value stages opened i)) is)
+            ∙ sym (ap (λ f. wrote_of f (stage_input stages opened i) (stage_value stages opened i)) is)
+        wrote-so (Each x) is = wrote-each m.work x (stage_value stages opened i) (keeps ∙ ap (λ f. kept_for f (stage_value stages opened i)) is)
+            ∙ sym (ap (λ f. wrote_of f (stage_input stages opened i) (stage_value stages opened i)) is)
+
+        files-so : (making : Making) → form ≡ Gathers making → files_by m.work ≡ files_of form (stage_value stages opened i)
+        files-so (Made g) is = no-files m.work op (λ e. absurd cc) (keeps ∙ ap (λ f. kept_for f (stage_value stages opened i)) is)
+            ∙ sym (ap (λ f. files_of f (stage_value stages opened i)) is)
+        files-so (Each x) is = files-each m.work x (stage_value stages opened i) (keeps ∙ ap (λ f. kept_for f (stage_value stages opened i)) is)
+            ∙ sym (ap (λ f. files_of f (stage_value stages opened i)) is)

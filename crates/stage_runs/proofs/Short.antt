@@ -10,12 +10,12 @@ use Rattle.network_core.specs.Shown.{work_of}
 use Rattle.network_core.proofs.Opened.{some_at}
 use Rattle.network_solo.specs.Trees.{IsRanTree}
 use Rattle.stage_kinds.specs.declared.stage_work.StageWork.{StageWork}
-use Rattle.stage_kinds.specs.declared.stage_work.StageWork.TheVariants.{Reader, Filter, Collector, Views, Writer}
+use Rattle.stage_kinds.specs.declared.stage_work.StageWork.TheVariants.{Reader, Filter, Collector, Views, ViewFiles, Writer}
 use Rattle.stage_kinds.specs.Stages.{is_short, meaning_of}
 use Rattle.stage_options.specs.Roles.{is_gathering}
 use Rattle.stage_options.specs.declared.stage.StageSpec.{StageSpec}
 use Rattle.stage_parts.specs.Parts.{AreHomes, home_at}
-use Rattle.answer_model.specs.Values.{IsDown, role_at}
+use Rattle.answer_model.specs.Values.{IsDown, role_at, options_at}
 use Rattle.stage_runs.specs.Works.{as_works, ins_of, AreNewStages}
 use Rattle.stage_runs.specs.Parts.{gathers_of, is_past, AreRunBefore, Besides}
 use Rattle.stage_forms.specs.Starts.{IsCollecting}
@@ -36,6 +36,7 @@ short-collects (Collector c) w short same = keeps-collecting c w same
 short-collects (Reader r) w short same = absurd (true≢false (sym short))
 short-collects (Filter f) w short same = absurd (true≢false (sym short))
 short-collects (Views h) w short same = absurd (true≢false (sym short))
+short-collects (ViewFiles t) w short same = absurd (true≢false (sym short))
 short-collects (Writer v) w short same = absurd (true≢false (sym short))
 
 module _ {S K : Type 0} (s : source.Ghosts S) (k : sink.Ghosts K) where
@@ -61,7 +62,7 @@ module _ {S K : Type 0} (s : source.Ghosts S) (k : sink.Ghosts K) (stages : List
   starts-gathering : (i : ℕ) (n : Node (StageWork S K)) → slice_get old i ≡ Some n → IsCollecting n.work → is_gathering (role_at stages i) ≡ true
   starts-gathering i n e collects =
       let start = somehow k.bytes stages (map work_of old) new.works i n.work (map-at work_of old i n e) in
-      collects-gathers s k.bytes _ start.0 n.work start.1 collects
+      collects-gathers s k.bytes (options_at stages i) start.0 n.work start.1 collects
 
   -- memory is wanting in the last part only where a stage needs whole views: the one at whose node it is, or one that was run before
   pub short-gathers : (now after : List (Node (StageWork S K))) → length now ≡ length stages → AreRunBefore s k stages homes old (length stages) now → RanShort now after → SomeGathers stages

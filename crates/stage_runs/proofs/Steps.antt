@@ -1,37 +1,39 @@
 -- One part more is run.
-use Rattle.std.proofs.Common.{◌≡◌, ◌≢◌, ℕ, suc, ◌+◌, ◌-◌, ◌<◌, ◌≤◌, ◌==◌, ◌||◌, not, nat_lt, Bool, true, false, true≢false, List, length, Option, Some, None, refl, ap, sym, subst, ◌∙◌, inl, inr, arith}
-use Rattle.std.specs.Prelude.{slice_get}
+use Rattle.std.proofs.Common.{◌≡◌, ◌≢◌, ℕ, suc, ◌+◌, ◌-◌, ◌<◌, ◌≤◌, ◌==◌, ◌||◌, nat_lt, Bool, true, false, true≢false, List, length, Option, Some, None, refl, ap, sym, subst, ◌∙◌, inl, inr, arith}
+use Rattle.std.specs.Prelude.{slice_get, option_map}
 use Rattle.std.proofs.lemmas.Bool.Decides.{eqb_tells, leb_tells}
 use Rattle.std.proofs.lemmas.Option.{none-some, same_Some, slice_get_within}
 use Rattle.file_devices.specs.declared.devices.Source as source
 use Rattle.file_devices.specs.declared.devices.Sink as sink
 use Rattle.cloud_points.specs.Events.{is_device}
+use Rattle.cloud_points.specs.declared.point.Point.{Point}
+use Rattle.cloud_points.specs.declared.faults.StageFault.TheVariants as stage
 use Rattle.cloud_points.specs.Flows.{Flow}
 use Rattle.cloud_points.specs.Marks.{flow_marks}
 use Rattle.network_theory.specs.Forest.{IsForest}
 use Rattle.network_core.specs.declared.node.Node.{Node}
 use Rattle.network_core.proofs.Opened.{some_at}
 use Rattle.view_works.specs.Collecting.{Held, held}
-use Rattle.tile_filters.specs.Gathered.{gathered}
-use Rattle.whole_filters.specs.declared.gathering.Gathering.{Gathering}
+use Rattle.stage_kinds.specs.declared.making.Making.{Making}
+use Rattle.stage_kinds.specs.declared.file_form.StageForm.TheVariants.{Gathers}
 use Rattle.stage_kinds.specs.declared.stage_work.StageState.{StageState}
 use Rattle.stage_kinds.specs.declared.stage_work.StageState.TheVariants.{Collecting}
 use Rattle.stage_kinds.specs.declared.stage_work.StageWork.{StageWork}
-use Rattle.stage_kinds.specs.declared.stage_work.StageWork.TheVariants.{Reader, Filter, Collector, Views, Writer}
-use Rattle.stage_kinds.specs.Gathers.{IsGathered}
-use Rattle.stage_kinds.specs.Reads.{tells_of, told_of, told_fault_of}
+use Rattle.stage_kinds.specs.declared.stage_work.StageWork.TheVariants.{Reader, Filter, Collector, Views, ViewFiles, Writer}
+use Rattle.stage_kinds.specs.Gathers.{IsGathered, IsMade}
+use Rattle.stage_kinds.specs.Makings.{kept_by}
 use Rattle.stage_kinds.specs.Stages.{state_of}
 use Rattle.stage_options.specs.Roles.{is_gathering}
 use Rattle.stage_options.specs.declared.stage.StageSpec.{StageSpec}
 use Rattle.stage_parts.specs.Parts.{AreHomes, gathers_at, home_at, is_of, part_ins}
 use Rattle.stage_parts.proofs.Tops.{homes-above}
-use Rattle.answer_model.specs.Rows as rows
-use Rattle.answer_model.specs.Values.{Opened, IsDown, role_at, row_at, stage_value, stage_input}
+use Rattle.answer_model.specs.Values.{Opened, IsDown, options_at, role_at, setting_at, stage_value, stage_input}
+use Rattle.stage_forms.specs.Starts.{form_for, kept_for}
 use Rattle.stage_runs.specs.Works.{ins_of, AreNewStages, ReadersTell}
 use Rattle.stage_runs.specs.Ran.{EndsAsStage}
-use Rattle.stage_runs.specs.Parts.{gathers_of, IsNewLeaf, Gives, IsPartRun, IsGatheredAt, is_past, NoneFailedBefore, AreRunBefore, Besides}
+use Rattle.stage_runs.specs.Parts.{gathers_of, IsNewLeaf, GivesAsStage, IsPartRun, IsGatheredAt, is_past, NoneFailedBefore, AreRunBefore, Besides}
 use Rattle.stage_runs.proofs.Part.{IsRoot, gathers-are, same-number, other-number, home-ends, root-holds, root-ends}
-use Rattle.stage_runs.proofs.Ran.{gathers-value}
+use Rattle.stage_runs.proofs.Ran.{gathers-value, gathers-fault}
 
 -- ---- numbers
 
@@ -49,35 +51,27 @@ false-le a b e = elim (leb_tells (suc a) b) [ inl p ↦ absurd (true≢false (sy
 
 -- ---- what a collector that holds a flow becomes
 
-abbrev held-in : StageState → Option (Gathering × Held)
+abbrev held-in : StageState → Option (Making × Held)
 held-in (Collecting g h) = Some (g, h)
 held-in _ = None
 
-module _ {S K : Type 0} (bytes : S → Option (List ℕ)) where
-  pub gives-gathered : (g : Gathering) (flow : Flow _) (v w : StageWork S K) → state_of v ≡ Collecting g (Some flow) → IsGathered v w
-      → (tells_of bytes w ≡ true) × (told_of bytes w ≡ flow_marks (gathered g flow)) × (told_fault_of bytes w ≡ None)
-  gives-gathered g flow (Collector c) (Views h) e is = go c.short refl
+module _ {S K : Type 0} where
+  pub gives-gathered : (m : Making) (flow : Flow Point) (v w : StageWork S K) → state_of v ≡ Collecting m (Some flow) → IsGathered v w → IsMade m flow w
+  gives-gathered m flow (Collector c) w e is = subst (λ (x : Making × Flow Point). IsMade x.0 x.1 w) same is.made
     where
-      at : ◌≡◌ {A = Gathering × Held} (c.gathering, held c.short c.views) (g, Some flow)
+      at : ◌≡◌ {A = Making × Held} (c.making, held c.short c.views) (m, Some flow)
       at = same_Some _ _ (ap held-in e)
 
-      go : (b : Bool) → c.short ≡ b → (tells_of {K = K} bytes (Views h) ≡ true) × (told_of {K = K} bytes (Views h) ≡ flow_marks (gathered g flow)) × (told_fault_of {K = K} bytes (Views h) ≡ None)
-      go true s = absurd (true≢false (sym s ∙ is.0))
-      go false s = (
-        ap not is.1,
-        is.2
-            ∙ ap (λ x. flow_marks (gathered x c.views)) (ap (λ t. t.0) at)
-            ∙ ap (λ f. flow_marks (gathered g f)) (same_Some c.views flow (ap (λ b. held b c.views) (sym s) ∙ ap (λ t. t.1) at)),
-        refl,
-      )
-  gives-gathered g flow (Collector c) (Reader r) e is = absurd is
-  gives-gathered g flow (Collector c) (Filter f) e is = absurd is
-  gives-gathered g flow (Collector c) (Collector d) e is = absurd is
-  gives-gathered g flow (Collector c) (Writer x) e is = absurd is
-  gives-gathered g flow (Reader r) w e is = absurd (none-some _ (ap held-in e))
-  gives-gathered g flow (Filter f) w e is = absurd (none-some _ (ap held-in e))
-  gives-gathered g flow (Views h) w e is = absurd (none-some _ (ap held-in e))
-  gives-gathered g flow (Writer x) w e is = absurd (none-some _ (ap held-in e))
+      views : c.views ≡ flow
+      views = same_Some c.views flow (ap (λ b. held b c.views) (sym is.enough) ∙ ap (λ t. t.1) at)
+
+      same : ◌≡◌ {A = Making × Flow Point} (c.making, c.views) (m, flow)
+      same = ap (λ x. (x, c.views)) (ap (λ t. t.0) at) ∙ ap (λ f. (m, f)) views
+  gives-gathered m flow (Reader r) w e is = absurd (none-some _ (ap held-in e))
+  gives-gathered m flow (Filter f) w e is = absurd (none-some _ (ap held-in e))
+  gives-gathered m flow (Views h) w e is = absurd (none-some _ (ap held-in e))
+  gives-gathered m flow (ViewFiles t) w e is = absurd (none-some _ (ap held-in e))
+  gives-gathered m flow (Writer x) w e is = absurd (none-some _ (ap held-in e))
 
 module _ {S K : Type 0} (s : source.Ghosts S) (k : sink.Ghosts K) (stages : List StageSpec) (old : List (Node (StageWork S K))) (new : AreNewStages s k stages old) (down : IsDown stages)
     (forest : IsForest (ins_of stages) (length (ins_of stages) - 1)) (size : length (ins_of stages) ≡ length stages)
@@ -193,7 +187,7 @@ module _ {S K : Type 0} (s : source.Ghosts S) (k : sink.Ghosts K) (stages : List
 
       module _ (opened : Opened) (tell : ReadersTell s old opened) (sound : Sound home now)
           (quiet : (i : ℕ) (m : Node (StageWork S K)) → i ≤ root → is_of homes home i ≡ true → slice_get after i ≡ Some m → is_device m.fault ≡ false) where
-        gives : (i : ℕ) (n : Node (StageWork S K)) → i < root → is_of homes home i ≡ true → is_gathering (role_at stages i) ≡ true → slice_get now i ≡ Some n → Gives s k (stage_value stages opened i) n
+        gives : (i : ℕ) (n : Node (StageWork S K)) → i < root → is_of homes home i ≡ true → is_gathering (role_at stages i) ≡ true → slice_get now i ≡ Some n → GivesAsStage s k stages opened i n
         gives i n l h g e = done.gives opened sound tell i n e (not-past i (of-home i h)) (below i l) g
 
         quiet-ended : (i : ℕ) (m : Node (StageWork S K)) → i ≤ root → is_of homes home i ≡ true → slice_get part.ended i ≡ Some m → is_device m.fault ≡ false
@@ -212,7 +206,7 @@ module _ {S K : Type 0} (s : source.Ghosts S) (k : sink.Ghosts K) (stages : List
             opened tell gives part.ended part.ran part.enough quiet-ended m (sym at-root ∙ e) g
 
         pub root-hold : (m : Node (StageWork S K)) → slice_get after root ≡ Some m → is_gathering (role_at stages root) ≡ true
-            → (g : Gathering) × (state_of m.work ≡ Collecting g (Some (stage_input stages opened root))) × ((row_at stages opened root).making ≡ rows.Gathered g)
+            → (g : Making) × (state_of m.work ≡ Collecting g (Some (stage_input stages opened root))) × (form_for (options_at stages root) (setting_at stages opened root) ≡ Gathers g)
         root-hold m e g = root-holds s k stages old new down homes are home root is_root now part.net part.is_net waits root-waits held-here here old-size
             opened tell gives part.ended part.ran part.enough quiet-ended m (sym at-root ∙ e) g
 
@@ -285,21 +279,25 @@ module _ {S K : Type 0} (s : source.Ghosts S) (k : sink.Ghosts K) (stages : List
           | inr q ↦ done.held i m (sym (kept-later i q.1 p) ∙ e) (before i p) (below-w i l q.1) g
         ]
 
-        gives-w : (opened : Opened) → Sound (w + 1) last → ReadersTell s old opened → (m : Node (StageWork S K)) → slice_get last w ≡ Some m → Gives s k (stage_value stages opened w) m
+        gives-w : (opened : Opened) → Sound (w + 1) last → ReadersTell s old opened → (m : Node (StageWork S K)) → slice_get last w ≡ Some m → GivesAsStage s k stages opened w m
         gives-w opened sound tell m e =
             let v = some_at after w (let b = part.count in omega (arith, b, count, inside)) in
             let holds = root-hold w w at-w now count inside (λ j l. l) done after part opened tell (sound-before sound) (quiet sound) v.0 v.1 gathers in
-            let gave = gives-gathered {K = K} s.bytes holds.0 (stage_input stages opened w) v.0.work m.work holds.1 (made.here v.0 m v.1 e) in
+            let made = gives-gathered holds.0 (stage_input stages opened w) v.0.work m.work holds.1 (made.here v.0 m v.1 e) in
+            let value = sym (gathers-value s k stages old new down opened tell w holds.0 holds.2) in
             record {
-              tells = gave.0;
-              told = gave.1 ∙ ap flow_marks (sym (gathers-value s k stages old new down opened tell w holds.0 gathers holds.2));
-              sound = gave.2;
+              gives = record {
+                tells = made.tells s.bytes;
+                told = made.told s.bytes ∙ ap flow_marks value;
+                fault = made.fault s.bytes ∙ ap (option_map stage.Point) (sym (gathers-fault s k stages old new down opened tell w holds.0 holds.2));
+              };
+              keeps = made.keeps ∙ ap (kept_by holds.0) value ∙ sym (ap (λ f. kept_for f (stage_value stages opened w)) holds.2);
             }
 
         gives-here : (opened : Opened) → Sound (w + 1) last → ReadersTell s old opened → (i : ℕ) (m : Node (StageWork S K)) → slice_get last i ≡ Some m → past (w + 1) i ≡ false → i < w + 1
-            → is_gathering (role_at stages i) ≡ true → Gives s k (stage_value stages opened i) m
+            → is_gathering (role_at stages i) ≡ true → GivesAsStage s k stages opened i m
         gives-here opened sound tell i m e p l g = elim (eqb_tells i w) [
-          | inl q ↦ subst (λ j. Gives s k (stage_value stages opened j) m) (sym q.1) (gives-w opened sound tell m (ap (slice_get last) (sym q.1) ∙ e))
+          | inl q ↦ subst (λ j. GivesAsStage s k stages opened j m) (sym q.1) (gives-w opened sound tell m (ap (slice_get last) (sym q.1) ∙ e))
           | inr q ↦ done.gives opened (sound-before sound) tell i m (sym (kept-later i q.1 p) ∙ e) (before i p) (below-w i l q.1) g
         ]
 

@@ -1,10 +1,12 @@
 -- The nodes of a tree's stages while its parts are run, one after the other.
-use Rattle.std.specs.Prelude.{◌≡◌, ◌≢◌, ◌⊎◌, ◌↔◌, ℕ, zero, suc, ◌+◌, ◌-◌, ◌<◌, ◌≤◌, ◌==◌, ◌||◌, nat_lt, Bool, true, false, List, [], ◌∷◌, length, map, slice_get, Some, None}
+use Rattle.std.specs.Prelude.{◌≡◌, ◌≢◌, ◌⊎◌, ◌↔◌, ℕ, zero, suc, ◌+◌, ◌-◌, ◌<◌, ◌≤◌, ◌==◌, ◌||◌, nat_lt, Bool, true, false, List, [], ◌∷◌, length, map, slice_get, option_map, Option, Some, None}
 use Rattle.file_devices.specs.Counts.{Rose}
 use Rattle.file_devices.specs.declared.devices.Source as source
 use Rattle.file_devices.specs.declared.devices.Sink as sink
 use Rattle.cloud_points.specs.declared.point.Point.{Point}
 use Rattle.cloud_points.specs.declared.work.Work.{Ghosts}
+use Rattle.cloud_points.specs.declared.faults.StageFault.{StageFault}
+use Rattle.cloud_points.specs.declared.faults.StageFault.TheVariants as stage
 use Rattle.cloud_points.specs.Events.{is_device, IsOf}
 use Rattle.cloud_points.specs.Flows.{Flow, empty_flow}
 use Rattle.cloud_points.specs.Marks.{flow_marks}
@@ -17,12 +19,12 @@ use Rattle.stage_kinds.specs.declared.stage_work.StageWork.{StageWork}
 use Rattle.stage_kinds.specs.Gathers.{IsGathered}
 use Rattle.stage_kinds.specs.Held.{op_of, faults_of}
 use Rattle.stage_kinds.specs.Reads.{tells_of, told_of, told_fault_of}
-use Rattle.stage_kinds.specs.Stages.{is_leaf, is_short}
+use Rattle.stage_kinds.specs.Stages.{is_leaf, is_short, keeps_of}
 use Rattle.stage_options.specs.Roles.{is_gathering, role_of}
 use Rattle.stage_options.specs.declared.stage.StageSpec.{StageSpec}
 use Rattle.stage_parts.specs.Parts.{AreHomes, home_at, is_of, part_ins}
-use Rattle.answer_model.specs.Values.{Opened, role_at, stage_value}
-use Rattle.stage_forms.specs.Starts.{IsCollecting}
+use Rattle.answer_model.specs.Values.{Opened, options_at, role_at, setting_at, stage_value, stage_fault}
+use Rattle.stage_forms.specs.Starts.{IsCollecting, form_for, kept_for}
 use Rattle.stage_runs.specs.Ran.{EndsAsStage}
 use Rattle.stage_runs.specs.Works.{as_works, ins_of, ReadersTell}
 use Rattle.stage_runs.specs.Short.{NoneShort}
@@ -73,11 +75,16 @@ module _ {S K : Type 0} (s : source.Ghosts S) (k : sink.Ghosts K) where
     pub leaf : is_leaf n.work ≡ true
     pub op : op_of n.work ≡ None
 
-  -- it gives this flow
-  pub record Gives (flow : Flow Point) (n : Node (StageWork S K)) : Type 0 where
+  -- it gives this flow, and this fault at its end
+  pub record Gives (flow : Flow Point) (why : Option StageFault) (n : Node (StageWork S K)) : Type 0 where
     pub tells : tells_of s.bytes n.work ≡ true
     pub told : told_of s.bytes n.work ≡ flow_marks flow
-    pub sound : told_fault_of s.bytes n.work ≡ None
+    pub fault : told_fault_of s.bytes n.work ≡ why
+
+  -- it gives the value of stage i and its fault, and keeps what the stage is to write
+  pub record GivesAsStage (stages : List StageSpec) (opened : Opened) (i : ℕ) (n : Node (StageWork S K)) : Type 0 where
+    pub gives : Gives (stage_value stages opened i) (option_map stage.Point (stage_fault stages opened i)) n
+    pub keeps : keeps_of n.work ≡ kept_for (form_for (options_at stages i) (setting_at stages opened i)) (stage_value stages opened i)
 
   -- each node is as it was, or a later one
   pub record AreSameOrLater (old new : List (Node (StageWork S K))) : Type 0 where
@@ -87,7 +94,7 @@ module _ {S K : Type 0} (s : source.Ghosts S) (k : sink.Ghosts K) where
   -- so many leaves that give nothing
   pub record AreStandIns (size : ℕ) (nodes : List (Node (StageWork S K))) : Type 0 where
     pub count : length nodes ≡ size
-    pub each : (i : ℕ) (n : Node (StageWork S K)) → slice_get nodes i ≡ Some n → IsNewLeaf n × Gives empty_flow n
+    pub each : (i : ℕ) (n : Node (StageWork S K)) → slice_get nodes i ≡ Some n → IsNewLeaf n × Gives empty_flow None n
 
   -- no node holds a device
   abbrev pub HoldNoDevice : List (Node (StageWork S K)) → Type 0
@@ -120,7 +127,7 @@ module _ {S K : Type 0} (s : source.Ghosts S) (k : sink.Ghosts K) where
     pub work : (n m : Node (StageWork S K)) → slice_get net root ≡ Some n → slice_get nodes root ≡ Some m → n.work ≡ m.work
     pub root_fresh : (n : Node (StageWork S K)) → slice_get net root ≡ Some n → IsFresh (shown (as_works s k) (children part root) n)
     pub own : (i : ℕ) (n : Node (StageWork S K)) → i < root → is_of homes home i ≡ true → slice_get net i ≡ Some n → slice_get nodes i ≡ Some n
-    pub strange : (i : ℕ) (n : Node (StageWork S K)) → i < root → is_of homes home i ≡ false → slice_get net i ≡ Some n → IsNewLeaf n × Gives empty_flow n
+    pub strange : (i : ℕ) (n : Node (StageWork S K)) → i < root → is_of homes home i ≡ false → slice_get net i ≡ Some n → IsNewLeaf n × Gives empty_flow None n
 
   -- the nodes of a part took turns until all were done, and memory was wanting at none; each is back at its place
   pub record IsPartRun (besides : Besides S K) (part : List (List ℕ)) (homes : List ℕ) (home root : ℕ) (nodes after : List (Node (StageWork S K))) : Type 0 where
@@ -173,7 +180,7 @@ module _ {S K : Type 0} (s : source.Ghosts S) (k : sink.Ghosts K) where
       pub held : (i : ℕ) (m : Node (StageWork S K)) → slice_get now i ≡ Some m → is_past done i ≡ false → i < done → is_gathering (role_at stages i) ≡ true → IsNewLeaf m
       pub gives : (opened : Opened) → NoneFailedBefore done now → ReadersTell s old opened
           → (i : ℕ) (m : Node (StageWork S K)) → slice_get now i ≡ Some m → is_past done i ≡ false → i < done → is_gathering (role_at stages i) ≡ true
-          → Gives (stage_value stages opened i) m
+          → GivesAsStage stages opened i m
       pub waits : (i : ℕ) (m : Node (StageWork S K)) → slice_get now i ≡ Some m → is_past done i ≡ false → (i < done → is_gathering (role_at stages i) ≡ true → ⊥) → slice_get old i ≡ Some m
 
     -- ---- one part after the other

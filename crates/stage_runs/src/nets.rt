@@ -1,6 +1,6 @@
 //! Nets of nodes that take turns until all are done.
 
-ghost use Rattle.std.specs.Prelude.{◌≡◌, [], ◌∷◌, ◌-◌, ◌<◌, ◌≤◌, ℕ, true, false, length, IfOk};
+ghost use Rattle.std.specs.Prelude.{◌≡◌, [], ◌∷◌, ◌-◌, ◌<◌, ◌≤◌, ℕ, true, false, length, None, IfOk};
 ghost use Rattle.cloud_points.specs.Flows.{empty_flow};
 ghost use Rattle.network_theory.specs.Forest.{IsForest};
 ghost use Rattle.network_solo.specs.Trees.{AreFresh, IsRanTree};
@@ -23,7 +23,7 @@ pub(crate) fn stand_in<S: Source, K: FileSink>(alloc: Global, chunk: usize) -> N
     requires some { 0 < chunk }
     requires most { chunk ≤ 64 }
     ensures leaf { IsNewLeaf S.Source K.Sink result }
-    ensures gives { Gives S.Source K.Sink empty_flow result }
+    ensures gives { Gives S.Source K.Sink empty_flow None result }
 {
     let views = HeldViews::new(Views::none(alloc, &Layout::none()));
     Node::new(StageWork::Views(views), 0, chunk)

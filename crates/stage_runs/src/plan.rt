@@ -9,7 +9,7 @@ ghost use Rattle.stage_runs.specs.Parts.{gathers_of};
 
 use crate::inputs::ins_of;
 use network_core::InsList;
-use stage_options::{Role, StageSpec};
+use stage_options::StageSpec;
 use stage_parts::homes_of;
 use std::alloc::{AllocError, Global};
 
@@ -32,7 +32,7 @@ fn gathers_of(alloc: Global, stages: &[StageSpec]) -> Result<Vec<bool>, AllocErr
 {
     let mut gathers = Vec::with_capacity(alloc, stages.len())?;
     for stage in stages {
-        gathers.push_reserved(matches!(stage.options.role(), Role::Gathers));
+        gathers.push_reserved(stage.options.role().needs_views());
     }
     Ok(gathers)
 }

@@ -17,4 +17,6 @@ mod queues;
 #[cfg(test)]
 mod stages;
 #[cfg(test)]
+mod view_files;
+#[cfg(test)]
 mod words;

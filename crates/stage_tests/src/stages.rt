@@ -13,10 +13,10 @@ use std::alloc::{AllocError, Global};
 use text_writer::{Column, ColumnList, Separator, TextForm};
 
 /// A stage over devices in memory.
-type Stage = StageWork<MemIn, MemOut>;
+pub(crate) type Stage = StageWork<MemIn, MemOut>;
 
 /// What a leaf makes, and how many points it puts into the spread.
-type Made = (Make, usize);
+pub(crate) type Made = (Make, usize);
 
 /// How many first bytes of a file of two points there are, and what its reader makes of them: points, the end of the view
 /// where it comes, and the end.
@@ -34,7 +34,7 @@ const MADE: [(usize, Made, Option<Made>, Made); 2] = [
 const CUT: Make = Make::End(true, Some(StageFault::Point(PointFault::Cut(1))));
 
 /// What a leaf makes next, and how many points it puts into the spread.
-fn make<W: Work>(leaf: &mut W, into: &mut Spread) -> Made
+pub(crate) fn make<W: Work>(leaf: &mut W, into: &mut Spread) -> Made
     requires { W.leaf leaf.old ≡ true }
     ensures { W.leaf leaf.new ≡ true }
 {
@@ -57,7 +57,7 @@ fn hand<W: Work>(stage: &mut W, count: usize) -> (Option<StageFault>, usize)
     (fault, spread.len())
 }
 
-fn drop_stage(stage: Stage) {
+pub(crate) fn drop_stage(stage: Stage) {
     match stage.release() {
         Held::Source(source) => drop(source),
         Held::Sink(sink) => drop(sink),
@@ -106,7 +106,7 @@ fn column(alloc: Global, dim: Dim) -> Result<Column, AllocError>
 }
 
 /// Text of X, Y and Z.
-fn text_form(alloc: Global) -> Result<TextForm, AllocError>
+pub(crate) fn text_form(alloc: Global) -> Result<TextForm, AllocError>
     ensures { IfOk result (λ f. IsTextForm f) }
 {
     let x = column(alloc, Dim::X)?;

@@ -1,14 +1,14 @@
--- Which stages write the file of an earlier one.
-use Rattle.std.proofs.Common.{◌≡◌, ◌<◌, ◌≤◌, ◌+◌, ◌∙◌, refl, ap, sym, ℕ, zero, suc, List, [], ◌∷◌, length, get_or, take, Bool, false, true, true≢false, Some, None, is_some, find, drop, ◌||◌, ◌-◌, arith, ⊎_elim, subst}
+-- Which stages may come to write a file that an earlier one writes.
+use Rattle.std.proofs.Common.{◌≡◌, ◌<◌, ◌≤◌, ◌+◌, ◌∙◌, ◌⊎◌, inl, inr, refl, ap, sym, ℕ, zero, suc, List, [], ◌∷◌, length, get_or, take, Bool, true, true≢false, Option, Some, None, is_some, unwrap_or, find, Decides, ◌-◌, arith, ⊎_elim, subst}
 use Rattle.std.proofs.lemmas.Bool.{cases_lt}
 use Rattle.std.proofs.Math.Nat.{eq-or-lt_of_le}
-use Rattle.std.specs.Bool.{IsTrue}
+use Rattle.std.proofs.lemmas.Bool.Decides.{Decides-like, Decides-or}
 use Rattle.std.specs.List.{range_with_len}
 use Rattle.pipeline_json.proofs.Numbers.{range_from, range_end}
-use Rattle.std.specs.Prelude.{◌↔◌}
 use Rattle.stage_options.specs.declared.stage.StageSpec.{StageSpec}
-use Rattle.stage_typing.proofs.Elements.{drop_next}
-use Rattle.stage_typing.specs.Outputs.{output_of, output_at, NamesAgain, is_name, is_among}
+use Rattle.stage_typing.proofs.Alike.{may_meet_tells}
+use Rattle.stage_typing.specs.Meeting.{MayMeet}
+use Rattle.stage_typing.specs.Outputs.{output_of, output_at, NamesAgain, meets, is_among, names_again}
 
 nothing : {X : Type 0} {x : X} → None ≡ Some x → ⊥
 nothing h = true≢false (sym (ap is_some h))
@@ -36,16 +36,46 @@ to_taken [] (suc i) j name below h = absurd (nothing h)
 to_taken (o ∷ os) (suc i) zero name below h = h
 to_taken (o ∷ os) (suc i) (suc j) name below h = to_taken os i j name (omega (arith, below)) h
 
--- stage i writes the file of this name
-pub again_among : (os : List StageSpec) (i : ℕ) (name : List ℕ) (r : Bool) → output_at os i ≡ Some name → IsTrue r ↔ ((j : ℕ) × (output_at (take i os) j ≡ Some name)) → IsTrue r ↔ NamesAgain os i
-again_among os i name r here f = (
-  (λ t. let found = f.0 t in let earlier = from_taken os i found.0 name found.1 in (found.0, name, earlier.0, earlier.1, here)),
-  (λ n. f.1 (n.0, to_taken os i n.0 name n.2 (n.3 ∙ (sym n.4 ∙ here)))),
-)
+-- a stage may come to write a file of this name
+abbrev Meets : Option (List ℕ) → List ℕ → Type 0
+Meets o name = (output : List ℕ) × (o ≡ Some output) × MayMeet output name
 
--- stage i writes none
-pub again_none : (os : List StageSpec) (i : ℕ) → output_at os i ≡ None → IsTrue false ↔ NamesAgain os i
-again_none os i here = ((λ t. absurd (true≢false (sym t))), (λ n. absurd (nothing (sym here ∙ n.4))))
+same_name : {a b : List ℕ} → Some a ≡ Some b → a ≡ b
+same_name {a} h = ap (λ o. unwrap_or o a) h
+
+meets_tells : (o : Option (List ℕ)) (name : List ℕ) → Decides (meets name o) (Meets o name)
+meets_tells None name = ((λ t. absurd (true≢false (sym t))), (λ m. absurd (nothing m.1)))
+meets_tells (Some output) name =
+    Decides-like _ (λ (m : MayMeet output name). (output, refl, m)) (λ (m : Meets (Some output) name). subst (λ x. MayMeet x name) (sym (same_name m.1)) m.2) (may_meet_tells output name)
+
+abbrev MeetsAt : List StageSpec → List ℕ → Type 0
+MeetsAt os name = (j : ℕ) × Meets (output_at os j) name
+
+among_tells : (os : List StageSpec) (name : List ℕ) → Decides (is_among os (Some name)) (MeetsAt os name)
+among_tells [] name = ((λ t. absurd (true≢false (sym t))), (λ m. absurd (nothing m.1.1)))
+among_tells (o ∷ os) name = Decides-like _ to (λ m. from m.0 m.1) (Decides-or _ _ (meets_tells (output_of o.options) name) (among_tells os name))
+  where
+    to : Meets (output_of o.options) name ⊎ MeetsAt os name → MeetsAt (o ∷ os) name
+    to (inl m) = (0, m)
+    to (inr m) = (suc m.0, m.1)
+
+    from : (j : ℕ) → Meets (output_at (o ∷ os) j) name → Meets (output_of o.options) name ⊎ MeetsAt os name
+    from zero m = inl m
+    from (suc j) m = inr (j, m)
+
+named_tells : (os : List StageSpec) (i : ℕ) (here : Option (List ℕ)) → output_at os i ≡ here → Decides (is_among (take i os) here) (NamesAgain os i)
+named_tells os i None is = ((λ t. absurd (true≢false (sym t))), (λ n. absurd (nothing (sym is ∙ n.5))))
+named_tells os i (Some name) is = Decides-like _ to from (among_tells (take i os) name)
+  where
+    to : MeetsAt (take i os) name → NamesAgain os i
+    to m = let there = from_taken os i m.0 m.1.0 m.1.1 in (m.0, m.1.0, name, there.0, there.1, is, m.1.2)
+
+    from : NamesAgain os i → MeetsAt (take i os) name
+    from n = (n.0, (n.1, to_taken os i n.0 n.1 n.3 n.4, subst (MayMeet n.1) (same_name (sym n.5 ∙ is)) n.6))
+
+-- the test is true just where an earlier stage may come to write a file that stage i writes
+pub again_tells : (os : List StageSpec) (i : ℕ) → Decides (names_again os i) (NamesAgain os i)
+again_tells os i = named_tells os i (output_at os i) refl
 
 -- none before i writes again
 pub least : (os : List StageSpec) (i : ℕ) → ((k : ℕ) → k < i → NamesAgain os k → ⊥) → (k : ℕ) → NamesAgain os k → i ≤ k
@@ -56,18 +86,7 @@ one_more os i before here k below n =
     ⊎_elim (λ same. here (subst (λ x. NamesAgain os x) same n)) (λ lower. before k lower n) (eq-or-lt_of_le (omega (arith, below)))
 
 pub none_again : (os : List StageSpec) (i : ℕ) → length os ≤ i → ((k : ℕ) → k < i → NamesAgain os k → ⊥) → (k : ℕ) → NamesAgain os k → ⊥
-none_again os i all before k n = before k (omega (arith, all, within os k n.1 n.4)) n
-
--- no stage up to i writes this file
-pub none_more : (os : List StageSpec) (i : ℕ) (name : List ℕ) → ((j : ℕ) → j < i → output_at os j ≡ Some name → ⊥) → (output_at os i ≡ Some name → ⊥)
-    → (j : ℕ) → j < i + 1 → output_at os j ≡ Some name → ⊥
-none_more os i name before here j below h =
-    ⊎_elim (λ same. here (subst (λ x. output_at os x ≡ Some name) same h)) (λ lower. before j lower h) (eq-or-lt_of_le (omega (arith, below)))
-
--- a stage that writes another file is passed over
-pub among_next : (os : List StageSpec) (i : ℕ) (name : List ℕ) (s : StageSpec) → i < length os → get_or os i s ≡ s → is_name name (output_of s.options) ≡ false
-    → is_among (drop i os) (Some name) ≡ is_among (drop (i + 1) os) (Some name)
-among_next os i name s h e other = ap (λ ss. is_among ss (Some name)) (drop_next os i s h e) ∙ ap (λ b. b || is_among (drop (i + 1) os) (Some name)) other
+none_again os i all before k n = before k (omega (arith, all, within os k n.2 n.5)) n
 
 -- a number that passes is the first of those from it on
 pub found_here : (p : ℕ → Bool) (j n : ℕ) → j < n → p j ≡ true → find p (range_with_len j (n - j)) ≡ Some j

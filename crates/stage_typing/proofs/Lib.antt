@@ -1,4 +1,5 @@
 pub mod Again
+pub mod Alike
 pub mod Elements
 pub mod Keys
 pub mod Named

@@ -1,3 +1,4 @@
+pub mod Meeting
 pub mod OptionFaults
 pub mod Outputs
 pub mod Typed

@@ -1,6 +1,7 @@
 //! The members of a stage as its typed options, and the first fault of a tree's options.
 #![tactic(auto)]
 
+mod meeting;
 mod members;
 mod outputs;
 mod trees;

@@ -1,42 +1,36 @@
-//! Writers that name the same file.
+//! Writers that may come to write one file.
 
 ghost use Rattle.std.specs.Prelude.{◌≡◌, ◌<◌, ◌≤◌, ℕ, length, option_map, Some, IfSome, IsTrue, ◌↔◌};
-ghost use Rattle.stage_typing.specs.Outputs.{output_of, output_at, NamesAgain, is_name, is_among, names_again, same_output};
+ghost use Rattle.stage_typing.specs.Outputs.{output_of, NamesAgain, meets, is_among, names_again, same_output};
 
+use crate::meeting::may_meet;
 use stage_options::{Options, StageSpec};
 
-/// The name of the file that a stage writes.
+/// The name that a writer is given, with a `#` or without.
 fn output_of(options: &Options) -> Option<&str>
     ensures { option_map (λ s. s.now) result ≡ output_of options.now }
 {
-    options.role().target()
+    options.role().written()
 }
 
-/// Whether a stage writes the file of this name.
-fn is_output(stage: &StageSpec, name: &str) -> bool
-    ensures again { IsTrue result ↔ (output_of stage.now.options ≡ Some name.now) }
-    ensures value { result ≡ is_name name.now (output_of stage.now.options) }
+/// Whether a stage may come to write a file of this name.
+fn meets(stage: &StageSpec, name: &str) -> bool
+    ensures { result ≡ meets name.now (output_of stage.now.options) }
 {
     match output_of(&stage.options) {
-        Some(output) => output == name,
+        Some(output) => may_meet(output, name),
         None => false,
     }
 }
 
-/// Whether one of the stages writes the file of this name.
+/// Whether one of the stages may come to write a file of this name.
 fn is_among(stages: &[StageSpec], name: &str) -> bool
-    ensures again { IsTrue result ↔ ((j : ℕ) × (output_at stages.now j ≡ Some name.now)) }
-    ensures value { result ≡ is_among stages.now (Some name.now) }
+    ensures { result ≡ is_among stages.now (Some name.now) }
 {
-    for stage in stages {
-        if is_output(stage, name) {
-            return true;
-        }
-    }
-    false
+    stages.iter().any(|stage| meets(stage, name))
 }
 
-/// Whether an earlier stage writes the file that stage i writes.
+/// Whether stage i and an earlier one may come to write one file.
 fn names_again(stages: &[StageSpec], i: usize) -> bool
     requires { i < length stages.now }
     ensures again { IsTrue result ↔ NamesAgain stages.now i }
@@ -48,7 +42,8 @@ fn names_again(stages: &[StageSpec], i: usize) -> bool
     }
 }
 
-/// The number of the first stage whose file an earlier stage writes too.
+/// The number of the first stage that may come to write a file which an earlier stage writes: their names are equal, or a
+/// `#` of one or both stands for digits. None where there is no such stage.
 pub fn first_same_output(stages: &[StageSpec]) -> Option<usize>
     ensures value { result ≡ same_output stages.now }
     ensures found { IfSome result (NamesAgain stages.now) }

@@ -11,5 +11,5 @@ mod writer_where;
 
 pub use filter::Filter;
 pub use point_filter::PointFilter;
-pub use rules::{Condition, Crop, Decimation, Head, PointRule};
+pub use rules::{Condition, Crop, Decimation, Head, PointRule, passes};
 pub use writer_where::WriterWhere;

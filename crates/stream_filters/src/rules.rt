@@ -1,6 +1,6 @@
 //! What a filter does with a point that passes its `where`.
 
-ghost use Rattle.std.specs.Prelude.{◌≡◌, ◌≤◌, ℕ, Result, Ok, Err, OnOk, IfOk, IfErr, IfSome, length};
+ghost use Rattle.std.specs.Prelude.{◌≡◌, ◌≤◌, Result, Ok, Err, OnOk, IfOk, IfErr, IfSome, length};
 ghost use Rattle.stage_meanings.specs.Filters.{Rule, keeps};
 ghost use Rattle.stage_meanings.specs.ByRule.{judged};
 ghost use Rattle.geo_tests.specs.Tests.{different};
@@ -202,8 +202,8 @@ impl PointRule for Condition {
     }
 }
 
-/// Whether the point passes a `where`; where there is none, each does.
-pub(crate) fn passes(only: &Option<Bound>, p: &Point) -> Result<bool, Reason>
+/// Whether the point passes a `where`; where there is none, each does. It is refused exactly where the `where` has no value for it.
+pub fn passes(only: &Option<Bound>, p: &Point) -> Result<bool, Reason>
     ensures { result ≡ passes only.now p.now }
 {
     match only {

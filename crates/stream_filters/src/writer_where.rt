@@ -54,6 +54,13 @@ impl WriterWhere {
         self.only.as_ref()
     }
 
+    /// The `where`, with the rest dropped.
+    pub fn into_only(self) -> Option<Bound>
+        ensures { result ≡ self.only }
+    {
+        self.only
+    }
+
     /// The place of the first of at most 64 points at which the `where` has no value, and why it has none. Those before it for which
     /// it holds come in place of what `chosen` held.
     ///

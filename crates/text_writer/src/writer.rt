@@ -98,12 +98,21 @@ impl<K: Sink> TextWriter<K> {
     pub fn release(self) -> K
         ensures { result ≡ self.sink }
     {
+        self.into_parts().0
+    }
+
+    /// The sink, and the form of the file, with the writer ended.
+    pub fn into_parts(self) -> (K, TextForm)
+        ensures sink { result.0 ≡ self.sink }
+        ensures form { result.1 ≡ self.form }
+        ensures decided { IsTextForm result.1 }
+    {
         let TextWriter {
             sink,
-            form: _form,
+            form,
             buffer: _buffer,
         } = self;
-        sink
+        (sink, form)
     }
 }
 

@@ -7,7 +7,6 @@ use Rattle.cloud_points.specs.declared.point.Point.{Point}
 use Rattle.cloud_points.specs.declared.faults.StageFault.{StageFault}
 use Rattle.cloud_points.specs.Flows.{Flow}
 use Rattle.cloud_points.specs.Meaning.{Meaning, KeepsCutting}
-use Rattle.whole_filters.specs.declared.gathering.Gathering.{Gathering}
 use Rattle.view_works.specs.declared.collector.Collector.{Collector}
 
 -- the flow that it holds, or nothing once memory was wanting
@@ -27,7 +26,7 @@ with_cut None cut = None
 with_cut (Some f) cut = Some (record f { cut = f.cut || cut })
 
 -- it keeps all that it takes, beside what it is to make of that, and gives it on
-abbrev pub collecting : Meaning (Gathering × Held) Point StageFault
+abbrev pub collecting : {M : Type 0} → Meaning (M × Held) Point StageFault
 collecting = record {
   emit = λ s ps. ps;
   after = λ s ps. (s.0, with_more s.1 ps);
@@ -45,7 +44,7 @@ more-none : (s : Held) → with_more s [] ≡ s
 more-none None = refl
 more-none (Some f) = ap (λ ps. Some (record f { open_view = ps })) (append-nil f.open_view)
 
-pub collecting_keeps : KeepsCutting collecting
+pub collecting_keeps : {M : Type 0} → KeepsCutting (collecting {M = M})
 collecting_keeps = record {
   emits = λ s a b h. refl;
   goes_on = λ s a b h. ap (λ t. (s.0, t)) (more-more s.1 a b);
@@ -65,5 +64,5 @@ held true f = None
 held false f = Some f
 
 -- what it is to make, and what it holds
-abbrev pub state_of : Collector → Gathering × Held
-state_of c = (c.gathering, held c.short c.views)
+abbrev pub state_of : {M : Type 0} → Collector M → M × Held
+state_of c = (c.making, held c.short c.views)

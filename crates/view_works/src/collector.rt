@@ -2,18 +2,18 @@
 
 use cloud_points::{Layout, Spread};
 use std::alloc::Global;
-use whole_filters::{Gathering, Views};
+use whole_filters::Views;
 
-/// A stage that needs whole views, while it takes them: it keeps the flow, and gives it on. Where memory is wanting it notes that, and
-/// keeps nothing from then on.
+/// A stage that needs whole views, while it takes them: it keeps the flow, beside what it is to make of it, and gives it on. Where
+/// memory is wanting it notes that, and keeps nothing from then on.
 #[derive(Drop)]
-pub struct Collector {
-    gathering: Gathering,
+pub struct Collector<M> {
+    making: M,
     views: Views,
     short: bool,
 }
 
-impl Collector {
+impl<M> Collector<M> {
     ghost use Rattle.std.specs.Prelude.{◌≡◌, false, true, []};
     ghost use Rattle.cloud_points.specs.Events.{ran_short};
     ghost use Rattle.cloud_points.specs.Flows.{empty_flow};
@@ -21,13 +21,13 @@ impl Collector {
 
     /// One that holds nothing yet, of a stage that makes this of whole views. It keeps points in rows that have the
     /// dimensions of the layout.
-    pub fn new(alloc: Global, layout: &Layout, gathering: Gathering) -> Collector
+    pub fn new(alloc: Global, layout: &Layout, making: M) -> Collector<M>
         ensures views { result.views ≡ empty_flow }
         ensures short { result.short ≡ false }
-        ensures gathering { result.gathering ≡ gathering }
+        ensures making { result.making ≡ making }
     {
         Collector {
-            gathering,
+            making,
             views: Views::none(alloc, layout),
             short: false,
         }
@@ -39,6 +39,7 @@ impl Collector {
             → state_of self.new ≡ collecting.after (state_of self.old) points.old.items }
         ensures points { ran_short self.old.short self.new.short ≡ false → points.new.items ≡ points.old.items }
         ensures event { ran_short self.old.short self.new.short ≡ true → points.new.items ≡ [] }
+        ensures making { self.new.making ≡ self.old.making }
         ensures stays_short { self.old.short ≡ true → self.new.short ≡ true }
     {
         if self.short {
@@ -54,6 +55,7 @@ impl Collector {
     pub fn on_end_view(&mut self)
         ensures state { ran_short self.old.short self.new.short ≡ false
             → state_of self.new ≡ (collecting.at_view (state_of self.old)).0 }
+        ensures making { self.new.making ≡ self.old.making }
         ensures stays_short { self.old.short ≡ true → self.new.short ≡ true }
     {
         if !self.short && self.views.end_view().is_err() {
@@ -64,18 +66,12 @@ impl Collector {
     /// Notes whether the flow, which has ended, is cut.
     pub fn on_end(&mut self, cut: bool)
         ensures state { state_of self.new ≡ (collecting.at_end (state_of self.old) cut).0 }
+        ensures making { self.new.making ≡ self.old.making }
         ensures stays_short { self.new.short ≡ self.old.short }
     {
         if cut {
             self.views.set_cut();
         }
-    }
-
-    /// What the stage makes of whole views.
-    pub fn gathering(&self) -> Gathering
-        ensures { result ≡ self.now.gathering }
-    {
-        self.gathering
     }
 
     /// Whether memory was wanting.
@@ -85,10 +81,16 @@ impl Collector {
         self.short
     }
 
-    /// The flow that it took; None exactly where memory was wanting as it came.
-    pub fn into_views(self) -> Option<Views>
-        ensures { result ≡ held self.short self.views }
+    /// What the stage is to make of whole views, and the flow that it took; None exactly where memory was wanting as it came.
+    pub fn into_parts(self) -> (M, Option<Views>)
+        ensures making { result.0 ≡ self.making }
+        ensures views { result.1 ≡ held self.short self.views }
     {
-        if self.short { None } else { Some(self.views) }
+        let Collector {
+            making,
+            views,
+            short,
+        } = self;
+        (making, if short { None } else { Some(views) })
     }
 }

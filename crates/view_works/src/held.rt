@@ -9,13 +9,15 @@ use whole_filters::Views;
 /// So many points of a view are given before their memory is let go.
 const MOST_GIVEN: usize = 4096;
 
-/// A leaf that gives the views that it holds, and then their end, which is cut where they are.
+/// A leaf that gives the views that it holds, and then their end, which is cut where they are. It lets go of what it gave, unless it
+/// keeps all.
 #[derive(Drop)]
 pub struct HeldViews {
     views: Views,
     view: usize,
     at: usize,
     ended: bool,
+    keeps: bool,
     ghost within: { view ≤ length views.views },
     ghost placed: { at ≤ length (view_at views view) },
 }
@@ -23,24 +25,60 @@ pub struct HeldViews {
 impl HeldViews {
     ghost use Rattle.std.specs.Prelude.{◌≡◌, ◌+◌, ◌-◌, ◌<◌, ◌≤◌, ◌++◌, [], true, false, None, min, length, take, drop};
     ghost use Rattle.arrayvec.specs.ArrayVec.{array_vec_len};
-    ghost use Rattle.cloud_points.specs.Makes.{made, made_fault, gives_points, gives_end};
+    ghost use Rattle.cloud_points.specs.Makes.{made, made_fault, gives_points, gives_end, ends_cut};
     ghost use Rattle.cloud_points.specs.declared.faults.Make.{Make};
     ghost use Rattle.cloud_points.specs.Marks.{flow_marks, marks, views_in};
     ghost use Rattle.network_theory.specs.Net.{count_views, count_points};
     ghost use Rattle.view_works.specs.Giving.{left_of};
     ghost use Rattle.whole_filters.specs.Held.{view_at};
 
-    /// One that gives all of these views.
+    /// One that gives all of these views, and lets go of what it gave.
     pub fn new(views: Views) -> HeldViews
         ensures gives { left_of result ≡ flow_marks views }
         ensures begins { result.ended ≡ false }
+    {
+        HeldViews::begin(views, false)
+    }
+
+    /// One that gives all of these views, and keeps them.
+    pub fn keeping(views: Views) -> HeldViews
+        ensures gives { left_of result ≡ flow_marks views }
+        ensures begins { result.ended ≡ false }
+        ensures keeps { result.keeps ≡ true }
+        ensures views { result.views ≡ views }
+    {
+        HeldViews::begin(views, true)
+    }
+
+    /// One before all of these views.
+    fn begin(views: Views, keeps: bool) -> HeldViews
+        ensures gives { left_of result ≡ flow_marks views }
+        ensures begins { result.ended ≡ false }
+        ensures keeps { result.keeps ≡ keeps }
+        ensures views { result.views ≡ views }
     {
         HeldViews {
             views,
             view: 0,
             at: 0,
             ended: false,
+            keeps,
         }
+    }
+
+    /// The views that it holds: all of them where it keeps them.
+    pub fn views(&self) -> &Views
+        ensures { result.now ≡ self.now.views }
+    {
+        &self.views
+    }
+
+    /// The same views, with the leaf ended.
+    pub fn into_views(self) -> Views
+        ensures { result ≡ self.views }
+    {
+        let HeldViews { views, .. } = self;
+        views
     }
 
     /// Puts the next 1 to `chunk` points in place of what the spread held, or answers an end and leaves the spread empty: that of a
@@ -52,6 +90,7 @@ impl HeldViews {
         ensures most { array_vec_len into.new ≤ chunk }
         ensures empty { gives_points result ≡ false → into.new.items ≡ [] }
         ensures no_fault { made_fault result ≡ None }
+        ensures cut { gives_end result ≡ true → ends_cut result ≡ self.old.views.cut }
         ensures part { self.old.ended ≡ false → left_of self.old
             ≡ marks (made result into.new.items) ++ left_of self.new }
         ensures ended { gives_end result ≡ true → self.new.ended ≡ true }
@@ -62,12 +101,14 @@ impl HeldViews {
             ≤ count_points (left_of self.old) }
         ensures fewer_views { count_views (left_of self.new) + views_in (made result into.new.items)
             ≤ count_views (left_of self.old) }
+        ensures keeps { self.new.keeps ≡ self.old.keeps }
+        ensures kept { self.old.keeps ≡ true → self.new.views ≡ self.old.views }
     {
         if self.ended {
             into.clear();
             return Make::End(self.views.is_cut(), None);
         }
-        if self.at >= MOST_GIVEN || self.is_view_given() {
+        if !self.keeps && (self.at >= MOST_GIVEN || self.is_view_given()) {
             self.let_go();
         }
         self.give(chunk, into)
@@ -80,9 +121,10 @@ impl HeldViews {
 
     /// Lets go of the points that were given of the current view.
     fn let_go(&mut self)
-        ensures gives { left_of self.new
-            ≡ left_of self.old }
+        ensures gives { left_of self.new ≡ left_of self.old }
+        ensures cut { self.new.views.cut ≡ self.old.views.cut }
         ensures ended { self.new.ended ≡ self.old.ended }
+        ensures keeps { self.new.keeps ≡ self.old.keeps }
     {
         self.views.let_go(self.view, self.at);
         self.at = 0;
@@ -98,6 +140,7 @@ impl HeldViews {
         ensures most { array_vec_len into.new ≤ chunk }
         ensures empty { gives_points result ≡ false → into.new.items ≡ [] }
         ensures no_fault { made_fault result ≡ None }
+        ensures cut { gives_end result ≡ true → ends_cut result ≡ self.old.views.cut }
         ensures part { left_of self.old
             ≡ marks (made result into.new.items) ++ left_of self.new }
         ensures ended { gives_end result ≡ true → self.new.ended ≡ true }
@@ -105,9 +148,10 @@ impl HeldViews {
         ensures fewer_points { count_points (left_of self.new)
             + array_vec_len into.new
             ≤ count_points (left_of self.old) }
-        ensures fewer_views { count_views (left_of self.new)
-            + views_in (made result into.new.items)
+        ensures fewer_views { count_views (left_of self.new) + views_in (made result into.new.items)
             ≤ count_views (left_of self.old) }
+        ensures keeps { self.new.keeps ≡ self.old.keeps }
+        ensures views { self.new.views ≡ self.old.views }
     {
         let next = self.lay(chunk, into);
         if next > self.at {

@@ -135,9 +135,9 @@ pub an_input_taken_twice : stages_in (codes "[{\"filename\":\"in.las\",\"tag\":\
 unfolding is_utf8 chars encode value punctuate lex content kind_named
 an_input_taken_twice = refl
 
-pub a_numbered_name : stages_in (codes "[\"in.las\",\"o#.txt\"]") ≡ Err (Pipeline (OptionValue 1 (codes "filename")))
+pub two_number_signs : stages_in (codes "[\"in.las\",\"o##.txt\"]") ≡ Err (Pipeline (OptionValue 1 (codes "filename")))
 unfolding is_utf8 chars encode value punctuate lex content
-a_numbered_name = refl
+two_number_signs = refl
 
 pub an_unknown_option : stages_in (codes "[\"in.las\",{\"type\":\"filters.head\",\"cuont\":1},\"o.txt\"]") ≡ Err (Pipeline (OptionUnknown 1 (codes "cuont")))
 unfolding is_utf8 chars encode value punctuate lex content word after_number number_of scan_numeral kind_named

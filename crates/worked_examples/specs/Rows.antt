@@ -130,7 +130,7 @@ run_p_in_pieces = codes "run" ∷ codes "p.json" ∷ codes "--chunk" ∷ codes "
 
 abbrev pub two_points : Run
 two_points = record {
-  outputs = record { stage = 1; name = codes "o.txt"; bytes = codes "\"X\",\"Y\",\"Z\"\n1.000,2.000,3.000\n-0.010,0.000,0.050\n" } ∷ [];
+  outputs = record { stage = 1; view = None; name = codes "o.txt"; bytes = codes "\"X\",\"Y\",\"Z\"\n1.000,2.000,3.000\n-0.010,0.000,0.050\n" } ∷ [];
   report = codes "stage 0 readers.las views 1 points 2\nstage 1 writers.text views 1 points 2 wrote 2\noutputs 1\n";
 }
 
@@ -143,31 +143,31 @@ second_absent = codes "[\"in.las\",\"b.las\",\"o.txt\"]"
 
 abbrev pub two_points_twice : Run
 two_points_twice = record {
-  outputs = record { stage = 2; name = codes "o.txt"; bytes = codes "\"X\",\"Y\",\"Z\"\n1.000,2.000,3.000\n-0.010,0.000,0.050\n1.000,2.000,3.000\n-0.010,0.000,0.050\n" } ∷ [];
+  outputs = record { stage = 2; view = None; name = codes "o.txt"; bytes = codes "\"X\",\"Y\",\"Z\"\n1.000,2.000,3.000\n-0.010,0.000,0.050\n1.000,2.000,3.000\n-0.010,0.000,0.050\n" } ∷ [];
   report = codes "stage 0 readers.las views 1 points 2\nstage 1 readers.las views 1 points 2\nstage 2 writers.text views 2 points 4 wrote 4\noutputs 1\n";
 }
 
 abbrev pub far_point : Run
 far_point = record {
-  outputs = record { stage = 1; name = codes "o.txt"; bytes = codes "\"X\",\"Y\",\"Z\"\n3147483646.000,0.000,0.000\n" } ∷ [];
+  outputs = record { stage = 1; view = None; name = codes "o.txt"; bytes = codes "\"X\",\"Y\",\"Z\"\n3147483646.000,0.000,0.000\n" } ∷ [];
   report = codes "stage 0 readers.las views 1 points 1\nstage 1 writers.text views 1 points 1 wrote 1\noutputs 1\n";
 }
 
 abbrev pub no_points : Run
 no_points = record {
-  outputs = record { stage = 1; name = codes "o.txt"; bytes = codes "\"X\",\"Y\",\"Z\"\n" } ∷ [];
+  outputs = record { stage = 1; view = None; name = codes "o.txt"; bytes = codes "\"X\",\"Y\",\"Z\"\n" } ∷ [];
   report = codes "stage 0 readers.las views 1 points 0\nstage 1 writers.text views 1 points 0 wrote 0\noutputs 1\n";
 }
 
 abbrev pub first_point : Run
 first_point = record {
-  outputs = record { stage = 2; name = codes "o.txt"; bytes = codes "\"X\",\"Y\",\"Z\"\n1.000,2.000,3.000\n" } ∷ [];
+  outputs = record { stage = 2; view = None; name = codes "o.txt"; bytes = codes "\"X\",\"Y\",\"Z\"\n1.000,2.000,3.000\n" } ∷ [];
   report = codes "stage 0 readers.las views 1 points 2\nstage 1 filters.head views 1 points 1\nstage 2 writers.text views 1 points 1 wrote 1\noutputs 1\n";
 }
 
 abbrev pub none_pass : Run
 none_pass = record {
-  outputs = record { stage = 2; name = codes "o.txt"; bytes = codes "\"X\",\"Y\",\"Z\"\n" } ∷ [];
+  outputs = record { stage = 2; view = None; name = codes "o.txt"; bytes = codes "\"X\",\"Y\",\"Z\"\n" } ∷ [];
   report = codes "stage 0 readers.las views 1 points 2\nstage 1 filters.head views 1 points 0\nstage 2 writers.text views 1 points 0 wrote 0\noutputs 1\n";
 }
 
@@ -176,8 +176,8 @@ only_read = record { outputs = []; report = codes "stage 0 readers.las views 1 p
 
 abbrev pub all_and_first : Run
 all_and_first = record {
-  outputs = record { stage = 1; name = codes "all.txt"; bytes = codes "\"X\",\"Y\",\"Z\"\n1.000,2.000,3.000\n-0.010,0.000,0.050\n" }
-      ∷ record { stage = 3; name = codes "o.txt"; bytes = codes "\"X\",\"Y\",\"Z\"\n1.000,2.000,3.000\n" }
+  outputs = record { stage = 1; view = None; name = codes "all.txt"; bytes = codes "\"X\",\"Y\",\"Z\"\n1.000,2.000,3.000\n-0.010,0.000,0.050\n" }
+      ∷ record { stage = 3; view = None; name = codes "o.txt"; bytes = codes "\"X\",\"Y\",\"Z\"\n1.000,2.000,3.000\n" }
       ∷ [];
   report = codes "stage 0 readers.las views 1 points 2\nstage 1 writers.text views 1 points 2 wrote 2\nstage 2 filters.head views 1 points 1\nstage 3 writers.text views 1 points 1 wrote 1\noutputs 2\n";
 }

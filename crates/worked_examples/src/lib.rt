@@ -84,7 +84,7 @@ pub fn pipelines_are_refused()
     ensures a_tag_twice { answer run_p (files_with (codes "[{\"filename\":\"in.las\",\"tag\":\"a\"},{\"type\":\"filters.head\",\"tag\":\"a\"},\"o.txt\"]") file_a) ≡ Err (Refusal.Pipeline (PipeFault.TagTwice 1)) }
     ensures an_unknown_tag { answer run_p (files_with (codes "[{\"filename\":\"in.las\",\"tag\":\"a\"},{\"filename\":\"o.txt\",\"inputs\":[\"b\"]}]") file_a) ≡ Err (Refusal.Pipeline (PipeFault.TagUnknown 1)) }
     ensures an_input_taken_twice { answer run_p (files_with (codes "[{\"filename\":\"in.las\",\"tag\":\"a\"},{\"type\":\"filters.head\",\"inputs\":[\"a\"]},{\"filename\":\"o.txt\",\"inputs\":[\"a\"]}]") file_a) ≡ Err (Refusal.Pipeline (PipeFault.UsedTwice 2)) }
-    ensures a_numbered_name { answer run_p (files_with (codes "[\"in.las\",\"o#.txt\"]") file_a) ≡ Err (Refusal.Pipeline (PipeFault.OptionValue 1 (codes "filename"))) }
+    ensures two_number_signs { answer run_p (files_with (codes "[\"in.las\",\"o##.txt\"]") file_a) ≡ Err (Refusal.Pipeline (PipeFault.OptionValue 1 (codes "filename"))) }
     ensures an_unknown_option { answer run_p (files_with (codes "[\"in.las\",{\"type\":\"filters.head\",\"cuont\":1},\"o.txt\"]") file_a) ≡ Err (Refusal.Pipeline (PipeFault.OptionUnknown 1 (codes "cuont"))) }
     ensures a_count_too_large { answer run_p (files_with (codes "[\"in.las\",{\"type\":\"filters.head\",\"count\":4294967296},\"o.txt\"]") file_a) ≡ Err (Refusal.Pipeline (PipeFault.OptionValue 1 (codes "count"))) }
     ensures two_writers_of_a_name { answer run_p (files_with (codes "[\"in.las\",{\"type\":\"writers.text\",\"filename\":\"o.txt\"},\"o.txt\"]") file_a) ≡ Err (Refusal.Pipeline (PipeFault.SameOutput 2)) }

@@ -36,11 +36,11 @@ returns-in-Gathers-clause-ok g c =
     let map = g.F.Files.map c.args.files.now in
     let o = c.args.stage.now.options in
     let w = c.new.result in
-    let does : role_of o ≡ role.Gathers = subst (IsForm (role_of o)) c.in-Gathers.is c.requires.form in
+    let does = subst (IsForm (role_of o)) c.in-Gathers.is c.requires.form in
     subst (λ r. IsWork s k map c.args.number o r c.args.form (Collector w)) (sym c.in_default.is)
-    (other-work s k map c.args.number o c.args.form (Collector w) (ap is_reading does) (sym (ap op_for does))
+    (other-work s k map c.args.number o c.args.form (Collector w) does.1 (sym does.0)
     (λ setting e. subst (λ form. IsStarted {S = g.row.F-In.Denot} k.bytes form (Collector w)) (sym c.in-Gathers.is ∙ e)
-    (record { gathering = c.new.ensures.gathering; short = c.new.ensures.short; views = c.new.ensures.views })))
+    (record { makes = c.new.ensures.making; short = c.new.ensures.short; views = c.new.ensures.views })))
 
 pub returns-in-Gathers-clause-lent_ok : goal.returns-in-Gathers-clause-lent_ok
 returns-in-Gathers-clause-lent_ok g c = let nothing = ap there c.in_default.is in omega (arith, nothing)

@@ -8,7 +8,7 @@ use Rattle.cloud_points.specs.Events.{is_device}
 use Rattle.cloud_points.specs.Flows.{join_all}
 use Rattle.pipeline_json.specs.Lists.{has, times}
 use Rattle.stage_kinds.specs.Held.{faults_of}
-use Rattle.stage_kinds.specs.Stages.{written_by}
+use Rattle.stage_kinds.specs.Stages.{files_by, written_by}
 use Rattle.stage_options.specs.declared.stage.StageSpec.{StageSpec}
 use Rattle.run_outcome.specs.Faults.{NoneFailed, fault_at}
 use Rattle.set_engine.specs.Evaluated.{AreCaused}
@@ -29,7 +29,7 @@ loop-i-init g c = record {
   after = all-stay (faults_of g.S.Source.faults g.K.Sink.faults) c.args.works.now;
   rest = λ j le. refl;
   caused = λ j o e. absurd (let none = sym (ap (λ found. fault_at found j) c.new-faults.ensures) ∙ e in cc);
-  up_to = λ none opened told. (rw (c.in_ok-values.ensures.items, c.new-report.ensures, c.new-faults.ensures) (none-yet g.K.Sink.bytes c.args.stages.now c.requires.tree opened c.args.works.now));
+  up_to = λ none opened told. (rw (c.in_ok-values.ensures.items, c.new-report.ensures, c.new-faults.ensures) (none-yet g.K.Sink.bytes c.args.stages.now c.requires.tree opened c.args.works.now c.args.works.now));
 }
 
 pub take_joined-requires-clause-inside : goal.take_joined-requires-clause-inside
@@ -104,15 +104,17 @@ loop-i-preserved g c =
     c.in_ok-taken.ensures.joined ∙ ap (λ vs. join_all (map (value_in vs) c.as_slice-inputs.result.now)) c.as_mut_slice.ensures.value ∙ ap (λ js. join_all (map (value_in values) js)) (sym ins) in
     let t = c.index-stages-i-in-loop-i.result in
     let there-now : slice_get stages i ≡ Some t = slice_get_read stages (length stages) i t refl lt c.index-stages-i-in-loop-i.is in
-    let wrote : c.written.result ≡ written_by w = c.written.ensures ∙ ap written_by (get_or-set_same works i w _ inside-works) in
-    let counted : c.push.new.self.items ≡ c.loop-i.report.items ++ count_for i t given.views (written_by w) ∷ [] =
-    c.push.ensures.items ∙ ap (λ x. c.loop-i.report.items ++ x ∷ []) (c.stage_count.ensures ∙ ap (count_for i t given.views) wrote) in
+    let here = get_or-set_same works i w _ inside-works in
+    let wrote : c.written.result ≡ written_by w = c.written.ensures ∙ ap written_by here in
+    let files : c.files.result ≡ files_by w = c.files.ensures ∙ ap files_by here in
+    let counted : c.push.new.self.items ≡ c.loop-i.report.items ++ count_for i t given.views (written_by w) (files_by w) ∷ [] =
+    c.push.ensures.items ∙ ap (λ x. c.loop-i.report.items ++ x ∷ []) (c.stage_count-count.ensures ∙ ap (λ o. count_for i t given.views o c.files.result) wrote ∙ ap (count_for i t given.views (written_by w)) files) in
     let told : c.push-in-loop-i.new.self.items ≡ found ++ given.fault ∷ [] = c.push-in-loop-i.ensures.items in
     let left : length c.take_joined.new.values ≡ i = (let a = c.take_joined.auto.values in let b = ap (λ xs. length xs) c.as_mut_slice.ensures.value in omega (arith, a, b, size)) in
     record {
       values = (let a = c.push_reserved.ensures.len in let b = now.values in omega (arith, a, b));
       room = (let a = c.push_reserved.ensures.capacity in let b = now.room in omega (arith, a, b));
-      counts = ap length c.push.ensures.items ∙ length-append c.loop-i.report.items (c.stage_count.result ∷ []) ∙ ap (λ n. n + 1) now.counts;
+      counts = ap length c.push.ensures.items ∙ length-append c.loop-i.report.items (c.stage_count-count.result ∷ []) ∙ ap (λ n. n + 1) now.counts;
       told = ap length told ∙ length-append found (given.fault ∷ []) ∙ ap (λ n. n + 1) now.told;
       after = one-later faults old works i v w now.after at c.stage_views.ensures.after;
       rest = λ j le. stays-elsewhere works i j w (λ e. absurd (omega (arith, le, e))) ∙ now.rest j (omega (arith, le));
@@ -121,11 +123,12 @@ loop-i-preserved g c =
           let calm = none-with found given.fault (subst NoneFailed told none) in
           let gave : IsGivenBy g.K.Sink.bytes (role_at stages i) (row_at stages opened i) (opened i).las c.in_ok-taken.taken w given =
           c.in_ok-views.ensures.ok calm.1 (role_at stages i) (row_at stages opened i) (opened i).las (all-fit g.S.Source g.K.Sink.bytes stages old c.requires.starts opened tell i v was) (las-told g.S.Source old opened i v tell was) in
-          one-more g.K.Sink.bytes stages c.requires.tree opened i lt values c.loop-i.report.items found works (now.up_to calm.0 opened tell) size t there-now c.in_ok-taken.taken input w given gave
+          one-more g.K.Sink.bytes stages c.requires.tree opened old i lt values c.loop-i.report.items found works (now.up_to calm.0 opened tell) size t there-now c.in_ok-taken.taken input w given gave
           c.take_joined.new.values c.push_reserved.new.self.items c.push.new.self.items c.push-in-loop-i.new.self.items (set works i w) left
           (λ j away. c.in_ok-taken.ensures.others j (ap (λ js. has js j) (sym ins) ∙ away) ∙ ap (λ vs. slice_get vs j) c.as_mut_slice.ensures.value)
           (c.push_reserved.ensures.items ∙ ap (λ vs. vs ++ given.views ∷ []) (front c.take_joined.new.values (drop (length c.take_joined.new.values) values) c.loop-i.values.len (left ∙ sym now.values)))
-          now.counts counted now.told told (put-there works i w inside-works) (λ j l. stays-elsewhere works i j w (λ e. absurd (omega (arith, l, e))));
+          now.counts counted now.told told (put-there works i w inside-works) (λ j l. stays-elsewhere works i j w (λ e. absurd (omega (arith, l, e))))
+          v was c.in_ok-views.ensures.keeps;
     }
 
 pub returns-in_err-taken-clause-later : goal.returns-in_err-taken-clause-later
@@ -151,5 +154,5 @@ returns-clause-ended g c =
       caused = now.caused;
       faulty = λ none opened tell i lt. (now.up_to none opened tell).faults i (omega (arith, all, lt));
       sound = λ quiet opened tell. came s k.bytes stages old c.requires.starts (faults_of s.faults k.faults) works now.after opened counts tell
-          (all-done k.bytes stages c.requires.tree opened c.loop-i.i c.loop-i.values.items counts found works all now.counts size (now.up_to (λ j. ap is_device (quiet j)) opened tell) quiet);
+          (all-done k.bytes stages c.requires.tree opened old c.loop-i.i c.loop-i.values.items counts found works all now.counts size (now.up_to (λ j. ap is_device (quiet j)) opened tell) quiet);
     }

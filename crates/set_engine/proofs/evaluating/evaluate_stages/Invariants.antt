@@ -22,5 +22,5 @@ invariant-loop-i g l =
       after : AreAfter faults l.fn.works l.works;
       rest : (j : ℕ) → l.i ≤ j → slice_get l.works j ≡ slice_get l.fn.works j;
       caused : AreCaused faults l.fn.works l.works found;
-      up_to : NoneFailed found → (opened : Opened) → AreTold g.S.Source l.fn.works opened → AreUpTo g.K.Sink.bytes l.stages opened l.i l.values.items l.report.items found l.works;
+      up_to : NoneFailed found → (opened : Opened) → AreTold g.S.Source l.fn.works opened → AreUpTo g.K.Sink.bytes l.stages opened l.fn.works l.i l.values.items l.report.items found l.works;
     }

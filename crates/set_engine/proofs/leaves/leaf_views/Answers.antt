@@ -9,6 +9,7 @@ giving-preserved g c =
     record {
       leaf = c.make.ensures.leaf ∙ now.leaf;
       op = c.make.ensures.op ∙ now.op;
+      meaning = c.make.ensures.meaning ∙ now.meaning;
       later = (let a = c.make.ensures.count in let b = now.later in omega (arith, a, b));
       tells = λ t. c.in-EndView.ensures.tells (now.tells t) refl refl;
       told = λ t. more_views c.giving.views c.end_view.new.self (work.told c.args.leaf.now) (work.told c.make.new.self) (work.told c.giving.leaf) (now.told t)

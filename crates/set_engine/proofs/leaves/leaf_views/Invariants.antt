@@ -9,6 +9,7 @@ invariant-giving g l =
     record {
       leaf : work.leaf l.leaf ≡ true;
       op : work.op l.leaf ≡ work.op l.fn.leaf;
+      meaning : work.meaning l.leaf ≡ work.meaning l.fn.leaf;
       later : work.faults l.fn.leaf ≤ work.faults l.leaf;
       tells : work.tells l.fn.leaf ≡ true → work.tells l.leaf ≡ true;
       told : work.tells l.fn.leaf ≡ true → work.told l.fn.leaf ≡ piece_marks l.views ++ work.told l.leaf;

@@ -1,12 +1,18 @@
 use Rattle.std.proofs.Common.{◌≡◌, true, ap, inl, inr}
 use Rattle.stage_kinds.specs.Stages.{is_leaf}
-use Rattle.set_engine.proofs.StageGiving.{writer-gave, leaf-gave}
+use Rattle.set_engine.proofs.StageGiving.{writer-gave, leaf-gave, leaf-kept}
 use Rattle.set_engine.proofs.stages.stage_views.Goals as goal
 
 pub returns-in-Reader-clause-ok : goal.returns-in-Reader-clause-ok
 returns-in-Reader-clause-ok g c =
-    let leaf : is_leaf c.args.work.now ≡ true = elim c.in-Reader.is [ inl r ↦ ap is_leaf r.1 | inr h ↦ ap is_leaf h.1 ] in
-    leaf-gave g.S.Source.bytes g.K.Sink.bytes c.args.taken c.args.work.now c.leaf_views.new.leaf c.leaf_views.result leaf c.leaf_views.ensures.leaf c.leaf_views.ensures.ok c.leaf_views.ensures.fault
+    let leaf : is_leaf c.args.work.now ≡ true = elim c.in-Reader.is [ inl r ↦ ap is_leaf r.1 | inr (inl h) ↦ ap is_leaf h.1 | inr (inr t) ↦ ap is_leaf t.1 ] in
+    let ensures = c.leaf_views.ensures in
+    leaf-gave g.S.Source.bytes g.K.Sink.bytes c.args.taken c.args.work.now c.leaf_views.new.leaf c.leaf_views.result leaf ensures.leaf ensures.meaning ensures.ok ensures.fault
+
+pub returns-in-Reader-clause-keeps : goal.returns-in-Reader-clause-keeps
+returns-in-Reader-clause-keeps g c =
+    let leaf : is_leaf c.args.work.now ≡ true = elim c.in-Reader.is [ inl r ↦ ap is_leaf r.1 | inr (inl h) ↦ ap is_leaf h.1 | inr (inr t) ↦ ap is_leaf t.1 ] in
+    leaf-kept c.args.work.now c.leaf_views.new.leaf c.leaf_views.result leaf c.leaf_views.ensures.meaning
 
 pub returns-in-Writer-clause-ok : goal.returns-in-Writer-clause-ok
 returns-in-Writer-clause-ok g c =

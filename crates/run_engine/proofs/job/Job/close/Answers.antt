@@ -1,4 +1,4 @@
-use Rattle.std.proofs.Common.{◌≡◌, ◌+◌, length, Err, refl, ap, sym, subst, ◌∙◌, arith, inl, inr}
+use Rattle.std.proofs.Common.{◌≡◌, ◌+◌, Err, refl, ap, sym, subst, ◌∙◌, arith, inl, inr}
 use Rattle.std.specs.Prelude.{None, Some}
 use Rattle.file_devices.specs.Counts.{Rose}
 use Rattle.stage_kinds.specs.Held.{faults_of}
@@ -9,14 +9,13 @@ use Rattle.run_outcome.specs.Outcomes.{refusal_for}
 use Rattle.run_outcome.proofs.Outcomes.{not-refused}
 use Rattle.run_outcome.proofs.Results.{on-ok, err-of}
 use Rattle.run_ending.specs.Finished.{IsUnfinished}
-use Rattle.run_ending.specs.Keeping.{BrokeOff}
+use Rattle.run_ending.specs.All.{IsUnkept}
 use Rattle.run_report.specs.declared.refusal.Place.TheVariants.{Stage}
 use Rattle.run_report.specs.declared.refusal.Refusal.TheVariants.{Device}
-use Rattle.run_ending.proofs.Keeping.{untold-kept, untold-broke}
 use Rattle.run_engine.specs.Blame.{IsBlamed}
 use Rattle.run_engine.specs.Done.{AreDone}
 use Rattle.run_engine.specs.Jobs.{HaveCome, CameTo}
-use Rattle.run_engine.proofs.Blamed.{failed-first, failed-finish, failed-keep}
+use Rattle.run_engine.proofs.Blamed.{failed-first, failed-finish, failed-all}
 use Rattle.run_engine.proofs.Ran.{later-on, done-on}
 use Rattle.run_engine.proofs.Answers.{early-left, fault-cause, fault-early, unfinished-to-cause, unfinished-early, same-held, fit, is-run, unkept-cause, unkept-left}
 use Rattle.run_engine.proofs.job.Job.close.Goals as goal
@@ -99,8 +98,8 @@ returns-in-Err-outcome-clause-refused g c = λ refusal came.
     let no : None ≡ Some refusal = sym none ∙ met in
     absurd cc
 
-pub keep_works-requires-clause-fit : goal.keep_works-requires-clause-fit
-keep_works-requires-clause-fit g c =
+pub keep_all-requires-clause-fit : goal.keep_all-requires-clause-fit
+keep_all-requires-clause-fit g c =
     let s = g.S.Source in
     let k = g.K.Sink in
     let files = g.F.Files in
@@ -112,8 +111,8 @@ keep_works-requires-clause-fit g c =
     let ran = c.requires.ran.1 in
     fit s k first stages ran.before done ran.ready faults (later-on faults ran.before works done ran.later c.finish-works.ensures.later)
 
-pub returns-in-Err-keep_works-clause-err : goal.returns-in-Err-keep_works-clause-err
-returns-in-Err-keep_works-clause-err g c = λ first ran.
+pub returns-in-Err-keep_all-clause-err : goal.returns-in-Err-keep_all-clause-err
+returns-in-Err-keep_all-clause-err g c = λ first ran.
     let s = g.S.Source in
     let k = g.K.Sink in
     let files = g.F.Files in
@@ -121,19 +120,19 @@ returns-in-Err-keep_works-clause-err g c = λ first ran.
     let faults = faults_of s.faults k.faults in
     let works = c.args.self.works.items in
     let done = c.finish-works.result.works.items in
-    let why = c.in-Err-keep_works.refusal in
-    let rose = Rose (files.faults c.args.files.now) (files.faults c.keep_works.new.files) in
+    let why = c.in-Err-keep_all.refusal in
+    let rose = Rose (files.faults c.args.files.now) (files.faults c.keep_all.new.files) in
     let came = subst (HaveCome s k stages ran.before works) c.in-Done.is ran.came in
     let none : refusal_for c.in-Done.ended.faults.items ≡ None = subst (λ fs. refusal_for fs ≡ None) c.as_slice.ensures.value c.in_default.ensures.ok in
     let sound = not-refused c.in-Done.ended.faults.items none in
     let later = later-on faults ran.before works done ran.later c.finish-works.ensures.later in
     let counts = c.in-Done.ended.report.items in
     let ended : (opened : Opened) → AreTold s ran.before opened → AreDone k.bytes stages opened done counts = λ opened tell.
-    done-on faults ran.before works done ran.later c.finish-works.ensures.later k.bytes stages opened counts (on-ok c.finish-works.result.outcome c.in_default-outcome.field-0 c.in_default-outcome.is c.finish-works.ensures.finished) (came.sound sound opened tell) in
-    unkept-cause s k first stages ran.before done ran.ready faults later counts ended rose (files.map c.args.files.now) (files.map c.keep_works.new.files) why c.in-Err-keep_works.ensures.err
+    done-on faults ran.before works done ran.later c.finish-works.ensures.later k.bytes stages opened counts (on-ok c.finish-works.result.outcome c.in_default-outcome.field-0 c.in_default-outcome.is c.finish-works.ensures.finished) c.finish-works.ensures.kept (came.sound sound opened tell) in
+    unkept-cause s k first stages ran.before done ran.ready faults later counts ended rose (files.map c.args.files.now) (files.map c.keep_all.new.files) why c.in-Err-keep_all.ensures.err
 
-pub returns-in-Err-keep_works-clause-left : goal.returns-in-Err-keep_works-clause-left
-returns-in-Err-keep_works-clause-left g c = λ m ran.
+pub returns-in-Err-keep_all-clause-left : goal.returns-in-Err-keep_all-clause-left
+returns-in-Err-keep_all-clause-left g c = λ m ran.
     let s = g.S.Source in
     let k = g.K.Sink in
     let files = g.F.Files in
@@ -141,43 +140,34 @@ returns-in-Err-keep_works-clause-left g c = λ m ran.
     let faults = faults_of s.faults k.faults in
     let works = c.args.self.works.items in
     let done = c.finish-works.result.works.items in
-    let why = c.in-Err-keep_works.refusal in
+    let why = c.in-Err-keep_all.refusal in
     let old = files.map c.args.files.now in
-    let new = files.map c.keep_works.new.files in
+    let new = files.map c.keep_all.new.files in
     let came = subst (HaveCome s k stages ran.before works) c.in-Done.is ran.came in
     let none : refusal_for c.in-Done.ended.faults.items ≡ None = subst (λ fs. refusal_for fs ≡ None) c.as_slice.ensures.value c.in_default.ensures.ok in
     let sound = not-refused c.in-Done.ended.faults.items none in
     let later = later-on faults ran.before works done ran.later c.finish-works.ensures.later in
     let counts = c.in-Done.ended.report.items in
     let ended : (opened : Opened) → AreTold s ran.before opened → AreDone k.bytes stages opened done counts = λ opened tell.
-    done-on faults ran.before works done ran.later c.finish-works.ensures.later k.bytes stages opened counts (on-ok c.finish-works.result.outcome c.in_default-outcome.field-0 c.in_default-outcome.is c.finish-works.ensures.finished) (came.sound sound opened tell) in
-    unkept-left s k (Some m) stages ran.before done ran.ready faults later counts ended (Rose (files.faults c.args.files.now) (files.faults c.keep_works.new.files)) old new why c.in-Err-keep_works.ensures.err m refl
+    done-on faults ran.before works done ran.later c.finish-works.ensures.later k.bytes stages opened counts (on-ok c.finish-works.result.outcome c.in_default-outcome.field-0 c.in_default-outcome.is c.finish-works.ensures.finished) c.finish-works.ensures.kept (came.sound sound opened tell) in
+    unkept-left s k (Some m) stages ran.before done ran.ready faults later counts ended (Rose (files.faults c.args.files.now) (files.faults c.keep_all.new.files)) old new why c.in-Err-keep_all.ensures.err m refl
 
-pub returns-in-Err-keep_works-clause-refused : goal.returns-in-Err-keep_works-clause-refused
-returns-in-Err-keep_works-clause-refused g c = λ refusal came.
+pub returns-in-Err-keep_all-clause-refused : goal.returns-in-Err-keep_all-clause-refused
+returns-in-Err-keep_all-clause-refused g c = λ refusal came.
     let met : refusal_for c.in-Done.ended.faults.items ≡ Some refusal = subst (CameTo {S = g.row.S.Denot} {K = g.row.K.Denot} {E = g.row.E.Denot} refusal) c.in-Done.is came in
     let none : refusal_for c.in-Done.ended.faults.items ≡ None = subst (λ fs. refusal_for fs ≡ None) c.as_slice.ensures.value c.in_default.ensures.ok in
     let no : None ≡ Some refusal = sym none ∙ met in
     absurd cc
 
-pub returns-in-Err-keep_works-clause-untold : goal.returns-in-Err-keep_works-clause-untold
-returns-in-Err-keep_works-clause-untold g c =
-    let s = g.S.Source in
-    let k = g.K.Sink in
-    let files = g.F.Files in
-    let stages = c.args.stages.now in
-    let faults = faults_of s.faults k.faults in
-    let works = c.args.self.works.items in
-    let done = c.finish-works.result.works.items in
-    let map = files.map c.args.files.now in
-    λ none. untold-broke k.bytes map map (files.map c.keep_works.new.files) (Rose (files.faults c.args.files.now) (files.faults c.keep_works.new.files)) stages done c.in-Err-keep_works.refusal refl c.in-Err-keep_works.ensures.err none
+pub returns-in-Err-keep_all-clause-untold : goal.returns-in-Err-keep_all-clause-untold
+returns-in-Err-keep_all-clause-untold g c = c.keep_all.ensures.untold
 
-pub returns-in-Err-keep_works-clause-lent : goal.returns-in-Err-keep_works-clause-lent
-returns-in-Err-keep_works-clause-lent g c =
+pub returns-in-Err-keep_all-clause-lent : goal.returns-in-Err-keep_all-clause-lent
+returns-in-Err-keep_all-clause-lent g c =
     let faults = faults_of g.S.Source.faults g.K.Sink.faults in
     let works = c.args.self.works.items in
     let done = c.finish-works.result.works.items in
-    λ others h. c.keep_works.ensures.lent others (h ∙ ap (λ n. others + n) (sym (same-held faults works done c.finish-works.ensures.later)))
+    λ others h. c.keep_all.ensures.lent others (h ∙ ap (λ n. others + n) (sym (same-held faults works done c.finish-works.ensures.later)))
 
 pub returns-in-Ok-clause-ok : goal.returns-in-Ok-clause-ok
 returns-in-Ok-clause-ok g c = λ m ran.
@@ -194,8 +184,8 @@ returns-in-Ok-clause-ok g c = λ m ran.
     let later = later-on faults ran.before works done ran.later c.finish-works.ensures.later in
     let counts = c.in-Done.ended.report.items in
     let ended : (opened : Opened) → AreTold s ran.before opened → AreDone k.bytes stages opened done counts = λ opened tell.
-    done-on faults ran.before works done ran.later c.finish-works.ensures.later k.bytes stages opened counts (on-ok c.finish-works.result.outcome c.in_default-outcome.field-0 c.in_default-outcome.is c.finish-works.ensures.finished) (came.sound sound opened tell) in
-    is-run s k (Some m) stages ran.before done ran.ready faults later counts ended m refl (files.map c.args.files.now) (files.map c.keep_works.new.files) c.in-Ok.ensures.ok
+    done-on faults ran.before works done ran.later c.finish-works.ensures.later k.bytes stages opened counts (on-ok c.finish-works.result.outcome c.in_default-outcome.field-0 c.in_default-outcome.is c.finish-works.ensures.finished) c.finish-works.ensures.kept (came.sound sound opened tell) in
+    is-run s k (Some m) stages ran.before done ran.ready faults later counts ended m refl (files.map c.args.files.now) (files.map c.keep_all.new.files) c.keep_all.ensures.untold c.in-Ok.ensures.ok
 
 pub returns-in-Ok-clause-refused : goal.returns-in-Ok-clause-refused
 returns-in-Ok-clause-refused g c = λ refusal came.
@@ -205,23 +195,14 @@ returns-in-Ok-clause-refused g c = λ refusal came.
     absurd cc
 
 pub returns-in-Ok-clause-untold : goal.returns-in-Ok-clause-untold
-returns-in-Ok-clause-untold g c =
-    let s = g.S.Source in
-    let k = g.K.Sink in
-    let files = g.F.Files in
-    let stages = c.args.stages.now in
-    let faults = faults_of s.faults k.faults in
-    let works = c.args.self.works.items in
-    let done = c.finish-works.result.works.items in
-    let map = files.map c.args.files.now in
-    λ none. untold-kept k.bytes (length done) map map (files.map c.keep_works.new.files) stages done refl c.in-Ok.ensures.ok none
+returns-in-Ok-clause-untold g c = c.keep_all.ensures.untold
 
 pub returns-in-Ok-clause-lent : goal.returns-in-Ok-clause-lent
 returns-in-Ok-clause-lent g c =
     let faults = faults_of g.S.Source.faults g.K.Sink.faults in
     let works = c.args.self.works.items in
     let done = c.finish-works.result.works.items in
-    λ others h. c.keep_works.ensures.lent others (h ∙ ap (λ n. others + n) (sym (same-held faults works done c.finish-works.ensures.later)))
+    λ others h. c.keep_all.ensures.lent others (h ∙ ap (λ n. others + n) (sym (same-held faults works done c.finish-works.ensures.later)))
 
 pub returns-in-Err-clause-blamed : goal.returns-in-Err-clause-blamed
 returns-in-Err-clause-blamed g c = λ i o same.
@@ -253,8 +234,8 @@ returns-in-Err-outcome-clause-blamed g c = λ i o same.
     (subst (IsUnfinished faults works done) is unfinished) in
     subst (λ step. IsBlamed faults (Rose (files.faults c.args.files.now) (files.faults c.release_works-in-Err-outcome.new.files)) works step i o) (sym c.in-Done.is) (inr last)
 
-pub returns-in-Err-keep_works-clause-blamed : goal.returns-in-Err-keep_works-clause-blamed
-returns-in-Err-keep_works-clause-blamed g c = λ i o same.
+pub returns-in-Err-keep_all-clause-blamed : goal.returns-in-Err-keep_all-clause-blamed
+returns-in-Err-keep_all-clause-blamed g c = λ i o same.
     let s = g.S.Source in
     let k = g.K.Sink in
     let files = g.F.Files in
@@ -265,8 +246,8 @@ returns-in-Err-keep_works-clause-blamed g c = λ i o same.
     let ran = c.requires.ran.1 in
     let none : refusal_for c.in-Done.ended.faults.items ≡ None = subst (λ fs. refusal_for fs ≡ None) c.as_slice.ensures.value c.in_default.ensures.ok in
     let sound = not-refused c.in-Done.ended.faults.items none in
-    let rose = Rose (files.faults c.args.files.now) (files.faults c.keep_works.new.files) in
-    let is : c.in-Err-keep_works.refusal ≡ Device (Stage i) o = cc in
-    let last = failed-keep s k stages works done c.in-Done.ended.faults.items rose (files.map c.args.files.now) (files.map c.keep_works.new.files) sound (fit s k c.requires.ran.0 stages ran.before works ran.ready faults ran.later)
-    c.finish-works.ensures.later i o (subst (BrokeOff k.bytes rose (files.map c.args.files.now) (files.map c.keep_works.new.files) stages done) is c.in-Err-keep_works.ensures.err) in
+    let rose = Rose (files.faults c.args.files.now) (files.faults c.keep_all.new.files) in
+    let is : c.in-Err-keep_all.refusal ≡ Device (Stage i) o = cc in
+    let last = failed-all s k stages works done c.in-Done.ended.faults.items rose (files.map c.args.files.now) (files.map c.keep_all.new.files) sound (fit s k c.requires.ran.0 stages ran.before works ran.ready faults ran.later)
+    c.finish-works.ensures.later c.finish-works.ensures.kept i o (subst (IsUnkept k.bytes rose (files.map c.args.files.now) (files.map c.keep_all.new.files) stages done) is c.in-Err-keep_all.ensures.err) in
     subst (λ step. IsBlamed faults rose works step i o) (sym c.in-Done.is) (inr last)
