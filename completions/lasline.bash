@@ -30,10 +30,11 @@ _lasline() {
     case $before in
         --workers) mapfile -t COMPREPLY < <(compgen -W "1 2 4 8 16 32" -- "$word") ;;
         --patience) mapfile -t COMPREPLY < <(compgen -W "0 1000 1000000" -- "$word") ;;
+        --stop) mapfile -t COMPREPLY < <(compgen -W "first" -- "$word") ;;
         --chunk | --queue) mapfile -t COMPREPLY < <(compgen -W "1 2 4 8 16 32 64" -- "$word") ;;
         *)
             # Each option at most once.
-            for option in --chunk --queue --workers --patience --whole; do
+            for option in --chunk --queue --workers --patience --whole --stop; do
                 [[ " ${COMP_WORDS[*]:3:COMP_CWORD-3} " == *" $option "* ]] || options+=("$option")
             done
             mapfile -t COMPREPLY < <(compgen -W "${options[*]}" -- "$word")

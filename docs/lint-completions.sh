@@ -34,11 +34,13 @@ gives files "--help --version" lasline --
 gives files "p.json q.json tiles" lasline run ""
 gives files "p.json" lasline plan p
 gives empty "a.las" lasline run ""
-gives files "--chunk --patience --queue --whole --workers" lasline run p.json ""
-gives files "--chunk --patience --queue --whole --workers" lasline trial 100 --
-gives files "--patience --queue --whole --workers" lasline run p.json --chunk 4 ""
-gives files "--patience --queue --workers" lasline run p.json --whole --chunk 4 --
+gives files "--chunk --patience --queue --stop --whole --workers" lasline run p.json ""
+gives files "--chunk --patience --queue --stop --whole --workers" lasline trial 100 --
+gives files "--patience --queue --stop --whole --workers" lasline run p.json --chunk 4 ""
+gives files "--patience --queue --stop --workers" lasline run p.json --whole --chunk 4 --
 gives files "1 2 4 8 16 32" lasline run p.json --workers ""
+gives files "first" lasline run p.json --stop ""
+gives files "--chunk --patience --queue --whole --workers" lasline run p.json --stop first ""
 gives files "1 2 4 8 16 32 64" lasline run p.json --queue ""
 gives files "" lasline plan p.json ""
 gives files "" lasline gen ""

@@ -1,7 +1,7 @@
 -- The numbers of a command are within their bounds.
 use Rattle.std.proofs.Common.{◌≡◌, ◌≤◌, ◌∙◌, ℕ, List, map, drop, length, Some, Ok, ok_or, String, Global, string_bytes, ap, sym, arith}
 use Rattle.std.proofs.lemmas.List.{drop_all}
-use Rattle.command_words.specs.Options.{IsOption, is_number, is_whole, Choice, AreOptions, none, more, put, options_with}
+use Rattle.command_words.specs.Options.{IsOption, is_number, is_whole, is_stop, Choice, AreOptions, none, more, put, options_with}
 use Rattle.command_words.specs.Commands.{Command, IsCommand, is_run, is_plan, is_gen, is_trial, is_help, is_version, AreWithin, IsWithin}
 use Rattle.command_words.specs.Machine.{State, ended, command_from, command_of}
 use Rattle.command_words.specs.declared.options.RunOptions.{RunOptions}
@@ -14,6 +14,7 @@ put_within c o (is_number Queue i) h = record { chunk = h.chunk; queue = (i.from
 put_within c o (is_number Workers i) h = record { chunk = h.chunk; queue = h.queue; workers = (i.from, i.up_to); patience = h.patience }
 put_within c o (is_number Patience i) h = record { chunk = h.chunk; queue = h.queue; workers = h.workers; patience = i.up_to }
 put_within c o is_whole h = record { chunk = h.chunk; queue = h.queue; workers = h.workers; patience = h.patience }
+put_within c o is_stop h = record { chunk = h.chunk; queue = h.queue; workers = h.workers; patience = h.patience }
 
 all_within : {words : List (List ℕ)} {cs : List Choice} → AreOptions words cs → AreWithin (options_with cs)
 all_within none = record { chunk = (omega arith, omega arith); queue = (omega arith, omega arith); workers = (omega arith, omega arith); patience = omega arith }

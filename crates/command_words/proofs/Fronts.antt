@@ -3,9 +3,9 @@ use Rattle.std.proofs.Common.{◌≡◌, ◌∙◌, ℕ, List, [], ◌∷◌, �
 use Rattle.std.proofs.lemmas.Slice.Eq.{bytes_eq-Decides}
 use Rattle.std.proofs.lemmas.List.{append-nil, append_assoc}
 use Rattle.command_words.specs.Numbers.{IsNumber, number_in}
-use Rattle.command_words.specs.Options.{Choice, is_number, is_whole, AreOptions, none, more, number, whole, name_of, least_of, most_of, options_with}
+use Rattle.command_words.specs.Options.{Choice, is_number, is_whole, is_stop, AreOptions, none, more, number, whole, stop, name_of, least_of, most_of, options_with}
 use Rattle.command_words.specs.Commands.{Command, help, IsCommand, is_run, is_plan, is_gen, is_trial, is_help, is_version, CanGoOn, is_name, most_count}
-use Rattle.command_words.specs.Machine.{Purpose, run_of, trials, State, start, behind, counted, options, setting, done, step, ended, command_for, first_word, second_word, option_word, if_so, is_free, setting_named, with_number, with_whole, filled}
+use Rattle.command_words.specs.Machine.{Purpose, run_of, trials, State, start, behind, counted, options, setting, stopping, done, step, ended, command_for, first_word, second_word, option_word, if_so, is_free, setting_named, with_number, with_whole, with_first, filled}
 use Rattle.command_words.specs.declared.options.GivenOptions.{GivenOptions}
 use Rattle.command_words.specs.declared.options.Setting.{Setting}
 use Rattle.command_words.specs.declared.options.Setting.TheVariants.{Chunk, Queue, Workers, Patience}
@@ -34,6 +34,8 @@ pub data Front : State → List (List ℕ) → Type 0 where
   at_options : {task : Purpose} {g : GivenOptions} {first words : List (List ℕ)} {cs : List Choice} → Begins task first → AreOptions words cs → g ≡ given_by cs → Front (options task g) (first ++ words)
   at_setting : {task : Purpose} {g : GivenOptions} {first words : List (List ℕ)} {cs : List Choice} (s : Setting) → Begins task first → AreOptions words cs → g ≡ given_by cs → is_free s g ≡ true
       → Front (setting task g s) (first ++ (words ++ name_of s ∷ []))
+  at_stop : {task : Purpose} {g : GivenOptions} {first words : List (List ℕ)} {cs : List Choice} → Begins task first → AreOptions words cs → g ≡ given_by cs → not g.stop_first ≡ true
+      → Front (stopping task g) (first ++ (words ++ codes "--stop" ∷ []))
   at_end : {words : List (List ℕ)} {c : Command} → IsCommand words c → Front (done c) words
 
 -- ---- one word more
@@ -108,12 +110,25 @@ module _ {task : Purpose} {g : GivenOptions} {first words : List (List ℕ)} {cs
   option_front word t e = regrouped t (word ∷ [])
       (by_name (λ w t. Front t (first ++ (words ++ w ∷ []))) word (codes "--whole") _ _
       (the_one_if (λ t. Front t (first ++ (words ++ codes "--whole" ∷ []))) (not g.whole) _ whole_front)
-      (setting_front word (setting_named word) refl) t e)
+      (by_name (λ w t. Front t (first ++ (words ++ w ∷ []))) word (codes "--stop") _ _
+      (the_one_if (λ t. Front t (first ++ (words ++ codes "--stop" ∷ []))) (not g.stop_first) _ (at_stop begins are is))
+      (setting_front word (setting_named word) refl)) t e)
+
+  -- a word behind the last word of all options
+  behind_last : (last word : List ℕ) (t : State) → Front t (first ++ (words ++ last ∷ word ∷ [])) → Front t ((first ++ (words ++ last ∷ [])) ++ word ∷ [])
+  behind_last last word t h = subst (Front t) (sym (append_assoc first (words ++ last ∷ []) (word ∷ []) ∙ ap (λ l. first ++ l) (append_assoc words (last ∷ []) (word ∷ [])))) h
 
   number_front : (s : Setting) → is_free s g ≡ true → (word : List ℕ) (t : State) → step (setting task g s) word ≡ Some t → Front t ((first ++ (words ++ name_of s ∷ [])) ++ word ∷ [])
-  number_front s free word t e = subst (Front t) (sym (append_assoc first (words ++ name_of s ∷ []) (word ∷ []) ∙ ap (λ l. first ++ l) (append_assoc words (name_of s ∷ []) (word ∷ []))))
+  number_front s free word t e = behind_last (name_of s) word t
       (the_number (λ t. Front t (first ++ (words ++ name_of s ∷ word ∷ []))) (least_of s) (most_of s) word _
       (λ n i. at_options begins (more are (is_number s i) (is_unlike cs (number s n) (sym (ap (is_free s) is) ∙ free))) (ap (with_number s n) is)) t e)
+
+  stop_front : not g.stop_first ≡ true → (word : List ℕ) (t : State) → step (stopping task g) word ≡ Some t → Front t ((first ++ (words ++ codes "--stop" ∷ [])) ++ word ∷ [])
+  stop_front free word t e = behind_last (codes "--stop") word t
+      (by_name (λ w t. Front t (first ++ (words ++ codes "--stop" ∷ w ∷ []))) word (codes "first") _ _
+      (the_one (λ t. Front t (first ++ (words ++ codes "--stop" ∷ codes "first" ∷ []))) _
+      (at_options begins (more are is_stop (is_unlike cs stop (sym (ap (λ x. not x.stop_first) is) ∙ free))) (ap with_first is)))
+      (no_name (λ w t. Front t (first ++ (words ++ codes "--stop" ∷ w ∷ []))) word) t e)
 
 step_front : {s : State} {words : List (List ℕ)} (word : List ℕ) (t : State) → Front s words → step s word ≡ Some t → Front t (words ++ word ∷ [])
 step_front word t at_start e = first_front word t e
@@ -121,6 +136,7 @@ step_front word t (at_verb v) e = second_front v word t e
 step_front word t (at_count {word = first} {n} i) e = the_one_if (λ t. Front t (codes "gen" ∷ first ∷ word ∷ [])) (is_name word) _ (λ name. at_end (is_gen i name)) t e
 step_front word t (at_options begins are is) e = option_front begins are is word t e
 step_front word t (at_setting s begins are is free) e = number_front begins are is s free word t e
+step_front word t (at_stop begins are is free) e = stop_front begins are is free word t e
 step_front word t (at_end c) e = cc
 
 -- the words that lead to a state
@@ -146,6 +162,7 @@ is_ended c (at_count i) e = cc
 is_ended c (at_options {task} {g} {first} {words} {cs} begins are is) e =
     the_one (IsCommand (first ++ words)) (command_for task (filled g)) (subst (λ o. IsCommand (first ++ words) (command_for task o)) (sym (ap filled is ∙ filled_is cs)) (with_options begins are)) c e
 is_ended c (at_setting s begins are is free) e = cc
+is_ended c (at_stop begins are is free) e = cc
 is_ended c (at_end {words} {c = d} h) e = the_one (IsCommand words) d h c e
 
 -- each state has an end
@@ -163,5 +180,12 @@ goes_on (at_setting {task} {g} {first} {words} {cs} s begins are is free) = (
   subst (λ l. IsCommand l (command_for task (options_with (number s 1 ∷ cs))))
       (sym (append_assoc first (words ++ name_of s ∷ []) (codes "1" ∷ []) ∙ ap (λ l. first ++ l) (append_assoc words (name_of s ∷ []) (codes "1" ∷ []))))
       (with_options begins (more are (is_number s (one_fits s)) (is_unlike cs (number s 1) (sym (ap (is_free s) is) ∙ free)))),
+)
+goes_on (at_stop {task} {g} {first} {words} {cs} begins are is free) = (
+  codes "first" ∷ [],
+  _,
+  subst (λ l. IsCommand l (command_for task (options_with (stop ∷ cs))))
+      (sym (append_assoc first (words ++ codes "--stop" ∷ []) (codes "first" ∷ []) ∙ ap (λ l. first ++ l) (append_assoc words (codes "--stop" ∷ []) (codes "first" ∷ []))))
+      (with_options begins (more are is_stop (is_unlike cs stop (sym (ap (λ x. not x.stop_first) is) ∙ free)))),
 )
 goes_on (at_end {words} {c} h) = ([], c, subst (λ l. IsCommand l c) (sym (append-nil words)) h)

@@ -1,6 +1,6 @@
 -- Words of a command lead to its state.
 use Rattle.std.proofs.Common.{◌≡◌, ◌∙◌, ℕ, List, [], ◌∷◌, ◌++◌, true, Option, Some, None, option_and_then, ap, refl}
-use Rattle.command_words.specs.Options.{Choice, IsOption, is_number, is_whole, AreOptions, none, more, options_with}
+use Rattle.command_words.specs.Options.{Choice, IsOption, is_number, is_whole, is_stop, AreOptions, none, more, options_with}
 use Rattle.command_words.specs.Commands.{Command, IsCommand, is_run, is_plan, is_gen, is_trial, is_help, is_version}
 use Rattle.command_words.specs.Machine.{Purpose, run_of, trials, State, start, options, step, ended, command_for}
 use Rattle.command_words.specs.declared.options.GivenOptions.{GivenOptions}
@@ -29,6 +29,7 @@ one_option task g own c (is_number Queue i) e = rw (e, number_found i) refl
 one_option task g own c (is_number Workers i) e = rw (e, number_found i) refl
 one_option task g own c (is_number Patience i) e = rw (e, number_found i) refl
 one_option task g own c is_whole e = rw e refl
+one_option task g own c is_stop e = rw e refl
 
 all_options : {words : List (List ℕ)} {cs : List Choice} → AreOptions words cs → (task : Purpose) → state_after (options task (given_by [])) words ≡ Some (options task (given_by cs))
 all_options none task = refl

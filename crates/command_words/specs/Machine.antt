@@ -25,7 +25,7 @@ setting_named word = if bytes_eq word (codes "--chunk") then Some Chunk
     else None)))
 
 abbrev pub nothing_given : GivenOptions
-nothing_given = record { chunk = None; queue = None; workers = None; patience = None; whole = false }
+nothing_given = record { chunk = None; queue = None; workers = None; patience = None; whole = false; stop_first = false }
 
 -- it wasn't given
 abbrev pub is_free : Setting → GivenOptions → Bool
@@ -43,9 +43,12 @@ with_number Patience n g = record g { patience = Some n }
 abbrev pub with_whole : GivenOptions → GivenOptions
 with_whole g = record g { whole = true }
 
+abbrev pub with_first : GivenOptions → GivenOptions
+with_first g = record g { stop_first = true }
+
 -- usual values for what wasn't given
 abbrev pub filled : GivenOptions → RunOptions
-filled g = record { chunk = unwrap_or g.chunk 64; queue = unwrap_or g.queue 8; workers = unwrap_or g.workers 1; patience = unwrap_or g.patience 1000; whole = g.whole }
+filled g = record { chunk = unwrap_or g.chunk 64; queue = unwrap_or g.queue 8; workers = unwrap_or g.workers 1; patience = unwrap_or g.patience 1000; whole = g.whole; stop_first = g.stop_first }
 
 -- ---- the states
 
@@ -61,6 +64,7 @@ pub data State : Type 0 where
   counted : ℕ → State
   options : Purpose → GivenOptions → State
   setting : Purpose → GivenOptions → Setting → State
+  stopping : Purpose → GivenOptions → State
   done : Command → State
 
 -- a state without where its words lie in memory
@@ -74,6 +78,7 @@ state_in (reached.Behind verb) = behind verb
 state_in (reached.Counted count) = counted count
 state_in (reached.Options task given) = options (task_in task) given
 state_in (reached.Number task given s) = setting (task_in task) given s
+state_in (reached.Stopping task given) = stopping (task_in task) given
 state_in (reached.Done command) = done (command_in command)
 
 abbrev pub command_for : Purpose → RunOptions → Command
@@ -102,7 +107,8 @@ second_word Trial word = option_map (λ n. options (trials n) nothing_given) (nu
 
 abbrev pub option_word : Purpose → GivenOptions → List ℕ → Option State
 option_word task given word = if bytes_eq word (codes "--whole") then if_so (not given.whole) (options task (with_whole given))
-    else option_and_then (λ s. if_so (is_free s given) (setting task given s)) (setting_named word)
+    else (if bytes_eq word (codes "--stop") then if_so (not given.stop_first) (stopping task given)
+    else option_and_then (λ s. if_so (is_free s given) (setting task given s)) (setting_named word))
 
 -- the state behind one word more, where the words may go on so
 abbrev pub step : State → List ℕ → Option State
@@ -111,6 +117,7 @@ step (behind verb) word = second_word verb word
 step (counted n) word = if_so (is_name word) (done (gen n word))
 step (options task given) word = option_word task given word
 step (setting task given s) word = option_map (λ n. options task (with_number s n given)) (number_in (least_of s) (most_of s) word)
+step (stopping task given) word = if_so (bytes_eq word (codes "first")) (options task (with_first given))
 step (done c) word = None
 
 -- the command, where the words may end so
@@ -120,6 +127,7 @@ ended (behind verb) = None
 ended (counted n) = None
 ended (options task given) = Some (command_for task (filled given))
 ended (setting task given s) = None
+ended (stopping task given) = None
 ended (done c) = Some c
 
 -- the command of a state at a place and the words behind it, or the place of the first word that is wrong or missing

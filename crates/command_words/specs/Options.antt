@@ -23,19 +23,22 @@ most_of Queue = 64
 most_of Workers = 32
 most_of Patience = 1000000
 
--- one option: a number that is set, or `--whole`
+-- one option: a number that is set, `--whole`, or `--stop first`
 pub data Choice : Type 0 where
   number : Setting → ℕ → Choice
   whole : Choice
+  stop : Choice
 
 abbrev pub word_of : Choice → List ℕ
 word_of (number s n) = name_of s
 word_of whole = codes "--whole"
+word_of stop = codes "--stop"
 
 -- the words of one option
 pub data IsOption : List (List ℕ) → Choice → Type 0 where
   is_number : {word : List ℕ} {n : ℕ} (s : Setting) → IsNumber (least_of s) (most_of s) word n → IsOption (name_of s ∷ word ∷ []) (number s n)
   is_whole : IsOption (codes "--whole" ∷ []) whole
+  is_stop : IsOption (codes "--stop" ∷ codes "first" ∷ []) stop
 
 -- the words of options of which no name stands twice, the last one first in the list
 pub data AreOptions : List (List ℕ) → List Choice → Type 0 where
@@ -43,7 +46,7 @@ pub data AreOptions : List (List ℕ) → List Choice → Type 0 where
   more : {words own : List (List ℕ)} {cs : List Choice} {c : Choice} → AreOptions words cs → IsOption own c → All (λ earlier. word_of earlier ≢ word_of c) cs → AreOptions (words ++ own) (c ∷ cs)
 
 abbrev pub usual : RunOptions
-usual = record { chunk = 64; queue = 8; workers = 1; patience = 1000; whole = false }
+usual = record { chunk = 64; queue = 8; workers = 1; patience = 1000; whole = false; stop_first = false }
 
 abbrev pub put : Choice → RunOptions → RunOptions
 put (number Chunk n) o = record o { chunk = n }
@@ -51,6 +54,7 @@ put (number Queue n) o = record o { queue = n }
 put (number Workers n) o = record o { workers = n }
 put (number Patience n) o = record o { patience = n }
 put whole o = record o { whole = true }
+put stop o = record o { stop_first = true }
 
 -- the usual values with the given ones put in
 abbrev pub options_with : List Choice → RunOptions

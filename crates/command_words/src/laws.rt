@@ -2,8 +2,9 @@
 
 ghost use Rattle.std.specs.Prelude.{◌≡◌, ◌<◌, ◌≤◌, ◌^◌, ◌∷◌, [], List, ℕ, codes, decimal, true, Ok, Err};
 ghost use Rattle.command_words.specs.Numbers.{IsNumber};
-ghost use Rattle.command_words.specs.Commands.{Command, run, IsCommand};
+ghost use Rattle.command_words.specs.Commands.{Command, run, trial, IsCommand};
 ghost use Rattle.command_words.specs.Machine.{command_of};
+ghost use Rattle.command_words.specs.Options.{usual};
 ghost use Rattle.command_words.specs.Laws.{IsPlace};
 
 /// A number within bounds is written in one way, as it is printed.
@@ -37,5 +38,11 @@ pub fn places_are_so()
         codes "4" ∷ []) ≡ Err 4 }
     ensures no_number { command_of (codes "run" ∷ codes "p" ∷ codes "--chunk" ∷ []) ≡ Err 3 }
     ensures read { command_of (codes "run" ∷ codes "p" ∷ codes "--whole" ∷ codes "--chunk" ∷ codes "4" ∷ [])
-        ≡ Ok (run (codes "p") (record { chunk = 4; queue = 8; workers = 1; patience = 1000; whole = true })) }
+        ≡ Ok (run (codes "p") (record usual { chunk = 4; whole = true })) }
+    ensures no_stop { command_of (codes "run" ∷ codes "p" ∷ codes "--stop" ∷ []) ≡ Err 3 }
+    ensures no_last { command_of (codes "run" ∷ codes "p" ∷ codes "--stop" ∷ codes "last" ∷ []) ≡ Err 3 }
+    ensures stop_twice { command_of (codes "run" ∷ codes "p" ∷ codes "--stop" ∷ codes "first" ∷ codes "--stop" ∷
+        codes "first" ∷ []) ≡ Err 4 }
+    ensures stops { command_of (codes "trial" ∷ codes "5" ∷ codes "--queue" ∷ codes "1" ∷ codes "--stop" ∷
+        codes "first" ∷ []) ≡ Ok (trial 5 (record usual { queue = 1; stop_first = true })) }
 {}

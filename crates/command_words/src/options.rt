@@ -2,7 +2,7 @@
 
 ghost use Rattle.std.specs.Prelude.{◌≡◌, ◌≤◌, IfSome};
 ghost use Rattle.command_words.specs.Options.{least_of, most_of};
-ghost use Rattle.command_words.specs.Machine.{setting_named, is_free, nothing_given, with_number, with_whole, filled};
+ghost use Rattle.command_words.specs.Machine.{setting_named, is_free, nothing_given, with_number, with_whole, with_first, filled};
 ghost use Rattle.command_words.specs.Numbers.{number_in};
 
 /// How a pipeline is run.
@@ -22,6 +22,9 @@ pub struct RunOptions {
 
     /// Whether stages hand on whole lists of points in place of chunks.
     pub whole: bool,
+
+    /// Whether the run ends at the first fault that is seen.
+    pub stop_first: bool,
 }
 
 /// An option that has a number behind it.
@@ -41,6 +44,7 @@ pub(crate) struct GivenOptions {
     pub(crate) workers: Option<u32>,
     pub(crate) patience: Option<u32>,
     pub(crate) whole: bool,
+    pub(crate) stop_first: bool,
 }
 
 impl Setting {
@@ -81,6 +85,7 @@ impl GivenOptions {
             workers: None,
             patience: None,
             whole: false,
+            stop_first: false,
         }
     }
 
@@ -117,6 +122,14 @@ impl GivenOptions {
         self
     }
 
+    /// The same with `--stop first`.
+    pub(crate) fn with_first(mut self) -> GivenOptions
+        ensures { result ≡ with_first self }
+    {
+        self.stop_first = true;
+        self
+    }
+
     /// The options, where those that weren't given have their usual values.
     pub(crate) fn filled(self) -> RunOptions
         ensures { result ≡ filled self }
@@ -127,6 +140,7 @@ impl GivenOptions {
             workers: self.workers.unwrap_or(1),
             patience: self.patience.unwrap_or(1_000),
             whole: self.whole,
+            stop_first: self.stop_first,
         }
     }
 }

@@ -2,7 +2,7 @@
 
 ghost use Rattle.std.specs.Prelude.{◌≡◌, option_map};
 ghost use Rattle.command_words.specs.Commands.{is_name, command_in};
-ghost use Rattle.command_words.specs.Machine.{state_in, task_in, counted, command_for, first_word, second_word, option_word, step, ended};
+ghost use Rattle.command_words.specs.Machine.{state_in, task_in, counted, command_for, first_word, second_word, option_word, stopping, step, ended};
 
 use crate::command::Command;
 use crate::options::{GivenOptions, RunOptions, Setting, number_in};
@@ -43,6 +43,9 @@ pub(crate) enum State<'a> {
 
     /// The same, and the name of one option more.
     Number(Purpose<'a>, GivenOptions, Setting),
+
+    /// The same, and `--stop`.
+    Stopping(Purpose<'a>, GivenOptions),
 
     /// A command that nothing may follow.
     Done(Command<'a>),
@@ -108,9 +111,25 @@ fn option_word<'a>(task: Purpose<'a>, given: GivenOptions, word: &str) -> Option
         }
         return Some(State::Options(task, given.with_whole()));
     }
+    if word == "--stop" {
+        if given.stop_first {
+            return None;
+        }
+        return Some(State::Stopping(task, given));
+    }
     let setting = Setting::named(word)?;
     if given.is_free(setting) {
         Some(State::Number(task, given, setting))
+    } else {
+        None
+    }
+}
+
+fn behind_stop<'a>(task: Purpose<'a>, given: GivenOptions, word: &str) -> Option<State<'a>>
+    ensures { option_map state_in result ≡ step (stopping (task_in task.entry) given) word.now }
+{
+    if word == "first" {
+        Some(State::Options(task, given.with_first()))
     } else {
         None
     }
@@ -140,6 +159,7 @@ impl<'a> State<'a> {
                 let number = setting.number(word)?;
                 Some(State::Options(task, given.with_number(setting, number)))
             }
+            State::Stopping(task, given) => behind_stop(task, given, word),
             State::Done(_) => None,
         }
     }
@@ -151,7 +171,8 @@ impl<'a> State<'a> {
         match self {
             State::Options(task, given) => Some(command_for(task, given.filled())),
             State::Done(command) => Some(command),
-            State::Start | State::Behind(_) | State::Counted(_) | State::Number(_, _, _) => None,
+            State::Start | State::Behind(_) | State::Counted(_) => None,
+            State::Number(_, _, _) | State::Stopping(_, _) => None,
         }
     }
 }

@@ -18,7 +18,8 @@ use Rattle.answer_model.specs.Steps.{why}
 use Rattle.answer_model.specs.Values.{LasFile, Ended, evaluated, least_from, role_at, unbound_at}
 use Rattle.answer_model.specs.Runs.{las_at, las_file_of, las_read, opened_in, run_of, run_over, run_with, unless_unbound, unless_unread, unread, unread_at}
 use Rattle.answer_model.proofs.Least.{found}
-use Rattle.run_outcome.specs.Cause.{IsCause}
+use Rattle.network_core.specs.declared.stop.Stop.{Stop}
+use Rattle.run_engine.specs.Stopping.{IsCauseBy}
 use Rattle.lasline_top.specs.Cause.{HasFailed, IsAbsent, Risen, RisenAt}
 
 -- ---- counts
@@ -118,15 +119,15 @@ run_absent m stages p o e = go (least_from (unread_at m stages) (length stages) 
 -- ---- refused runs
 
 -- a device that a run names has failed
-pub cause_risen : (rose : Type 0) (map : Option Names) (stages : List StageSpec) (r : Refusal) → IsCause rose map stages r → Risen rose ⊥ map r
-cause_risen rose map stages of.Memory c = tt
-cause_risen rose map stages (of.Data i f) c = tt
-cause_risen rose map stages (of.Pipeline f) c = tt
-cause_risen rose map stages (of.Usage k) c = tt
-cause_risen rose map stages (of.Device at.PipelineFile o) c = absurd c
-cause_risen rose map stages (of.Device at.Generated o) c = absurd c
-cause_risen rose map stages (of.Device at.Out o) c = absurd c
-cause_risen rose map stages (of.Device (at.Stage i) o) (inr c) = rose_failed rose ⊥ map (at.Stage i) o c.0
-cause_risen rose map stages (of.Device (at.Stage i) o) (inl c) =
+pub cause_risen : (stop : Stop) (rose : Type 0) (map : Option Names) (stages : List StageSpec) (r : Refusal) → IsCauseBy stop rose map stages r → Risen rose ⊥ map r
+cause_risen stop rose map stages of.Memory c = tt
+cause_risen stop rose map stages (of.Data i f) c = tt
+cause_risen stop rose map stages (of.Pipeline f) c = tt
+cause_risen stop rose map stages (of.Usage k) c = tt
+cause_risen stop rose map stages (of.Device at.PipelineFile o) c = absurd c
+cause_risen stop rose map stages (of.Device at.Generated o) c = absurd c
+cause_risen stop rose map stages (of.Device at.Out o) c = absurd c
+cause_risen stop rose map stages (of.Device (at.Stage i) o) (inr c) = rose_failed rose ⊥ map (at.Stage i) o c.0
+cause_risen stop rose map stages (of.Device (at.Stage i) o) (inl c) =
     let absent = run_absent c.0 stages (at.Stage i) o c.2 in
     subst (HasFailed rose ⊥ map (at.Stage i)) (sym absent.0) (inr (c.0, absent.1.0, c.1, absent.1.1))

@@ -1,6 +1,14 @@
 -- What the end of a command says of the call.
-use Rattle.std.proofs.Common.{◌≡◌, ◌≤◌, ℕ, List, Result, Ok, Err, IsOkAnd, refl, ap, subst, sym, ◌∙◌, inl, inr}
+use Rattle.std.proofs.Common.{◌≡◌, ◌⊎◌, ◌≤◌, ℕ, List, Result, Ok, Err, IsOkAnd, refl, ap, subst, sym, ◌∙◌, inl, inr}
 use Rattle.file_devices.specs.Content.{Appends, AppendsPart}
+use Rattle.file_devices.specs.Named.{Names}
+use Rattle.file_devices.specs.declared.devices.Op.{Op}
+use Rattle.network_core.specs.declared.stop.Stop.{Stop}
+use Rattle.network_core.specs.declared.stop.Stop.TheVariants.{Last, First}
+use Rattle.stage_names.specs.declared.faults.PipeFault.{PipeFault}
+use Rattle.stage_options.specs.declared.stage.StageSpec.{StageSpec}
+use Rattle.run_report.specs.declared.refusal.Fault.{Fault}
+use Rattle.run_report.specs.declared.refusal.Place.{Place}
 use Rattle.run_report.specs.declared.refusal.Place.TheVariants as at
 use Rattle.run_report.specs.declared.refusal.Refusal.{Refusal}
 use Rattle.run_report.specs.declared.refusal.Refusal.TheVariants as of
@@ -9,14 +17,15 @@ use Rattle.answer_model.specs.Runs.{Run}
 use Rattle.run_outcome.specs.Cause.{Because, IsDone}
 use Rattle.lasline_top.specs.declared.status.Status.{Status}
 use Rattle.lasline_top.specs.declared.status.Status.TheVariants as ends
-use Rattle.lasline_top.specs.Words.{Print, task_of}
-use Rattle.lasline_top.specs.Answer.{answer, status_of}
-use Rattle.lasline_top.specs.Calls.{Seen, FilesRose, OutRose, HasAnswered}
+use Rattle.lasline_top.specs.Words.{Task, Run_file, Plan_file, Make_file, Trial, Print, stop_in, task_of}
+use Rattle.lasline_top.specs.Answer.{answer, plan_in, stages_in, trial_text, with_trial}
+use Rattle.lasline_top.specs.Calls.{Seen, FilesRose, OutRose, Told, HasAnswered}
 use Rattle.lasline_top.specs.Cause.{AtTask, Risen, ToldWhy}
 use Rattle.lasline_top.specs.Ends.{WasDone, WasRefused}
 use Rattle.lasline_top.specs.Left.{IsLeftBy}
 use Rattle.lasline_top.specs.Reading.{IsReadBy}
 use Rattle.lasline_top.specs.Refusals.{status_for}
+use Rattle.lasline_top.specs.Stopping.{IsSeen, IsSeenBy, MayEnd}
 use Rattle.lasline_top.proofs.Failing.{answer_or_memory}
 use Rattle.lasline_top.proofs.Printed.{done_put, done_report}
 use Rattle.lasline_top.proofs.Statuses.{status_tells}
@@ -29,10 +38,43 @@ never-ok (of.Pipeline f) e = cc
 never-ok (of.Data i f) e = cc
 never-ok (of.Device p o) e = cc
 
--- a right answer's status is Ok
-ok-status : (r : Result Run Refusal) (P : Run → Type 0) → IsOkAnd r P → ends.Ok ≡ status_of r
-ok-status (Ok run) P h = refl
-ok-status (Err refusal) P h = absurd h
+-- a command that was done may end so
+ends-ok : (words : List (List ℕ)) (m : Names) (P : Run → Type 0) → IsOkAnd (answer words m) P → MayEnd (task_of words) m ends.Ok
+ends-ok words m P h = go (answer words m) refl h
+  where
+    go : (r : Result Run Refusal) → answer words m ≡ r → IsOkAnd r P → MayEnd (task_of words) m ends.Ok
+    go (Ok run) is h = (Ok run, is, refl)
+    go (Err refusal) is h = absurd h
+
+-- why a command was refused
+abbrev Cause : List (List ℕ) → Seen → Seen → Names → Refusal → Type 0
+Cause words before after m refusal = Because (answer words m) (AtTask (FilesRose before after) (OutRose before after) m (task_of words)) refusal ⊎ IsSeenBy (task_of words) m refusal
+
+-- only a fault of the data is seen in turns
+seen-data : (stop : Stop) (m : Names) (plan : Result (List StageSpec) Refusal) (r : Refusal) → IsSeen stop m plan r → (i : ℕ) × (f : Fault) × (r ≡ of.Data i f)
+seen-data Last m plan r h = absurd h
+seen-data First m plan (of.Data i f) h = (i, f, refl)
+seen-data First m plan of.Memory h = absurd h
+seen-data First m plan (of.Usage k) h = absurd h
+seen-data First m plan (of.Pipeline f) h = absurd h
+seen-data First m plan (of.Device p o) h = absurd h
+
+seen-of : (task : Result Task Refusal) (m : Names) (r : Refusal) → IsSeenBy task m r → (i : ℕ) × (f : Fault) × (r ≡ of.Data i f)
+seen-of (Ok (Run_file file engine)) m r h = seen-data (stop_in engine) m (plan_in m file) r h
+seen-of (Ok (Trial count engine)) m r h = seen-data (stop_in engine) (with_trial m count) (stages_in trial_text) r h
+seen-of (Ok (Plan_file file)) m r h = absurd h
+seen-of (Ok (Make_file count name)) m r h = absurd h
+seen-of (Ok (Print text)) m r h = absurd h
+seen-of (Err refusal) m r h = absurd h
+
+pipeline-cause : (words : List (List ℕ)) (before after : Seen) (m : Names) (f : PipeFault) → Cause words before after m (of.Pipeline f) → answer words m ≡ Err (of.Pipeline f)
+pipeline-cause words before after m f (inl h) = h
+pipeline-cause words before after m f (inr h) = absurd (let seen = seen-of (task_of words) m (of.Pipeline f) h in let e = seen.2 in cc)
+
+device-cause : (words : List (List ℕ)) (before after : Seen) (m : Names) (p : Place) (o : Op) → Cause words before after m (of.Device p o)
+    → (answer words m ≡ Err (of.Device p o)) ⊎ AtTask (FilesRose before after) (OutRose before after) m (task_of words) p o
+device-cause words before after m p o (inl h) = h
+device-cause words before after m p o (inr h) = absurd (let seen = seen-of (task_of words) m (of.Device p o) h in let e = seen.2 in cc)
 
 module _ (words : List (List ℕ)) (before after : Seen) (lent : after.lent ≡ before.lent) (later : before.faults ≤ after.faults) (opened : IsReadBy (task_of words) before.read_to after.read_to) where
   -- the command was done
@@ -50,7 +92,7 @@ module _ (words : List (List ℕ)) (before after : Seen) (lent : after.lent ≡ 
     device = λ p o e. absurd (cc);
     risen = λ p o e. absurd (cc);
     out_risen = λ o e. absurd (cc);
-    complete = λ m t _ _. inl (ok-status (answer words m) (IsDone before.map after.map before.out after.out) (done m t));
+    complete = λ m t _ _. inl (ends-ok words m (IsDone before.map after.map before.out after.out) (done m t));
     refused = λ r e. absurd (never-ok r e);
     quiet = λ other. absurd (other refl);
     silent = λ _. silent;
@@ -71,14 +113,14 @@ module _ (words : List (List ℕ)) (before after : Seen) (lent : after.lent ≡ 
     report = λ e. absurd (not_ok e);
     page = λ e. absurd (not_ok e);
     page_part = λ _. part;
-    pipeline = λ f e m t. subst (Because (answer words m) (AtTask (FilesRose before after) (OutRose before after) m (task_of words))) (same (of.Pipeline f) e) (was.because m t);
-    «data» = λ i f e m t. subst (Because (answer words m) (AtTask (FilesRose before after) (OutRose before after) m (task_of words))) (same (of.Data i f) e) (was.because m t);
+    pipeline = λ f e m t. pipeline-cause words before after m f (cause (of.Pipeline f) e m t);
+    «data» = λ i f e m t. cause (of.Data i f) e m t;
     usage = λ k e. of_words k (same (of.Usage k) e);
     words_first = λ r e. is ∙ ap status_for (words_first r e);
-    device = λ p o e m t. subst (Because (answer words m) (AtTask (FilesRose before after) (OutRose before after) m (task_of words))) (same (of.Device p o) e) (was.because m t);
+    device = λ p o e m t. device-cause words before after m p o (cause (of.Device p o) e m t);
     risen = λ p o e. subst (Risen (FilesRose before after) (OutRose before after) before.map) (same (of.Device p o) e) was.risen;
     out_risen = λ o e. was.out_risen o (same (of.Device at.Out o) e);
-    complete = λ m t no_files no_output. answer_or_memory (answer words m) (FilesRose before after) (OutRose before after) m (task_of words) refusal status is no_files no_output (was.because m t);
+    complete = λ m t no_files no_output. answer_or_memory (FilesRose before after) (OutRose before after) m (task_of words) refusal status is no_files no_output (was.because m t);
     refused = λ r e m t. subst (λ x. IsLeftBy (task_of words) x before.map after.map m) (same r e) (was.left m t);
     quiet = λ _. elim was.quiet [ inl e ↦ inl e | inr p ↦ inr (is ∙ ap status_for p.0, p.1) ];
     silent = λ e. absurd (not_ok e);
@@ -93,3 +135,6 @@ module _ (words : List (List ℕ)) (before after : Seen) (lent : after.lent ≡ 
 
       same : (r : Refusal) → status ≡ status_for r → refusal ≡ r
       same r e = status_tells status refusal r is e
+
+      cause : (r : Refusal) → status ≡ status_for r → (m : Names) → Told words before after m → Cause words before after m r
+      cause r e m t = subst (Cause words before after m) (same r e) (was.because m t)

@@ -1,5 +1,5 @@
 -- Where no device fails, none is named.
-use Rattle.std.proofs.Common.{◌≡◌, ◌⊎◌, ℕ, List, Result, Ok, Err, IsOk, ap, sym, ◌∙◌, inl, inr}
+use Rattle.std.proofs.Common.{◌≡◌, ◌⊎◌, ℕ, List, Result, Ok, Err, IsOk, inl, inr}
 use Rattle.file_devices.specs.declared.devices.Op.{Op}
 use Rattle.file_devices.specs.declared.devices.Op.TheVariants.{Open, Read, Create, Write, Patch, Keep}
 use Rattle.file_devices.specs.Named.{Names}
@@ -7,14 +7,14 @@ use Rattle.run_report.specs.declared.refusal.Place.{Place}
 use Rattle.run_report.specs.declared.refusal.Place.TheVariants.{PipelineFile, Generated, Stage, Out}
 use Rattle.run_report.specs.declared.refusal.Refusal.{Refusal}
 use Rattle.run_report.specs.declared.refusal.Refusal.TheVariants.{Usage, Pipeline, Data, Device, Memory}
-use Rattle.answer_model.specs.Runs.{Run}
 use Rattle.run_outcome.specs.Cause.{Because}
 use Rattle.lasline_top.specs.declared.status.Status.{Status}
 use Rattle.lasline_top.specs.declared.status.Status.TheVariants as status
 use Rattle.lasline_top.specs.Refusals.{status_for}
 use Rattle.lasline_top.specs.Words.{Task, Run_file, Plan_file, Make_file, Trial, Print}
-use Rattle.lasline_top.specs.Answer.{plan_in, ran, trial_run, status_of}
+use Rattle.lasline_top.specs.Answer.{answered, plan_in, ran, trial_run}
 use Rattle.lasline_top.specs.Cause.{AtText, AtOut, AtFile, AtPlan, AtMade, AtTrial, AtTask}
+use Rattle.lasline_top.specs.Stopping.{IsSeenBy, MayEnd}
 
 no_text : (files : Type 0) (o : Op) → (files → ⊥) → AtText files PipelineFile o → ⊥
 no_text files Open none h = none h
@@ -77,12 +77,13 @@ no_task files out m (Ok (Trial count engine)) p o no_files no_output h = no_tria
 no_task files out m (Ok (Print text)) p o no_files no_output h = no_page out o no_output h.1
 no_task files out m (Err refusal) p o no_files no_output h = h
 
--- where no device fails, the answer is the one that is expected, or want of memory
-pub answer_or_memory : (r : Result Run Refusal) (files out : Type 0) (m : Names) (task : Result Task Refusal) (refusal : Refusal) (s : Status) → s ≡ status_for refusal → (files → ⊥) → (out → ⊥)
-    → Because r (AtTask files out m task) refusal → (s ≡ status_of r) ⊎ (s ≡ status.Memory)
-answer_or_memory r files out m task Memory s is no_files no_output h = inr is
-answer_or_memory r files out m task (Usage k) s is no_files no_output h = inl (is ∙ sym (ap status_of h))
-answer_or_memory r files out m task (Pipeline f) s is no_files no_output h = inl (is ∙ sym (ap status_of h))
-answer_or_memory r files out m task (Data i f) s is no_files no_output h = inl (is ∙ sym (ap status_of h))
-answer_or_memory r files out m task (Device p o) s is no_files no_output (inl h) = inl (is ∙ sym (ap status_of h))
-answer_or_memory r files out m task (Device p o) s is no_files no_output (inr h) = absurd (no_task files out m task p o no_files no_output h)
+-- where no device fails, the answer is one that is defined, or want of memory
+pub answer_or_memory : (files out : Type 0) (m : Names) (task : Result Task Refusal) (refusal : Refusal) (s : Status) → s ≡ status_for refusal → (files → ⊥) → (out → ⊥)
+    → Because (answered task m) (AtTask files out m task) refusal ⊎ IsSeenBy task m refusal → MayEnd task m s ⊎ (s ≡ status.Memory)
+answer_or_memory files out m task Memory s is no_files no_output h = inr is
+answer_or_memory files out m task (Usage k) s is no_files no_output h = inl (Err (Usage k), h, is)
+answer_or_memory files out m task (Pipeline f) s is no_files no_output h = inl (Err (Pipeline f), h, is)
+answer_or_memory files out m task (Data i f) s is no_files no_output h = inl (Err (Data i f), h, is)
+answer_or_memory files out m task (Device p o) s is no_files no_output (inl (inl h)) = inl (Err (Device p o), inl h, is)
+answer_or_memory files out m task (Device p o) s is no_files no_output (inl (inr h)) = absurd (no_task files out m task p o no_files no_output h)
+answer_or_memory files out m task (Device p o) s is no_files no_output (inr h) = inl (Err (Device p o), inr h, is)

@@ -1,5 +1,5 @@
 -- What was printed, and what couldn't be.
-use Rattle.std.proofs.Common.{◌≡◌, List, ℕ, Option, Result, Ok, Err, IsOk, IsOkAnd, IfErr, OnErr, refl, subst, sym, inr}
+use Rattle.std.proofs.Common.{◌≡◌, List, ℕ, Option, Result, Ok, Err, IsOk, IsOkAnd, IfErr, OnErr, refl, subst, sym, inl, inr}
 use Rattle.file_devices.specs.Content.{Appends}
 use Rattle.file_devices.specs.Named.{Names}
 use Rattle.file_devices.specs.declared.devices.Op.{Op}
@@ -47,7 +47,7 @@ pub unprinted : (task : Task) (files out : Type 0) (old new : Option Names) (out
     → ((m : Names) → AreTold (Ok task) old new m → IsLeftBy (Ok task) (of.Device at.Out op.Write) old new m)
     → WasRefused (Ok task) files out old new out0 out1 r
 unprinted task files out old new out0 out1 r is rose part device left = subst (WasRefused (Ok task) files out old new out0 out1) (sym is) (record {
-  because = λ m t. inr (device m t);
+  because = λ m t. inl (inr (device m t));
   risen = rose;
   out_risen = λ o e. (named o e, rose);
   left = left;

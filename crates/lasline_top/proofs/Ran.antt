@@ -1,5 +1,5 @@
 -- What the run of a pipeline comes to, the command does.
-use Rattle.std.proofs.Common.{◌≡◌, ℕ, List, Option, Some, Result, Ok, Err, IsOkAnd, IfErr, ap, subst, sym, ◌∙◌, inl, inr}
+use Rattle.std.proofs.Common.{◌≡◌, ℕ, List, Option, Some, Result, Ok, Err, ◌⊎◌, IsOkAnd, IfErr, refl, ap, subst, sym, ◌∙◌, inl, inr}
 use Rattle.file_devices.specs.Named.{Names}
 use Rattle.file_devices.specs.Content.{Appends, AppendsPart}
 use Rattle.file_devices.specs.declared.devices.Op.{Op}
@@ -13,11 +13,19 @@ use Rattle.run_report.specs.declared.report.StageCount.{StageCount}
 use Rattle.run_report.specs.Reports.{report_of}
 use Rattle.answer_model.specs.Steps.{and_then}
 use Rattle.answer_model.specs.Runs.{Run, file_at, run_of}
-use Rattle.run_outcome.specs.Cause.{Because, IsCause, IsLeft, IsRun, IsDone, IsPartDone, MayFail}
-use Rattle.lasline_top.specs.Words.{Engine, Run_file}
+use Rattle.network_core.specs.declared.stop.Stop.{Stop}
+use Rattle.network_core.specs.declared.stop.Stop.TheVariants.{Last, First}
+use Rattle.run_report.specs.declared.refusal.Fault.{Fault}
+use Rattle.run_outcome.specs.Cause.{Because, IsLeft, IsRun, IsDone, IsPartDone, MayFail}
+use Rattle.run_engine.specs.declared.engine.Engine.{Engine as Chosen}
+use Rattle.run_engine.specs.declared.engine.Engine.TheVariants as chosen
+use Rattle.run_engine.specs.Stopping.{IsCauseBy, IsFaultIn, IsRefusedFor, ends_at}
+use Rattle.lasline_top.specs.Tasks.{engine_view}
+use Rattle.lasline_top.specs.Words.{Engine, Run_file, stop_in}
 use Rattle.lasline_top.specs.Answer.{ran, stages_in, text_run}
 use Rattle.lasline_top.specs.Cause.{IsOfRun, AtStages}
 use Rattle.lasline_top.specs.Ends.{WasRefused, WasStopped}
+use Rattle.lasline_top.specs.Stopping.{IsSeen}
 use Rattle.lasline_top.proofs.Absent.{cause_risen}
 use Rattle.lasline_top.proofs.Printed.{part_ok, part_put, unprinted}
 
@@ -33,8 +41,8 @@ because-more (of.Pipeline f) expected failed later more h = h
 because-more (of.Usage k) expected failed later more h = h
 
 -- why the run of a text is refused, by the cause of the run of its stages
-module _ (rose : Type 0) (old new : Option Names) (text : List ℕ) (stages : List StageSpec) (is : stages_in text ≡ Ok stages) where
-  of-run : (r : Refusal) → IsCause rose old stages r → IsOfRun r
+module _ (stop : Stop) (rose : Type 0) (old new : Option Names) (text : List ℕ) (stages : List StageSpec) (is : stages_in text ≡ Ok stages) where
+  of-run : (r : Refusal) → IsCauseBy stop rose old stages r → IsOfRun r
   of-run of.Memory c = tt
   of-run (of.Data i f) c = tt
   of-run (of.Pipeline f) c = tt
@@ -44,32 +52,45 @@ module _ (rose : Type 0) (old new : Option Names) (text : List ℕ) (stages : Li
   of-run (of.Device at.Out o) c = absurd c
   of-run (of.Usage k) c = absurd c
 
-  run-because : (r : Refusal) (m : Names) → old ≡ Some m → IsCause rose old stages r → Because (text_run m text) (AtStages rose ⊥ m (stages_in text) ⊥) r
-  run-because of.Memory m t c = tt
-  run-because (of.Data i f) m t c = ap (λ p. and_then p (run_of m)) is ∙ c m t
-  run-because (of.Pipeline f) m t c = ap (λ p. and_then p (run_of m)) is ∙ c m t
+  answers : (r : Refusal) (m : Names) → run_of m stages ≡ Err r → text_run m text ≡ Err r
+  answers r m e = ap (λ p. and_then p (run_of m)) is ∙ e
+
+  seen-because : (ends : Stop) (i : ℕ) (f : Fault) (m : Names) → IsRefusedFor ends m stages i f → (text_run m text ≡ Err (of.Data i f)) ⊎ IsSeen ends m (stages_in text) (of.Data i f)
+  seen-because Last i f m c = inl (answers (of.Data i f) m c)
+  seen-because First i f m (inl c) = inl (answers (of.Data i f) m c)
+  seen-because First i f m (inr c) = inr (subst (λ p. IsOkAnd p (λ ss. IsFaultIn m ss i f)) (sym is) c)
+
+  run-because : (r : Refusal) (m : Names) → old ≡ Some m → IsCauseBy stop rose old stages r → Because (text_run m text) (AtStages rose ⊥ m (stages_in text) ⊥) r ⊎ IsSeen stop m (stages_in text) r
+  run-because of.Memory m t c = inl tt
+  run-because (of.Data i f) m t c = seen-because stop i f m (c m t)
+  run-because (of.Pipeline f) m t c = inl (answers (of.Pipeline f) m (c m t))
   run-because (of.Device (at.Stage i) o) m t (inl a) =
       let told : Some a.0 ≡ Some m = sym a.1 ∙ t in
       let one : a.0 ≡ m = cc in
-      inl (ap (λ p. and_then p (run_of m)) is ∙ subst (λ n. run_of n stages ≡ Err (of.Device (at.Stage i) o)) one a.2)
-  run-because (of.Device (at.Stage i) o) m t (inr a) = inr (a.0, subst (λ p. IsOkAnd p (λ ss. MayFail m ss i o)) (sym is) (a.1 m t))
+      inl (inl (answers (of.Device (at.Stage i) o) m (subst (λ n. run_of n stages ≡ Err (of.Device (at.Stage i) o)) one a.2)))
+  run-because (of.Device (at.Stage i) o) m t (inr a) = inl (inr (a.0, subst (λ p. IsOkAnd p (λ ss. MayFail m ss i o)) (sym is) (a.1 m t)))
   run-because (of.Device at.PipelineFile o) m t c = absurd c
   run-because (of.Device at.Generated o) m t c = absurd c
   run-because (of.Device at.Out o) m t c = absurd c
   run-because (of.Usage k) m t c = absurd c
 
-  run-stopped : (r : Refusal) → IsCause rose old stages r → ((m : Names) → old ≡ Some m → IsLeft r old new (run_of m stages)) → WasStopped rose old new text r
+  run-stopped : (r : Refusal) → IsCauseBy stop rose old stages r → ((m : Names) → old ≡ Some m → IsLeft r old new (run_of m stages)) → WasStopped stop rose old new text r
   run-stopped r c left = record {
     of_run = of-run r c;
     because = λ m t. run-because r m t c;
-    risen = cause_risen rose old stages r c;
+    risen = cause_risen stop rose old stages r c;
     left = λ m t. subst (λ p. IsLeft r old new (and_then p (run_of m))) (sym is) (left m t);
   }
 
-  pub if-stopped : {T : Type 0} (result : Result T Refusal) → IfErr result (IsCause rose old stages) → IfErr result (λ r. (m : Names) → old ≡ Some m → IsLeft r old new (run_of m stages))
-      → IfErr result (WasStopped rose old new text)
+  pub if-stopped : {T : Type 0} (result : Result T Refusal) → IfErr result (IsCauseBy stop rose old stages) → IfErr result (λ r. (m : Names) → old ≡ Some m → IsLeft r old new (run_of m stages))
+      → IfErr result (WasStopped stop rose old new text)
   if-stopped (Ok x) c left = tt
   if-stopped (Err r) c left = run-stopped r c left
+
+-- the turns of stages end as those of the command's engine do
+pub ends-so : (engine : Chosen) (stop : Stop) → ends_at engine stop ≡ stop_in (engine_view stop engine)
+ends-so (chosen.Queues shape) stop = refl
+ends-so chosen.Whole stop = refl
 
 -- ---- the run of a file
 

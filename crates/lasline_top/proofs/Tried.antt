@@ -17,7 +17,7 @@ use Rattle.answer_model.specs.Steps.{and_then}
 use Rattle.answer_model.specs.Runs.{Run}
 use Rattle.run_outcome.specs.Cause.{Because, WerePut, IsRun, IsDone, IsPartDone, IsLeft}
 use Rattle.lasline_top.specs.Texts.{generated_line}
-use Rattle.lasline_top.specs.Words.{Engine, Trial}
+use Rattle.lasline_top.specs.Words.{Engine, Trial, stop_in}
 use Rattle.lasline_top.specs.Answer.{made, behind, stages_in, text_run, trial_name, trial_text, with_trial, trial_run, done}
 use Rattle.lasline_top.specs.Cause.{IsOfRun, AtStages, AtTask, AtTrial}
 use Rattle.lasline_top.specs.Left.{IsTrialLeft}
@@ -66,10 +66,12 @@ module _ (count : ℕ) (engine : Engine) (files out : Type 0) where
   at-trial rose m more at.Out op.Keep h = absurd h
 
   pub trial-stopped : (rose : Type 0) (text : List ℕ) (old middle new : Option Names) (out0 out1 : Option (List ℕ)) (r : Refusal) → out1 ≡ out0 → IsPut old trial_name (generated_file count) middle → text ≡ trial_text
-      → (rose → files) → (middle ≡ None → new ≡ None) → WasStopped rose middle new text r → WasRefused (Ok (Trial count engine)) files out old new out0 out1 r
+      → (rose → files) → (middle ≡ None → new ≡ None) → WasStopped (stop_in engine) rose middle new text r → WasRefused (Ok (Trial count engine)) files out old new out0 out1 r
   trial-stopped rose text old middle new out0 out1 r quiet put-in is more untold text-stopped = record {
-    because = λ m t. trial-because m r (because-more r (trial_run m count) (AtStages rose ⊥ (with_trial m count) (stages_in trial_text) ⊥) (AtTrial files out m count) (at-trial rose m more)
-        (stopped.because (with_trial m count) (told-between count old middle new m put-in untold t.0 t.1)));
+    because = λ m t. elim (stopped.because (with_trial m count) (told-between count old middle new m put-in untold t.0 t.1)) [
+      | inl b ↦ inl (trial-because m r (because-more r (trial_run m count) (AtStages rose ⊥ (with_trial m count) (stages_in trial_text) ⊥) (AtTrial files out m count) (at-trial rose m more) b))
+      | inr s ↦ inr s
+    ];
     risen = risen_more rose ⊥ files out middle old r more (λ never. absurd never) (absent_behind trial_name (generated_file count) old middle put-in) stopped.risen;
     out_risen = λ o e. absurd (subst IsOfRun e stopped.of_run);
     left = λ m t. let told = told-between count old middle new m put-in untold t.0 t.1 in
@@ -77,8 +79,8 @@ module _ (count : ℕ) (engine : Engine) (files out : Type 0) where
     quiet = inl quiet;
   }
     where
-      stopped : WasStopped rose middle new trial_text r
-      stopped = subst (λ b. WasStopped rose middle new b r) is text-stopped
+      stopped : WasStopped (stop_in engine) rose middle new trial_text r
+      stopped = subst (λ b. WasStopped (stop_in engine) rose middle new b r) is text-stopped
 
 -- ---- runs that were right
 

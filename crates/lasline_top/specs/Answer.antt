@@ -89,9 +89,13 @@ done m (Make_file count name) = Ok (made count name)
 done m (Trial count engine) = and_then (trial_run m count) (λ run. Ok (behind (made count trial_name) run))
 done m (Print text) = Ok (printed text)
 
--- the answer of a command: what it keeps and reports, or why it is refused. The engine of a run doesn't matter
+-- what a task comes to: what it keeps and reports, or why it is refused. The engine of a run doesn't matter
+abbrev pub answered : Result Task Refusal → Names → Result Run Refusal
+answered task m = and_then task (done m)
+
+-- the answer of a command
 abbrev pub answer : List (List ℕ) → Names → Result Run Refusal
-answer words m = and_then (task_of words) (done m)
+answer words m = answered (task_of words) m
 
 -- the status of an answer
 abbrev pub status_of : Result Run Refusal → Status

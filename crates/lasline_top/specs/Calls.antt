@@ -18,12 +18,13 @@ use Rattle.run_outcome.specs.Cause.{IsPartDone, WerePut}
 use Rattle.lasline_top.specs.declared.status.Status.{Status}
 use Rattle.lasline_top.specs.declared.status.Status.TheVariants as ends
 use Rattle.lasline_top.specs.Words.{Print, task_of}
-use Rattle.lasline_top.specs.Answer.{answer, status_of}
+use Rattle.lasline_top.specs.Answer.{answer}
 use Rattle.lasline_top.specs.Cause.{AtTask, HasFailed, ToldWhy}
 use Rattle.lasline_top.specs.Codes.{code_of}
 use Rattle.lasline_top.specs.Left.{AreTold, IsLeftBy}
 use Rattle.lasline_top.specs.Reading.{IsReadBy}
 use Rattle.lasline_top.specs.Refusals.{status_for}
+use Rattle.lasline_top.specs.Stopping.{MayCome, MayEnd}
 
 -- what can be seen at one time: of the files what names have, how often they failed, how far they were read and how many objects
 -- are handed out; of the output and of the errors their bytes and how often they failed
@@ -73,11 +74,12 @@ pub record HasAnswered (words : List (List ℕ)) (before after : Seen) (status :
   pub page : status ≡ ends.Ok → (text : List ℕ) → task_of words ≡ Ok (Print text) → Appends before.out text after.out
   pub page_part : (status ≡ ends.Ok → ⊥) → (text : List ℕ) → task_of words ≡ Ok (Print text)
       → AppendsPart before.out text after.out
-  -- each other answer has its cause: the pipeline has that fault, the files hold it, or the words are no command
+  -- each other answer has its cause: the pipeline has that fault, the files hold it, or the words are no command. Where turns end at
+  -- the first fault it may be that of any stage
   pub pipeline : (f : PipeFault) → status ≡ ends.Pipeline f → (m : Names) → Told words before after m
       → answer words m ≡ Err (of.Pipeline f)
   pub «data» : (i : ℕ) (f : Fault) → status ≡ ends.Data i f → (m : Names) → Told words before after m
-      → answer words m ≡ Err (of.Data i f)
+      → MayCome (task_of words) m (Err (of.Data i f))
   pub usage : (k : ℕ) → status ≡ ends.Usage k → task_of words ≡ Err (of.Usage k)
   pub words_first : (refusal : Refusal) → task_of words ≡ Err refusal → status ≡ status_for refusal
   -- or a device failed, once the command had come that far: its count rose, or a file to read isn't there
@@ -86,9 +88,9 @@ pub record HasAnswered (words : List (List ℕ)) (before after : Seen) (status :
   pub risen : (p : Place) (o : Op) → status ≡ ends.Device p o
       → HasFailed (FilesRose before after) (OutRose before after) before.map p o
   pub out_risen : (o : Op) → status ≡ ends.Device at.Out o → (o ≡ op.Write) × OutRose before after
-  -- where no device fails, the answer is the one that is defined, or want of memory
+  -- where no device fails, the answer is one that is defined, or want of memory
   pub complete : (m : Names) → Told words before after m → (FilesRose before after → ⊥) → (OutRose before after → ⊥)
-      → (status ≡ status_of (answer words m)) ⊎ (status ≡ ends.Memory)
+      → MayEnd (task_of words) m status ⊎ (status ≡ ends.Memory)
   -- after a refusal the files are as before, but for the first outputs where one couldn't be kept, for all where only the report
   -- couldn't be printed, and for the file that a trial made
   pub refused : (refusal : Refusal) → status ≡ status_for refusal → (m : Names) → Told words before after m

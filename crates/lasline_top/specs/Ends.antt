@@ -5,20 +5,16 @@ use Rattle.file_devices.specs.declared.devices.Op.{Op}
 use Rattle.file_devices.specs.declared.devices.Op.TheVariants as op
 use Rattle.cloud_gen.specs.GeneratedFile.{IsLeft as IsUnmade}
 use Rattle.cloud_gen.specs.declared.faults.GenerateError.TheVariants as generating
+use Rattle.network_core.specs.declared.stop.Stop.{Stop}
 use Rattle.run_report.specs.declared.refusal.Place.TheVariants as at
 use Rattle.run_report.specs.declared.refusal.Refusal.{Refusal}
 use Rattle.run_report.specs.declared.refusal.Refusal.TheVariants as of
-use Rattle.answer_model.specs.Steps.{and_then}
-use Rattle.answer_model.specs.Runs.{Run}
 use Rattle.run_outcome.specs.Cause.{Because, IsDone, IsPartDone, IsLeft}
 use Rattle.lasline_top.specs.Words.{Task}
-use Rattle.lasline_top.specs.Answer.{stages_in, text_run, done}
+use Rattle.lasline_top.specs.Answer.{answered, stages_in, text_run}
 use Rattle.lasline_top.specs.Cause.{Risen, IsOfRun, AtMade, AtStages, AtTask}
 use Rattle.lasline_top.specs.Left.{AreTold, IsLeftBy}
-
--- what it comes to
-abbrev pub answered : Result Task Refusal → Names → Result Run Refusal
-answered task m = and_then task (done m)
+use Rattle.lasline_top.specs.Stopping.{IsSeen, IsSeenBy}
 
 -- it was done: its outputs were put, and its report was printed
 abbrev pub WasDone : Result Task Refusal → Option Names → Option Names → Option (List ℕ) → Option (List ℕ) → Type 0
@@ -26,8 +22,8 @@ WasDone task old new out_before out = (m : Names) → AreTold task old new m →
 
 -- it was refused, where the faults of the files and of the output rose or didn't
 pub record WasRefused (task : Result Task Refusal) (files_rose out_rose : Type 0) (old new : Option Names) (out_before out : Option (List ℕ)) (refusal : Refusal) : Type 0 where
-  -- for its own refusal, for want of memory, or for a device that failed
-  pub because : (m : Names) → AreTold task old new m → Because (answered task m) (AtTask files_rose out_rose m task) refusal
+  -- for its own refusal, for want of memory, for a device that failed, or for a fault that was seen
+  pub because : (m : Names) → AreTold task old new m → Because (answered task m) (AtTask files_rose out_rose m task) refusal ⊎ IsSeenBy task m refusal
   pub risen : Risen files_rose out_rose old refusal
   pub out_risen : (o : Op) → refusal ≡ of.Device at.Out o → (o ≡ op.Write) × out_rose
   -- and left this
@@ -41,11 +37,11 @@ WasUnmade rose old name bytes new of.Memory = IsUnmade generating.Memory old nam
 WasUnmade rose old name bytes new (of.Device at.Generated o) = AtMade rose ⊥ at.Generated o × IsUnmade (generating.Device o) old name bytes new
 WasUnmade rose old name bytes new refusal = ⊥
 
--- the run of a text was refused, where the faults of the files rose or didn't
-pub record WasStopped (rose : Type 0) (old new : Option Names) (text : List ℕ) (refusal : Refusal) : Type 0 where
+-- the run of a text was refused whose turns end there, where the faults of the files rose or didn't
+pub record WasStopped (stop : Stop) (rose : Type 0) (old new : Option Names) (text : List ℕ) (refusal : Refusal) : Type 0 where
   pub of_run : IsOfRun refusal
-  -- for its own refusal, for want of memory, or for a stage's device that failed
-  pub because : (m : Names) → old ≡ Some m → Because (text_run m text) (AtStages rose ⊥ m (stages_in text) ⊥) refusal
+  -- for its own refusal, for want of memory, for a stage's device that failed, or for a fault that was seen
+  pub because : (m : Names) → old ≡ Some m → Because (text_run m text) (AtStages rose ⊥ m (stages_in text) ⊥) refusal ⊎ IsSeen stop m (stages_in text) refusal
   pub risen : Risen rose ⊥ old refusal
   -- and left this
   pub left : (m : Names) → old ≡ Some m → IsLeft refusal old new (text_run m text)

@@ -5,6 +5,7 @@ pub mod Tasks
 pub mod Texts
 pub mod Answer
 pub mod Cause
+pub mod Stopping
 pub mod Left
 pub mod Reading
 pub mod Ends

@@ -19,6 +19,7 @@ help_lines =
     codes "  --queue N      items that wait between two stages: 1 to 64 (default 8)\n" ∷
     codes "  --workers N    threads that the stages go on by: 1 to 32 (default 1)\n" ∷
     codes "  --patience N   rounds without work until one stops: 0 to 1000000 (default 1000)\n" ∷
+    codes "  --stop first   end a run at the first fault that is seen\n" ∷
     codes "  --whole        run the stages one after the other, on whole lists\n" ∷
     codes "\n" ∷
     codes "For example, a file p.json with the text\n" ∷

@@ -18,4 +18,4 @@ options_of (Err k) = None
 
 -- stages of a run with these go on at once
 abbrev pub are_several : RunOptions → Bool
-are_several options = not options.whole && not (options.workers == 1)
+are_several options = not options.whole && not options.stop_first && not (options.workers == 1)

@@ -23,6 +23,7 @@ pub(crate) fn help() -> &'static str
         "  --queue N      items that wait between two stages: 1 to 64 (default 8)\n",
         "  --workers N    threads that the stages go on by: 1 to 32 (default 1)\n",
         "  --patience N   rounds without work until one stops: 0 to 1000000 (default 1000)\n",
+        "  --stop first   end a run at the first fault that is seen\n",
         "  --whole        run the stages one after the other, on whole lists\n",
         "\n",
         "For example, a file p.json with the text\n",

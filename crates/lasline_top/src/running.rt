@@ -5,7 +5,7 @@ ghost use Rattle.file_devices.specs.Counts.{Rose};
 ghost use Rattle.file_devices.specs.Named.{Names};
 ghost use Rattle.run_outcome.specs.Cause.{IsRun};
 ghost use Rattle.lasline_top.specs.Tasks.{engine_view};
-ghost use Rattle.lasline_top.specs.Words.{Run_file, Trial};
+ghost use Rattle.lasline_top.specs.Words.{Run_file, Trial, stop_in};
 ghost use Rattle.lasline_top.specs.Answer.{text_run, trial_name, trial_text};
 ghost use Rattle.lasline_top.specs.Cause.{IsOfFiles};
 ghost use Rattle.lasline_top.specs.Ends.{WasDone, WasRefused, WasStopped};
@@ -34,8 +34,8 @@ fn run_text<F: Files, T: Scheduler<StageWork<F::In, F::Out>>>(
     requires sound { T.sound scheduler.now }
     ensures ok { IfOk result (λ report. (m : Names) → F.map files.old ≡ Some m
         → IsOkAnd (text_run m text.now) (IsRun (F.map files.old) (F.map files.new) report.items)) }
-    ensures err { IfErr result (WasStopped (Rose (F.faults files.old) (F.faults files.new)) (F.map files.old)
-        (F.map files.new) text.now) }
+    ensures err { IfErr result (WasStopped (stop_in (engine_view (T.stop scheduler.now) engine))
+        (Rose (F.faults files.old) (F.faults files.new)) (F.map files.old) (F.map files.new) text.now) }
     ensures untold { F.map files.old ≡ None → F.map files.new ≡ None }
     ensures lent { F.lent files.new ≡ F.lent files.old }
     ensures later { F.faults files.old ≤ F.faults files.new }
@@ -54,9 +54,9 @@ pub(crate) fn run_file<F: Files, K: Sink, T: Scheduler<StageWork<F::In, F::Out>>
     out: &mut K,
 ) -> Result<(), Refusal>
     requires sound { T.sound scheduler.now }
-    ensures ok { OnOk result (WasDone (Ok (Run_file name.now (engine_view engine))) (F.map files.old)
-        (F.map files.new) (K.bytes out.old) (K.bytes out.new)) }
-    ensures err { IfErr result (WasRefused (Ok (Run_file name.now (engine_view engine)))
+    ensures ok { OnOk result (WasDone (Ok (Run_file name.now (engine_view (T.stop scheduler.now) engine)))
+        (F.map files.old) (F.map files.new) (K.bytes out.old) (K.bytes out.new)) }
+    ensures err { IfErr result (WasRefused (Ok (Run_file name.now (engine_view (T.stop scheduler.now) engine)))
         (Rose (F.faults files.old) (F.faults files.new)) (Rose (K.faults out.old) (K.faults out.new))
         (F.map files.old) (F.map files.new) (K.bytes out.old) (K.bytes out.new)) }
     ensures of_files { IfErr result IsOfFiles }
@@ -92,9 +92,9 @@ pub(crate) fn run_trial<F: Files, K: Sink, T: Scheduler<StageWork<F::In, F::Out>
     out: &mut K,
 ) -> Result<(), Refusal>
     requires sound { T.sound scheduler.now }
-    ensures ok { OnOk result (WasDone (Ok (Trial count.points (engine_view engine))) (F.map files.old)
-        (F.map files.new) (K.bytes out.old) (K.bytes out.new)) }
-    ensures err { IfErr result (WasRefused (Ok (Trial count.points (engine_view engine)))
+    ensures ok { OnOk result (WasDone (Ok (Trial count.points (engine_view (T.stop scheduler.now) engine)))
+        (F.map files.old) (F.map files.new) (K.bytes out.old) (K.bytes out.new)) }
+    ensures err { IfErr result (WasRefused (Ok (Trial count.points (engine_view (T.stop scheduler.now) engine)))
         (Rose (F.faults files.old) (F.faults files.new)) (Rose (K.faults out.old) (K.faults out.new))
         (F.map files.old) (F.map files.new) (K.bytes out.old) (K.bytes out.new)) }
     ensures of_files { IfErr result IsOfFiles }

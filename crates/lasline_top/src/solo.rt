@@ -5,7 +5,7 @@ ghost use Rattle.file_devices.specs.Counts.{Rose};
 ghost use Rattle.file_devices.specs.Content.{Appends, AppendsPart};
 ghost use Rattle.run_report.specs.declared.refusal.Refusal.{Refusal};
 ghost use Rattle.run_report.specs.Faults.{fault_line};
-ghost use Rattle.lasline_top.specs.Words.{Print, task_of};
+ghost use Rattle.lasline_top.specs.Words.{Print, stop_for, task_of};
 ghost use Rattle.lasline_top.specs.Refusals.{status_for};
 ghost use Rattle.lasline_top.specs.Cause.{ToldWhy};
 ghost use Rattle.lasline_top.specs.Ends.{WasDone, WasRefused};
@@ -17,7 +17,7 @@ use crate::planning::plan_file;
 use crate::printing::print_text;
 use crate::running::{run_file, run_trial};
 use crate::status::Status;
-use crate::words::{Task, task_of};
+use crate::words::{Task, stop_for, task_of};
 use file_devices::{Files, Sink};
 use network_solo::{OneThread, Scheduler};
 use run_report::{Refusal, fault_text};
@@ -33,6 +33,7 @@ fn run_command<F: Files, K: Sink, T: Scheduler<StageWork<F::In, F::Out>>>(
     out: &mut K,
 ) -> Result<(), Refusal>
     requires sound { T.sound scheduler.now }
+    requires stop { T.stop scheduler.now ≡ stop_for (task_of (map string_bytes words.now)) }
     ensures ok { OnOk result (WasDone (task_of (map string_bytes words.now)) (F.map files.old)
         (F.map files.new) (K.bytes out.old) (K.bytes out.new)) }
     ensures err { IfErr result (WasRefused (task_of (map string_bytes words.now))
@@ -82,6 +83,7 @@ pub(crate) fn do_command<F: Files, K: Sink, E: Sink, T: Scheduler<StageWork<F::I
     err: &mut E,
 ) -> Status
     requires sound { T.sound scheduler.now }
+    requires stop { T.stop scheduler.now ≡ stop_for (task_of (map string_bytes words.now)) }
     ensures answered { HasAnswered (map string_bytes words.now)
         (seen F.Files K.Sink E.Sink files.old out.old err.old)
         (seen F.Files K.Sink E.Sink files.new out.new err.new)
@@ -106,15 +108,17 @@ pub(crate) fn do_command<F: Files, K: Sink, E: Sink, T: Scheduler<StageWork<F::I
 /// Behind `run FILE` and `trial N` may stand `--chunk N`, the points that a stage passes on at once, and `--queue N`, the items that a
 /// queue between two stages holds: each at most once, in any order, with N from 1 to 64. Without them N is 64 and 8. With `--whole`
 /// the stages are evaluated one after the other, each on all its points. `--workers N`, 1 to 32, and `--patience N`, 0 to 1,000,000, are
-/// for `lasline`. None of these changes what is kept or reported.
+/// for `lasline`. With `--stop first`, and without `--whole`, the run ends at the first fault of a stage that is seen, and that is
+/// answered. None of these changes what is kept or reported, and but for `--stop first` none changes which fault is answered.
 ///
 /// On `Ok` the outputs are kept in `files` and the report is appended to `out`; on any other status a line that says why is appended to
 /// `err`. Every object that `files` handed out is given back.
 ///
-/// `Pipeline` comes only where the pipeline has that fault and no earlier one, `Data` only where the files hold that fault,
-/// `Device` only where the named device failed or a file to read isn't there, and `Memory` where there was none. After a
-/// refusal the files are as before. Only where the keeping of an output failed or found no memory are those of the stages before
-/// it kept, and that one may be; where the report couldn't be printed all are. What `trial` generated stays.
+/// `Pipeline` comes only where the pipeline has that fault and no earlier one, `Data` only where the files hold that fault (of
+/// several stages the first one's, but with `--stop first` any), `Device` only where the named device failed or a file to read isn't
+/// there, and `Memory` where there was none. After a refusal the files are as before. Only where the keeping of an output failed or
+/// found no memory are those of the stages before it kept, and that one may be; where the report couldn't be printed all are. What
+/// `trial` generated stays.
 pub fn lasline_solo<F: Files, K: Sink, E: Sink>(
     alloc: Global,
     words: &[String],
@@ -127,5 +131,6 @@ pub fn lasline_solo<F: Files, K: Sink, E: Sink>(
         (seen F.Files K.Sink E.Sink files.new out.new err.new)
         result }
 {
-    do_command(alloc, &OneThread, words, files, out, err)
+    let stop = stop_for(words);
+    do_command(alloc, &OneThread { stop }, words, files, out, err)
 }

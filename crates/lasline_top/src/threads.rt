@@ -1,15 +1,17 @@
 //! The top call on several threads.
 
-ghost use Rattle.std.specs.Prelude.{◌≡◌, ◌<◌, ◌≤◌, map, IfSome, string_bytes};
-ghost use Rattle.command_words.specs.Machine.{command_of};
+ghost use Rattle.std.specs.Prelude.{◌≡◌, ◌<◌, ◌≤◌, map, string_bytes};
+ghost use Rattle.network_core.specs.declared.stop.Stop.TheVariants.{Last};
 ghost use Rattle.network_workers.specs.Crews.{HasRun, MayRun};
 ghost use Rattle.stage_runs.specs.Works.{as_works};
 ghost use Rattle.lasline_top.specs.Calls.{HasAnswered, seen};
-ghost use Rattle.lasline_top.specs.Threads.{are_several, options_of};
+ghost use Rattle.lasline_top.specs.Threads.{are_several};
+ghost use Rattle.lasline_top.specs.Words.{stop_for, task_of};
 
 use crate::solo::{do_command, lasline_solo};
 use crate::status::Status;
-use command_words::{Command, RunOptions, read_command};
+use crate::words::options_of;
+use command_words::RunOptions;
 use file_devices::{FileSink, Files, Gate, Sink, Source};
 use network_core::{InsList, NodeList};
 use network_workers::{Crew, WorkerRoom, run_tree_by};
@@ -18,28 +20,12 @@ use std::alloc::Global;
 use std::sync::Wait;
 use std::thread::Threads;
 
-/// Whether the stages of a run with these options go on at once: with more than one worker, unless they are evaluated whole.
+/// Whether the stages of a run with these options go on at once: with more than one worker, unless they are evaluated whole or end at
+/// the first fault.
 fn are_several(options: RunOptions) -> bool
     ensures { result ≡ are_several options }
 {
-    !options.whole && options.workers != 1
-}
-
-/// The options of a run or a trial.
-fn options_of(words: &[String]) -> Option<RunOptions>
-    ensures asked { result ≡ options_of (command_of (map string_bytes words.now)) }
-    ensures some { IfSome result (λ options. 0 < options.workers) }
-    ensures most { IfSome result (λ options. options.workers ≤ 32) }
-{
-    match read_command(words) {
-        Ok(Command::Run { file: _, options }) => Some(options),
-        Ok(Command::Trial { count: _, options }) => Some(options),
-        Ok(Command::Plan { file: _ }) => None,
-        Ok(Command::Gen { count: _, name: _ }) => None,
-        Ok(Command::Help) => None,
-        Ok(Command::Version) => None,
-        Err(_) => None,
-    }
+    !options.whole && !options.stop_first && options.workers != 1
 }
 
 /// Lets the nodes of a run take turns on several threads.
@@ -78,6 +64,7 @@ fn do_by_crew<
 ) -> Status
     requires some { 0 < options.workers }
     requires most { options.workers ≤ 32 }
+    requires last { stop_for (task_of (map string_bytes words.now)) ≡ Last }
     ensures answered { HasAnswered (map string_bytes words.now)
         (seen F.Files K.Sink E.Sink files.old out.old err.old)
         (seen F.Files K.Sink E.Sink files.new out.new err.new)
@@ -96,11 +83,10 @@ fn do_by_crew<
     do_command(alloc, &crew, words, files, out, err)
 }
 
-/// Does a command as `lasline_solo` does. Only where `--workers` of a run or a trial asks for more than one, and
-/// `--whole` doesn't stand with it, its stages go on at once on so many threads, or as many as there are stages: stage j
-/// is turned by worker j modulo their number. Before each turn the worker asks the gate with its own number and that of
-/// the stage. After `--patience` rounds in a row without work it stops, and what is left to do then is done on the
-/// thread of the caller.
+/// Does a command as `lasline_solo` does. Only where `--workers` of a run or a trial asks for more than one, and neither `--whole` nor
+/// `--stop first` stands with it, its stages go on at once on so many threads, or as many as there are stages: stage j is turned by
+/// worker j modulo their number. Before each turn the worker asks the gate with its own number and that of the stage. After
+/// `--patience` rounds in a row without work it stops, and what is left to do then is done on the thread of the caller.
 ///
 /// What is said of `lasline_solo` is said of it, whatever the number of workers, the patience and the gate, and in
 /// whichever order the threads come to their turns. But it may wait for them, so that it returns isn't promised. Where

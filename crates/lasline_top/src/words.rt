@@ -1,13 +1,16 @@
 //! What the words of a command line ask for.
 
-ghost use Rattle.std.specs.Prelude.{◌≡◌, map, Ok, Err, IfOk, IfErr, string_bytes};
-ghost use Rattle.lasline_top.specs.Words.{engine_of, task_of};
+ghost use Rattle.std.specs.Prelude.{◌≡◌, ◌<◌, ◌≤◌, map, Ok, Err, IfOk, IfErr, IfSome, string_bytes};
+ghost use Rattle.lasline_top.specs.Words.{engine_of, task_of, stop_in, stop_for};
 ghost use Rattle.lasline_top.specs.Tasks.{engine_view, task_view};
+ghost use Rattle.lasline_top.specs.Threads.{options_of};
 ghost use Rattle.command_words.specs.Commands.{AreWithin};
+ghost use Rattle.command_words.specs.Machine.{command_of};
 
 use crate::count::PointCount;
 use crate::pages::{help, version};
 use command_words::{Command, RunOptions, read_command};
+use network_core::Stop;
 use run_engine::{Engine, Shape};
 use run_report::Refusal;
 
@@ -33,7 +36,7 @@ pub(crate) enum Task<'a> {
 /// The engine that options ask for.
 fn engine_of(options: RunOptions) -> Engine
     requires { AreWithin options }
-    ensures { engine_view result ≡ engine_of options }
+    ensures { engine_view (stop_in (engine_of options)) result ≡ engine_of options }
 {
     if options.whole {
         return Engine::Whole;
@@ -43,7 +46,8 @@ fn engine_of(options: RunOptions) -> Engine
 
 /// The task of the words.
 pub(crate) fn task_of(words: &[String]) -> Result<Task<'_>, Refusal>
-    ensures ok { IfOk result (λ task. task_of (map string_bytes words.now) ≡ Ok (task_view task)) }
+    ensures ok { IfOk result (λ task. task_of (map string_bytes words.now)
+        ≡ Ok (task_view (stop_for (task_of (map string_bytes words.now))) task)) }
     ensures err { IfErr result (λ refusal. task_of (map string_bytes words.now) ≡ Err refusal) }
 {
     let command = match read_command(words) {
@@ -68,4 +72,43 @@ pub(crate) fn task_of(words: &[String]) -> Result<Task<'_>, Refusal>
         Command::Help => Task::Print(help()),
         Command::Version => Task::Print(version()),
     })
+}
+
+/// The options of a run or a trial.
+pub(crate) fn options_of(words: &[String]) -> Option<RunOptions>
+    ensures asked { result ≡ options_of (command_of (map string_bytes words.now)) }
+    ensures some { IfSome result (λ options. 0 < options.workers) }
+    ensures most { IfSome result (λ options. options.workers ≤ 32) }
+{
+    match read_command(words) {
+        Ok(Command::Run { file: _, options }) => Some(options),
+        Ok(Command::Trial { count: _, options }) => Some(options),
+        Ok(Command::Plan { file: _ }) => None,
+        Ok(Command::Gen { count: _, name: _ }) => None,
+        Ok(Command::Help) => None,
+        Ok(Command::Version) => None,
+        Err(_) => None,
+    }
+}
+
+/// Where the turns of a run with these options end: where all is done, unless they are to end at the first fault. A run that is evaluated
+/// whole has none.
+fn stop_of(options: RunOptions) -> Stop
+    ensures { result ≡ stop_in (engine_of options) }
+{
+    if options.stop_first && !options.whole {
+        Stop::First
+    } else {
+        Stop::Last
+    }
+}
+
+/// Where the turns of a command end.
+pub(crate) fn stop_for(words: &[String]) -> Stop
+    ensures { result ≡ stop_for (task_of (map string_bytes words.now)) }
+{
+    match options_of(words) {
+        Some(options) => stop_of(options),
+        None => Stop::Last,
+    }
 }

@@ -1,5 +1,5 @@
 -- Turns that end at a fault: none came after one, and each fault is one that was to come.
-use Rattle.std.proofs.Common.{◌≡◌, ℕ, ◌+◌, ◌<◌, Bool, true, false, cond, List, [], ◌∷◌, ◌++◌, length, Option, Some, None, refl, ap, subst, sym, ◌∙◌, arith, inr}
+use Rattle.std.proofs.Common.{◌≡◌, ℕ, ◌+◌, ◌<◌, Bool, true, false, cond, List, [], ◌∷◌, ◌++◌, length, Option, Some, None, refl, ap, subst, sym, ◌∙◌, arith, inl, inr, true≢false}
 use Rattle.std.specs.Prelude.{slice_get, ◌==◌, is_some}
 use Rattle.std.proofs.lemmas.Bool.Decides.{nat_tests}
 use Rattle.std.proofs.lemmas.Option.{slice_get_within}
@@ -23,8 +23,8 @@ use Rattle.network_core.specs.declared.turned.Turned.{Turned}
 use Rattle.network_core.specs.Shown.{shown, turned}
 use Rattle.network_core.specs.Nets.{net_of, root_of, capacity_of, choice_at, ObeysAt, SameShape, shown_or, IsNewNet}
 use Rattle.network_core.proofs.Opened.{some_at}
-use Rattle.network_solo.specs.Runs.{HadTurns}
-use Rattle.network_solo.specs.Stopping.{stops_at, IsOver, IsClean, AreClean, CameInTime, HadInTime, FaultsToCome, IsStoppedTree}
+use Rattle.network_solo.specs.Runs.{HadTurns, IsRunToEnd}
+use Rattle.network_solo.specs.Stopping.{stops_at, CameToEnd, NoneFaulty, IsOver, IsClean, AreClean, CameInTime, HadInTime, FaultsToCome, IsStoppedTree}
 use Rattle.network_solo.proofs.Endings.{fault-comes}
 use Rattle.network_solo.proofs.Ran.{node-is, all-told}
 use Rattle.network_solo.proofs.Turning.{no-turns, no-schedule, one-more, more-schedule, spent_of, is-spent, had-work}
@@ -142,6 +142,16 @@ over-at g First n i x e h = inr (i, x, e, h)
 
 pub not-last : (stop : Stop) (fault : Option StageFault) → stops_at stop fault ≡ true → stop ≡ Last → ⊥
 not-last stop fault h e = let b : stops_at Last fault ≡ true = ap (λ s. stops_at s fault) (sym e) ∙ h in absurd cc
+
+-- turns that ended at a fault didn't come to the end of all
+pub not-come : {W S : Type 0} (g : Ghosts W S) (stop : Stop) (nodes : List (Node W)) (i : ℕ) (x : Node W) → slice_get nodes i ≡ Some x → stops_at stop (shown g [] x).machine.fault ≡ true → CameToEnd g stop nodes → ⊥
+not-come g Last nodes i x e h came = absurd cc
+not-come g First nodes i x e h came = true≢false (sym h ∙ ap (λ (o : Option StageFault). is_some o) (came i x e))
+
+-- and those after which no node has a fault did
+pub runs-to-end : {W S : Type 0} (g : Ghosts W S) (n : Net W) → IsOver g First n → NoneFaulty g n.nodes.items → IsRunToEnd g n
+runs-to-end g n (inl ended) none = ended
+runs-to-end g n (inr (k, x, e, fault)) none = absurd (true≢false (sym fault ∙ ap (λ (o : Option StageFault). is_some o) (none k x e)))
 
 -- ---- the tree that is left
 

@@ -1,5 +1,5 @@
 -- Nets whose turns end at a fault.
-use Rattle.std.specs.Prelude.{◌≡◌, ◌≤◌, ◌⊎◌, ⊤, ℕ, Bool, true, false, cond, List, [], ◌∷◌, length, Option, Some, is_some, slice_get}
+use Rattle.std.specs.Prelude.{◌≡◌, ◌≤◌, ◌⊎◌, ⊤, ℕ, Bool, true, false, cond, List, [], ◌∷◌, length, Option, Some, None, is_some, slice_get}
 use Rattle.cloud_points.specs.declared.point.Point.{Point}
 use Rattle.cloud_points.specs.declared.faults.StageFault.{StageFault}
 use Rattle.cloud_points.specs.declared.work.Work.{Ghosts}
@@ -38,6 +38,15 @@ SomeFault {W} g nodes = (k : ℕ) × (x : Node W) × (slice_get nodes k ≡ Some
 -- all of these nodes are done
 abbrev pub AllDone : {W S : Type 0} (g : Ghosts W S) → List (Node W) → Type 0
 AllDone {W} g nodes = (k : ℕ) (x : Node W) → slice_get nodes k ≡ Some x → (shown g [] x).done ≡ true
+
+-- none of these nodes has a fault
+abbrev pub NoneFaulty : {W S : Type 0} (g : Ghosts W S) → List (Node W) → Type 0
+NoneFaulty {W} g nodes = (k : ℕ) (x : Node W) → slice_get nodes k ≡ Some x → (shown g [] x).machine.fault ≡ None
+
+-- turns that end like this came to the end of all: always, or where no node has a fault
+abbrev pub CameToEnd : {W S : Type 0} (g : Ghosts W S) → Stop → List (Node W) → Type 0
+CameToEnd g Last nodes = ⊤
+CameToEnd g First nodes = NoneFaulty g nodes
 
 -- where turns end: all nodes are done, or one has a fault
 abbrev pub IsOver : {W S : Type 0} (g : Ghosts W S) → Stop → Net W → Type 0

@@ -6,7 +6,7 @@ ghost use Rattle.network_core.specs.Shown.{shown};
 ghost use Rattle.network_core.specs.declared.node.Node.{Node as NodeValue};
 ghost use Rattle.network_core.specs.declared.stop.Stop.TheVariants.{Last};
 ghost use Rattle.network_solo.specs.Runs.{HadCounted, IsWithinDue, EndsInRest};
-ghost use Rattle.network_solo.specs.Stopping.{stops_at, IsOver, HadInTime, FaultsToCome};
+ghost use Rattle.network_solo.specs.Stopping.{stops_at, CameToEnd, IsOver, HadInTime, FaultsToCome};
 ghost use Rattle.network_solo.specs.Trees.{IsRanTree};
 
 use cloud_points::Work;
@@ -35,7 +35,8 @@ pub(crate) fn take_rounds<W: Work, L: Ledger>(net: &mut Net<W>, steps: &mut Step
     ensures bounded { IsWithinDue W.Work net.old steps.old steps.new }
     ensures faults { FaultsToCome W.Work net.old net.new }
     ensures ends { stop ≡ Last → EndsInRest W.Work net.old net.new }
-    ensures ran { stop ≡ Last → IsRanTree W.Work (ins_of net.old) (nodes_of net.old) (nodes_of net.new) }
+    ensures ran { CameToEnd W.Work stop (nodes_of net.new)
+        → IsRanTree W.Work (ins_of net.old) (nodes_of net.old) (nodes_of net.new) }
 {
     let count = net.count();
     let mut working = true;

@@ -24,7 +24,7 @@ impl<W: Work> Solo<W> {
     ghost use Rattle.std.specs.Prelude.{◌≡◌};
     ghost use Rattle.network_core.specs.Nets.{ins_of, nodes_of, IsNewNet};
     ghost use Rattle.network_solo.specs.Runs.{HadCounted, IsRunToEnd, IsWithinDue, EndsInRest};
-    ghost use Rattle.network_solo.specs.Stopping.{IsOver, HadInTime, FaultsToCome, IsStoppedTree};
+    ghost use Rattle.network_solo.specs.Stopping.{NoneFaulty, IsOver, HadInTime, FaultsToCome, IsStoppedTree};
     ghost use Rattle.network_solo.specs.Trees.{IsRanTree};
     ghost use Rattle.network_core.specs.declared.stop.Stop.TheVariants.{First};
 
@@ -59,7 +59,7 @@ impl<W: Work> Solo<W> {
     /// Where no node met a device's fault, no memory was wanting and all leaves tell, each fault of a node is
     /// the one that was to come at the start: over flows of which each leaf tells one and each other node makes
     /// one of those of its children, the fault that a leaf tells, and that of another node's work on all that
-    /// it takes.
+    /// it takes. Where no node has a fault, all end as `run` says.
     pub fn run_first<L: Ledger>(&mut self, steps: &mut Steps<L>)
         requires new { IsNewNet W.Work self.old }
         ensures over { IsOver W.Work First self.new }
@@ -68,6 +68,8 @@ impl<W: Work> Solo<W> {
         ensures bounded { IsWithinDue W.Work self.old steps.old steps.new }
         ensures faults { FaultsToCome W.Work self.old self.new }
         ensures stopped { IsStoppedTree W.Work (ins_of self.old) (nodes_of self.old) (nodes_of self.new) }
+        ensures ran { NoneFaulty W.Work (nodes_of self.new)
+            → IsRanTree W.Work (ins_of self.old) (nodes_of self.old) (nodes_of self.new) }
     {
         take_rounds(&mut self.net, steps, Stop::First);
     }

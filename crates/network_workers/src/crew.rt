@@ -4,12 +4,12 @@ ghost use Rattle.std.specs.Prelude.{◌<◌, ◌≤◌};
 
 use crate::rooms::WorkerRoom;
 use cloud_points::Work;
-use network_core::{InsList, NodeList};
+use network_core::{InsList, NodeList, Stop};
 use network_solo::Scheduler;
 use std::alloc::{AllocError, Global};
 
-/// So many workers, 1 to 32, as a scheduler. What it does with a tree is a call of `run_tree_by`: a method of a
-/// trait can't start threads itself.
+/// So many workers, 1 to 32, as a scheduler that lets nodes take turns until all are done. What it does with a tree is a call of
+/// `run_tree_by`: a method of a trait can't start threads itself.
 #[derive(Drop)]
 pub struct Crew<F> {
     pub workers: u32,
@@ -19,8 +19,10 @@ pub struct Crew<F> {
 }
 
 impl<W: Work, F: Fn(NodeList<W>, InsList, WorkerRoom<W>) -> NodeList<W>> Scheduler<W> for Crew<F> {
-    ghost use Rattle.std.specs.Prelude.{◌<◌, ◌≤◌, ◌-◌, ℕ, length};
+    ghost use Rattle.std.specs.Prelude.{◌≡◌, ◌<◌, ◌≤◌, ◌-◌, ℕ, length};
     ghost use Rattle.network_theory.specs.Forest.{IsForest};
+    ghost use Rattle.network_core.specs.declared.stop.Stop.TheVariants.{First, Last};
+    ghost use Rattle.network_solo.specs.Stopping.{CameToEnd, IsStoppedTree};
     ghost use Rattle.network_solo.specs.Trees.{AreFresh, IsRanTree};
     ghost use Rattle.network_workers.specs.Crews.{Runs};
     ghost use Rattle.network_workers.specs.Gathered.{AreCarried};
@@ -30,9 +32,15 @@ impl<W: Work, F: Fn(NodeList<W>, InsList, WorkerRoom<W>) -> NodeList<W>> Schedul
 
     ghost sound = { λ crew. Runs W.Work (F.pre crew.run) (F.post crew.run) };
 
+    ghost stop = { λ _. Last };
+
     ghost fits = { IsRoomFor };
 
     ghost besides = { λ capacity ins old new. AreCarried W.Work ins old new };
+
+    fn stop(&self) -> Stop {
+        Stop::Last
+    }
 
     fn edges(
         &self,
@@ -50,9 +58,10 @@ impl<W: Work, F: Fn(NodeList<W>, InsList, WorkerRoom<W>) -> NodeList<W>> Schedul
         requires fresh { AreFresh W.Work ins nodes }
         requires forest { IsForest ins (length nodes - 1) }
         requires edges { (capacity : ℕ) × IsRoomFor (length nodes) capacity edges }
-        ensures ran { IsRanTree W.Work ins nodes result }
-        ensures besides { (capacity : ℕ) → IsRoomFor (length nodes) capacity edges
-            → AreCarried W.Work ins nodes result }
+        ensures ran { CameToEnd W.Work Last result → IsRanTree W.Work ins nodes result }
+        ensures besides { CameToEnd W.Work Last result → (capacity : ℕ)
+            → IsRoomFor (length nodes) capacity edges → AreCarried W.Work ins nodes result }
+        ensures stopped { Last ≡ First → IsStoppedTree W.Work ins nodes result }
     {
         (self.run)(nodes, ins, edges)
     }

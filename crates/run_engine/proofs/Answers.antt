@@ -56,7 +56,10 @@ use Rattle.run_outcome.specs.Faults.{fault_at}
 use Rattle.run_outcome.specs.Outcomes.{refusal_for}
 use Rattle.run_outcome.proofs.Outcomes.{IsForPoint, why-refused}
 use Rattle.stage_forms.specs.Later.{AreLater, CameToEnd}
-use Rattle.set_engine.specs.Evaluated.{HaveEnded}
+use Rattle.network_core.specs.declared.stop.Stop.{Stop}
+use Rattle.network_core.specs.declared.stop.Stop.TheVariants.{Last, First}
+use Rattle.run_report.specs.declared.refusal.Fault.TheVariants as fault
+use Rattle.run_engine.specs.Stopping.{HaveEndedBy, HaveFaultsBy, IsRefusedFor, IsCauseBy}
 use Rattle.run_engine.specs.Done.{AreDone}
 use Rattle.run_ending.specs.Finished.{IsUnfinished}
 use Rattle.run_ending.proofs.Finished.{finishing-writes}
@@ -260,11 +263,11 @@ the-point f None e = cc
 the-point f (Some g) e = cc
 
 -- the fault of a run's stages that goes first is the cause
-module _ {S K : Type 0} (s : source.Ghosts S) (k : sink.Ghosts K) (map : Option Names) (stages : List StageSpec) (old new : List (StageWork S K)) (found : List (Option StageFault)) (counts : List StageCount)
-    (ended : HaveEnded s k stages old new found counts) where
-  least-is : (r : Refusal) (p : IsForPoint found r) (opened : Opened) → AreTold s old opened → least_fault stages opened ≡ Some (p.stage, p.fault)
-  least-is r p opened told =
-      let have = ended.faulty p.none_failed opened told in
+module _ {S K : Type 0} (s : source.Ghosts S) (k : sink.Ghosts K) (stop : Stop) (map : Option Names) (stages : List StageSpec) (old new : List (StageWork S K)) (found : List (Option StageFault)) (counts : List StageCount)
+    (ended : HaveEndedBy s k stop stages old new found counts) where
+  least-is : (r : Refusal) (p : IsForPoint found r) (opened : Opened) → AreTold s old opened → stop ≡ Last → least_fault stages opened ≡ Some (p.stage, p.fault)
+  least-is r p opened told last =
+      let have = subst (λ stop. HaveFaultsBy stop stages opened found) last (ended.faulty p.none_failed opened told) in
       let inside : p.stage < length stages = (let a = p.inside in let b = ended.count in omega (arith, a, b)) in
       least-at (stage_fault stages opened) (length stages) p.stage p.fault inside (the-point p.fault (stage_fault stages opened p.stage) (sym p.has ∙ have p.stage inside))
       (λ j lt. no-point (stage_fault stages opened j) (sym (p.least j lt) ∙ have j (omega (arith, lt, inside))))
@@ -296,10 +299,17 @@ module _ {S K : Type 0} (s : source.Ghosts S) (k : sink.Ghosts K) (map : Option 
           }),
         )
 
-    pub fault-cause : (r : Refusal) → refusal_for found ≡ Some r → IsCause (Rose start end) map stages r
+    -- the fault of a point is the least one, or any that was seen
+    point-cause : (r : Refusal) (p : IsForPoint found r) (m : Names) → map ≡ Some m → (st : Stop) → stop ≡ st → IsRefusedFor st m stages p.stage (fault.Point p.fault)
+    point-cause r p m e Last is = run-fault m stages p.stage p.fault (come m e) (least-is r p (opened_in m stages) (tells m e) is)
+    point-cause r p m e First is =
+        let have = subst (λ st. HaveFaultsBy st stages (opened_in m stages) found) is (ended.faulty p.none_failed (opened_in m stages) (tells m e)) in
+        inr (come m e, the-point p.fault (stage_fault stages (opened_in m stages) p.stage) (sym (have p.stage (stage.Point p.fault) p.has)))
+
+    pub fault-cause : (r : Refusal) → refusal_for found ≡ Some r → IsCauseBy stop (Rose start end) map stages r
     fault-cause r e = elim (why-refused found r e) [
-      | inl d ↦ subst (IsCause (Rose start end) map stages) (sym d.is) (device-cause d.stage d.op d.has)
-      | inr p ↦ subst (IsCause (Rose start end) map stages) (sym p.is) (λ m e. run-fault m stages p.stage p.fault (come m e) (least-is r p (opened_in m stages) (tells m e)))
+      | inl d ↦ subst (IsCauseBy stop (Rose start end) map stages) (sym d.is) (device-cause d.stage d.op d.has)
+      | inr p ↦ subst (IsCauseBy stop (Rose start end) map stages) (sym p.is) (λ m e. point-cause r p m e stop refl)
     ]
 
 -- a writer whose file couldn't be finished is the cause, where the stages came to their end

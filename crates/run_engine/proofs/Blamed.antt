@@ -29,7 +29,8 @@ use Rattle.run_ending.specs.All.{IsUnkept}
 use Rattle.run_ending.specs.Each.{BrokeOffAt, IsEachOp, kept_from}
 use Rattle.run_ending.specs.Finished.{AreKept, IsUnfinished}
 use Rattle.run_ending.specs.Keeping.{BrokeOff}
-use Rattle.set_engine.specs.Evaluated.{HaveEnded}
+use Rattle.network_core.specs.declared.stop.Stop.{Stop}
+use Rattle.run_engine.specs.Stopping.{HaveEndedBy}
 use Rattle.run_engine.specs.Blame.{FailedFirst, FailedLast}
 use Rattle.run_engine.proofs.Answers.{kept-work, rose-given}
 
@@ -57,9 +58,9 @@ first-is faults i o e = go (first_failed faults) (first_faulty faults) e
     go None None e = absurd cc
 
 module _ {S K : Type 0} (s : source.Ghosts S) (k : sink.Ghosts K) (stages : List StageSpec) where
-  pub failed-first : (old works : List (StageWork S K)) (faults : List (Option StageFault)) (counts : List StageCount) → HaveEnded s k stages old works faults counts → AreLater (faults_of s.faults k.faults) old works
+  pub failed-first : (stop : Stop) (old works : List (StageWork S K)) (faults : List (Option StageFault)) (counts : List StageCount) → HaveEndedBy s k stop stages old works faults counts → AreLater (faults_of s.faults k.faults) old works
       → (i : ℕ) (o : Op) → refusal_for faults ≡ Some (Device (Stage i) o) → FailedFirst (faults_of s.faults k.faults) faults works i o
-  failed-first old works faults counts ended later i o e =
+  failed-first stop old works faults counts ended later i o e =
       let r = found (λ j. device_op (fault_at faults j)) (length faults) 0 i o (first-is faults i o e) in
       let has = a-device (fault_at faults i) o r.here in
       let c = ended.caused i o has in

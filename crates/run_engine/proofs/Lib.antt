@@ -7,3 +7,4 @@ pub mod Answers
 pub mod Waiting
 pub mod Blamed
 pub mod Each
+pub mod Stopping

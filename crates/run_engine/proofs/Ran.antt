@@ -1,5 +1,5 @@
 -- What the nodes of a tree's stages came to, as what its stages come to.
-use Rattle.std.proofs.Common.{◌≡◌, ℕ, zero, suc, ◌+◌, ◌<◌, false, List, [], ◌∷◌, length, map, slice_get, Option, Some, None, refl, ap, sym, subst, ◌∙◌, arith}
+use Rattle.std.proofs.Common.{◌≡◌, ℕ, zero, suc, ◌+◌, ◌<◌, false, List, [], ◌∷◌, length, map, slice_get, Option, Some, None, is_some, true, true≢false, refl, ap, sym, subst, ◌∙◌, arith}
 use Rattle.std.specs.Prelude.{option_map}
 use Rattle.std.proofs.lemmas.Option.{slice_get_within}
 use Rattle.std.proofs.lemmas.List.FromFn.{length-map-range_with_len}
@@ -28,11 +28,13 @@ use Rattle.stage_runs.proofs.Places.{mapped-at, map-at}
 use Rattle.stage_kinds.specs.Files.{chosen}
 use Rattle.stage_forms.proofs.Works.{writes-form, writer-row, wrote-is, files-are}
 use Rattle.stage_kinds.specs.Stages.{keeps_of, HoldsAll}
-use Rattle.stage_runs.specs.Ran.{EndsAsStage, AreRanStages}
+use Rattle.stage_runs.specs.Ran.{EndsAsStage, AreRanStages, AreStoppedStages}
 use Rattle.run_outcome.specs.Faults.{fault_at, NoneFailed, AreSound}
 use Rattle.run_engine.specs.Counted.{node_count, AreCounted, AreFaultsOf}
 use Rattle.stage_forms.specs.Starts.{AreTold}
 use Rattle.set_engine.specs.Evaluated.{FailedAt, HaveEnded}
+use Rattle.network_core.specs.declared.stop.Stop.TheVariants.{First}
+use Rattle.run_engine.specs.Stopping.{HaveEndedBy}
 use Rattle.stage_forms.specs.Later.{AreLater, CameToEnd}
 use Rattle.run_ending.specs.Finished.{AreFinished, AreKept}
 use Rattle.run_engine.specs.Done.{AreDone}
@@ -54,6 +56,18 @@ node-of : {W : Type 0} (nodes : List (Node W)) (i : ℕ) (f : StageFault) → fa
 node-of [] i f e = absurd cc
 node-of (n ∷ nodes) zero f e = (n, refl, e)
 node-of (n ∷ nodes) (suc i) f e = node-of nodes i f e
+
+-- no node has a fault, and none of them has one
+pub none-sound : {W : Type 0} (nodes : List (Node W)) → ((i : ℕ) (m : Node W) → slice_get nodes i ≡ Some m → m.fault ≡ None) → (i : ℕ) → fault_at (map (λ (n : Node W). n.fault) nodes) i ≡ None
+none-sound [] none i = refl
+none-sound (n ∷ nodes) none zero = none 0 n refl
+none-sound (n ∷ nodes) none (suc i) = none-sound nodes (λ j m e. none (suc j) m e) i
+
+-- a node has a fault, and not none
+pub some-unsound : {W : Type 0} (nodes : List (Node W)) (found : List (Option StageFault)) → AreFaultsOf nodes found → (i : ℕ) (m : Node W) → slice_get nodes i ≡ Some m → is_some m.fault ≡ true → AreSound found → ⊥
+some-unsound nodes found are i m e fault sound =
+    let none : m.fault ≡ None = sym (ap (λ fs. fault_at fs i) are ∙ fault-of nodes i m e) ∙ sound i in
+    true≢false (sym fault ∙ ap (λ (o : Option StageFault). is_some o) none)
 
 same-count : (i : ℕ) (k l : _) (v v' p p' : ℕ) (w w' : Option ℕ) (f f' : ℕ) → k ≡ l → v ≡ v' → p ≡ p' → w ≡ w' → f ≡ f' → ◌≡◌ {A = StageCount} (record { stage = i; kind = k; views = v; points = p; wrote = w; files = f }) (record { stage = i; kind = l; views = v'; points = p'; wrote = w'; files = f' })
 same-count i k l v v' p p' w w' f f' a b c d e = cc
@@ -164,6 +178,19 @@ module _ {S K : Type 0} (s : source.Ghosts S) (k : sink.Ghosts K) (stages : List
 
       quiet : AreSound found → (i : ℕ) (m : Node (StageWork S K)) → slice_get new i ≡ Some m → m.fault ≡ None
       quiet sound i m e = sym (told i m e) ∙ sound i
+
+  -- so have those of nodes whose turns ended at a fault
+  pub have-stopped : AreStoppedStages s k stages old new → (found : List (Option StageFault)) (counts : List StageCount) → AreFaultsOf new found → (AreSound found → ⊥)
+      → HaveEndedBy s k First stages works (map work_of new) found counts
+  have-stopped stopped found counts are faulty = record {
+    count = ap (λ fs. length fs) are ∙ length-mapped (λ (n : Node (StageWork S K)). n.fault) new ∙ lasted.count ∙ fresh.count;
+    caused = λ i o e. let m = node-of new i (stage.Device o) (ap (λ fs. fault_at fs i) (sym are) ∙ e) in failed-at i o m.0 m.1 m.2;
+    faulty = λ none opened tell i f e.
+        let m = node-of new i f (ap (λ fs. fault_at fs i) (sym are) ∙ e) in
+        (stopped (λ j n at. ap is_device (sym (ap (λ fs. fault_at fs j) are ∙ fault-of new j n at)) ∙ none j) opened
+        (λ j n r at w. tell j (work_of n) r (ap (λ xs. slice_get xs j) (sym is_works) ∙ map-at work_of old j n at) w)).1 i m.0 f m.1 m.2;
+    sound = λ sound. absurd (faulty sound);
+  }
 
 -- works that stay
 pub same-later : {S K : Type 0} (faults : StageWork S K → ℕ) (old new : List (StageWork S K)) → new ≡ old → AreLater faults old new

@@ -18,8 +18,9 @@ use Rattle.run_engine.specs.declared.engine.Engine.TheVariants.{Queues, Whole as
 use Rattle.run_engine.specs.declared.shape.Shape.{Shape}
 use Rattle.run_engine.specs.declared.room.TurnRoom.{TurnRoom}
 use Rattle.stage_forms.specs.Later.{AreLater}
-use Rattle.set_engine.specs.Evaluated.{HaveEnded}
+use Rattle.network_core.specs.declared.stop.Stop.{Stop}
 use Rattle.run_opening.specs.Ready.{AreReady}
+use Rattle.run_engine.specs.Stopping.{HaveEndedBy}
 
 -- a run whose stages wait to take turns
 abbrev pub TakesTurns : {S K E : Type 0} → Step S K E → Type 0
@@ -63,14 +64,14 @@ module _ {S K E : Type 0} (s : source.Ghosts S) (k : sink.Ghosts K) (fits : ℕ 
 
 module _ {S K E : Type 0} (s : source.Ghosts S) (k : sink.Ghosts K) where
   -- what the stages came to, if memory wasn't wanting
-  abbrev pub HaveCome : List StageSpec → List (StageWork S K) → List (StageWork S K) → Step S K E → Type 0
-  HaveCome stages old new (Done ended) = HaveEnded s k stages old new ended.faults.items ended.report.items
-  HaveCome stages old new Short = ⊤
-  HaveCome stages old new _ = ⊥
+  abbrev pub HaveCome : Stop → List StageSpec → List (StageWork S K) → List (StageWork S K) → Step S K E → Type 0
+  HaveCome stop stages old new (Done ended) = HaveEndedBy s k stop stages old new ended.faults.items ended.report.items
+  HaveCome stop stages old new Short = ⊤
+  HaveCome stop stages old new _ = ⊥
 
-  -- a run that was prepared over these files, and whose stages had their turns
-  pub record HasRun (map : Option Names) (stages : List StageSpec) (job : Job S K E) : Type 0 where
+  -- a run that was prepared over these files, and whose stages had their turns, which end there
+  pub record HasRun (stop : Stop) (map : Option Names) (stages : List StageSpec) (job : Job S K E) : Type 0 where
     pub before : List (StageWork S K)
     pub ready : AreReady s k map stages before
     pub later : AreLater (faults_of s.faults k.faults) before job.works.items
-    pub came : HaveCome stages before job.works.items job.step
+    pub came : HaveCome stop stages before job.works.items job.step

@@ -2,3 +2,4 @@ pub mod Counted
 pub mod Done
 pub mod Jobs
 pub mod Blame
+pub mod Stopping

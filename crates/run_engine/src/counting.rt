@@ -1,6 +1,8 @@
 //! What the stages of a run came to, by their nodes.
 
-ghost use Rattle.std.specs.Prelude.{◌≡◌, ◌≤◌, length};
+ghost use Rattle.std.specs.Prelude.{◌≡◌, ◌≤◌, List, Option, length, IfOk, OnErr};
+ghost use Rattle.cloud_points.specs.declared.faults.StageFault.{StageFault};
+ghost use Rattle.run_outcome.specs.Faults.{AreSound};
 ghost use Rattle.run_engine.specs.Counted.{node_count, AreCounted, AreFaultsOf};
 
 use file_devices::{FileSink, Source};
@@ -9,6 +11,8 @@ use run_outcome::{Ended, StageFaults};
 use run_report::{Report, StageCount};
 use stage_kinds::StageWork;
 use stage_options::StageSpec;
+use stage_runs::{Halt, any_fault};
+use std::alloc::AllocError;
 
 /// What the node of stage i gave on, and how many points and files it wrote.
 fn node_count<S: Source, K: FileSink>(
@@ -46,4 +50,41 @@ pub(crate) fn ended<S: Source, K: FileSink>(
         faults.push(nodes[i].fault());
     }
     Ended { report, faults }
+}
+
+/// The same of stages whose turns ended at a fault. Refuses exactly where none of the nodes has one.
+fn stopped<S: Source, K: FileSink>(
+    stages: &[StageSpec],
+    nodes: &[Node<StageWork<S, K>>],
+) -> Result<Ended, AllocError>
+    requires fit { length nodes.now ≡ length stages.now }
+    requires few { length stages.now ≤ 64 }
+    ensures faults { IfOk result (λ ended. AreFaultsOf nodes.now ended.faults.items) }
+    ensures faulty { IfOk result (λ ended. AreSound ended.faults.items → ⊥) }
+    ensures none { OnErr result ((found : List (Option StageFault)) → AreFaultsOf nodes.now found → AreSound found) }
+{
+    if !any_fault(nodes) {
+        return Err(AllocError);
+    }
+    Ok(ended(stages, nodes))
+}
+
+/// What stages come to whose turns ended before all were done. Refuses where memory was wanting, and where none of the nodes has a fault.
+pub(crate) fn halted<S: Source, K: FileSink>(
+    halt: Halt,
+    stages: &[StageSpec],
+    nodes: &[Node<StageWork<S, K>>],
+) -> Result<Ended, AllocError>
+    requires fit { length nodes.now ≡ length stages.now }
+    requires few { length stages.now ≤ 64 }
+    ensures fault { IfOk result (λ ended. halt ≡ Halt.Fault) }
+    ensures faults { IfOk result (λ ended. AreFaultsOf nodes.now ended.faults.items) }
+    ensures faulty { IfOk result (λ ended. AreSound ended.faults.items → ⊥) }
+    ensures none { OnErr result (halt ≡ Halt.Fault
+        → (found : List (Option StageFault)) → AreFaultsOf nodes.now found → AreSound found) }
+{
+    match halt {
+        Halt::Memory => Err(AllocError),
+        Halt::Fault => stopped(stages, nodes),
+    }
 }

@@ -14,12 +14,13 @@ ghost use Rattle.answer_model.specs.Runs.{run_of};
 ghost use Rattle.stage_forms.specs.Starts.{AreAtStart};
 ghost use Rattle.stage_runs.specs.Short.{SomeGathers};
 ghost use Rattle.held_devices.specs.Holding.{all_held};
-ghost use Rattle.run_outcome.specs.Cause.{IsCause, IsRun, IsLeft};
+ghost use Rattle.network_core.specs.declared.stop.Stop.{Stop};
+ghost use Rattle.run_outcome.specs.Cause.{IsRun, IsLeft};
 ghost use Rattle.run_engine.specs.declared.engine.Engine.{Engine as Chosen};
 ghost use Rattle.run_engine.specs.Blame.{IsBlamed};
 ghost use Rattle.run_engine.specs.Jobs.{TakesTurns, IsReady, IsWaiting, IsShort, CameTo, HasRun};
 ghost use Rattle.stage_forms.specs.Later.{AreLater};
-ghost use Rattle.set_engine.specs.Evaluated.{HaveEnded};
+ghost use Rattle.run_engine.specs.Stopping.{HaveEndedBy, IsCauseBy, ends_at};
 
 use crate::room::TurnRoom;
 use crate::turns::turn_works;
@@ -73,8 +74,9 @@ fn evaluate<S: Source, K: FileSink, T: Scheduler<StageWork<S, K>>>(
     requires count { length works.items ≡ length stages.now }
     requires waits { (engine : Chosen) × IsWaiting S.Source K.Sink T.fits engine stages.now step }
     ensures later { AreLater (faults_of S.faults K.faults) works.items result.works.items }
-    ensures ended { IfOk result.outcome (λ ended. HaveEnded S.Source K.Sink stages.now works.items
-        result.works.items ended.faults.items ended.report.items) }
+    ensures ended { (engine : Chosen) → IsWaiting S.Source K.Sink T.fits engine stages.now step
+        → IfOk result.outcome (λ ended. HaveEndedBy S.Source K.Sink (ends_at engine (T.stop scheduler.now))
+        stages.now works.items result.works.items ended.faults.items ended.report.items) }
     ensures gathers { OnErr result.outcome (TakesTurns step → SomeGathers stages.now) }
 {
     match step {
@@ -102,7 +104,7 @@ impl<S: Source, K: FileSink, E> Job<S, K, E> {
             × IsReady S.Source K.Sink T.fits engine map stages.now self.old }
         ensures ran { (engine : Chosen) (map : Option Names)
             → IsReady S.Source K.Sink T.fits engine map stages.now self.old
-            → HasRun S.Source K.Sink map stages.now self.new }
+            → HasRun S.Source K.Sink (ends_at engine (T.stop scheduler.now)) map stages.now self.new }
         ensures held { all_held self.new.works.items ≡ all_held self.old.works.items }
         ensures enough { OnOk result (IsShort self.new.step → ⊥) }
         ensures short { OnErr result (IsShort self.new.step) }
@@ -124,13 +126,14 @@ impl<S: Source, K: FileSink, E> Job<S, K, E> {
     /// order of the stages; then the files of views are written and kept, in the order of the stages and of the views. Answers what each
     /// stage gave on. Every object that was handed out is given back.
     ///
-    /// Where stages have faults it answers the one that goes first, and where memory was wanting `Memory`, and keeps nothing. Else `Data`
-    /// comes only where the files had that fault as the run was prepared, `Device` only where the device failed, `Memory` where there was
-    /// none. The device of a stage is named for what the stages did in their turns only where that of no earlier stage failed, and for the
-    /// end of its file only where no stage has a fault.
+    /// Where stages have faults it answers the one that goes first of those that were seen, and where memory was wanting `Memory`, and
+    /// keeps nothing. Else `Data` comes only where the files had that fault as the run was prepared, `Device` only where the device failed,
+    /// `Memory` where there was none. The device of a stage is named for what the stages did in their turns only where that of no earlier
+    /// stage failed, and for the end of its file only where no stage has a fault.
     ///
-    /// After a refusal the files are as before; only where the keeping of a file failed or found no memory, or the file of a view couldn't be
-    /// written, are those before it kept, and one that couldn't be kept may be. Files that don't tell what they have don't tell it after the run.
+    /// After a refusal the files are as before; only where the keeping of a file failed or found no memory, or the file of a view couldn't
+    /// be written, are those before it kept, and one that couldn't be kept may be. Files that don't tell what they have don't tell it after
+    /// the run.
     pub fn close<F: Files<In = S, Out = K>>(
         self,
         alloc: Global,
@@ -138,13 +141,15 @@ impl<S: Source, K: FileSink, E> Job<S, K, E> {
         stages: &[StageSpec],
     ) -> Result<Report, Refusal>
         requires tree { IsTree (shapes stages.now) }
-        requires ran { (first : Option Names) × HasRun S.Source K.Sink first stages.now self }
-        ensures ok { IfOk result (λ report. (m : Names) → HasRun S.Source K.Sink (Some m) stages.now self
+        requires ran { (stop : Stop) × (first : Option Names) × HasRun S.Source K.Sink stop first stages.now self }
+        ensures ok { IfOk result (λ report. (stop : Stop) (m : Names)
+            → HasRun S.Source K.Sink stop (Some m) stages.now self
             → IsOkAnd (run_of m stages.now) (IsRun (F.map files.old) (F.map files.new) report.items)) }
-        ensures err { IfErr result (λ refusal. (first : Option Names)
-            → HasRun S.Source K.Sink first stages.now self
-            → IsCause (Rose (F.faults files.old) (F.faults files.new)) first stages.now refusal) }
-        ensures left { IfErr result (λ refusal. (m : Names) → HasRun S.Source K.Sink (Some m) stages.now self
+        ensures err { IfErr result (λ refusal. (stop : Stop) (first : Option Names)
+            → HasRun S.Source K.Sink stop first stages.now self
+            → IsCauseBy stop (Rose (F.faults files.old) (F.faults files.new)) first stages.now refusal) }
+        ensures left { IfErr result (λ refusal. (stop : Stop) (m : Names)
+            → HasRun S.Source K.Sink stop (Some m) stages.now self
             → IsLeft refusal (F.map files.old) (F.map files.new) (run_of m stages.now)) }
         ensures refused { (refusal : refused.Refusal) → CameTo refusal self.step
             → (result ≡ Err refusal) × (F.map files.new ≡ F.map files.old) }

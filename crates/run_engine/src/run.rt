@@ -7,7 +7,8 @@ ghost use Rattle.pipeline_json.specs.Trees.{IsTree};
 ghost use Rattle.stage_options.specs.Kinds.{HaveOwnOptions};
 ghost use Rattle.stage_options.specs.Shapes.{shapes};
 ghost use Rattle.answer_model.specs.Runs.{run_of};
-ghost use Rattle.run_outcome.specs.Cause.{IsCause, IsRun, IsLeft};
+ghost use Rattle.run_outcome.specs.Cause.{IsRun, IsLeft};
+ghost use Rattle.run_engine.specs.Stopping.{IsCauseBy, ends_at};
 
 use crate::engine::Engine;
 use crate::preparing::prepare;
@@ -39,8 +40,8 @@ pub fn run_pipeline<F: Files, T: Scheduler<StageWork<F::In, F::Out>>>(
     requires own { HaveOwnOptions stages.now }
     ensures ok { IfOk result (λ report. (m : Names) → F.map files.old ≡ Some m
         → IsOkAnd (run_of m stages.now) (IsRun (F.map files.old) (F.map files.new) report.items)) }
-    ensures err { IfErr result (IsCause (Rose (F.faults files.old) (F.faults files.new))
-        (F.map files.old) stages.now) }
+    ensures err { IfErr result (IsCauseBy (ends_at engine (T.stop scheduler.now))
+        (Rose (F.faults files.old) (F.faults files.new)) (F.map files.old) stages.now) }
     ensures left { IfErr result (λ refusal. (m : Names) → F.map files.old ≡ Some m
         → IsLeft refusal (F.map files.old) (F.map files.new) (run_of m stages.now)) }
     ensures untold { F.map files.old ≡ None → F.map files.new ≡ None }

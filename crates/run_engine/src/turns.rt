@@ -1,4 +1,4 @@
-//! The stages of a tree take turns until all are done.
+//! The stages of a tree take turns until all are done, or one has a fault.
 
 ghost use Rattle.std.specs.Prelude.{◌≡◌, ◌≤◌, length, IfOk, OnErr};
 ghost use Rattle.pipeline_json.specs.Trees.{IsTree};
@@ -9,9 +9,9 @@ ghost use Rattle.stage_options.specs.Shapes.{shapes};
 ghost use Rattle.stage_forms.specs.Starts.{AreAtStart};
 ghost use Rattle.run_engine.specs.Jobs.{IsTurnRoom};
 ghost use Rattle.stage_forms.specs.Later.{AreLater};
-ghost use Rattle.set_engine.specs.Evaluated.{HaveEnded};
+ghost use Rattle.run_engine.specs.Stopping.{HaveEndedBy};
 
-use crate::counting::ended;
+use crate::counting::{ended, halted};
 use crate::nodes::{nodes_over, works_in};
 use crate::room::TurnRoom;
 use file_devices::{FileSink, Source};
@@ -23,8 +23,8 @@ use stage_options::StageSpec;
 use stage_runs::run_stages;
 use std::alloc::{AllocError, Global};
 
-/// Lets the stages of a tree take turns until all are done, part by part, in their memory, as the scheduler has it. It answers what each stage gave on and its
-/// fault. Refuses only where a stage needs whole views and memory is wanting.
+/// Lets the stages of a tree take turns, part by part, in their memory, until all are done, or as the scheduler has it one has a fault. It
+/// answers what each stage gave on and its fault. Refuses only where a stage needs whole views and memory is wanting.
 pub(crate) fn turn_works<S: Source, K: FileSink, T: Scheduler<StageWork<S, K>>>(
     alloc: Global,
     scheduler: &T,
@@ -40,8 +40,8 @@ pub(crate) fn turn_works<S: Source, K: FileSink, T: Scheduler<StageWork<S, K>>>(
     requires count { length works.items ≡ length stages.now }
     requires room { IsTurnRoom S.Source K.Sink T.fits room.shape stages.now room }
     ensures later { AreLater (faults_of S.faults K.faults) works.items result.works.items }
-    ensures ended { IfOk result.outcome (λ ended. HaveEnded S.Source K.Sink stages.now works.items
-        result.works.items ended.faults.items ended.report.items) }
+    ensures ended { IfOk result.outcome (λ ended. HaveEndedBy S.Source K.Sink (T.stop scheduler.now)
+        stages.now works.items result.works.items ended.faults.items ended.report.items) }
     ensures gathers { OnErr result.outcome (SomeGathers stages.now) }
 {
     let TurnRoom {
@@ -54,7 +54,7 @@ pub(crate) fn turn_works<S: Source, K: FileSink, T: Scheduler<StageWork<S, K>>>(
     let ran = run_stages(alloc, scheduler, nodes.as_mut_slice(), stages, room);
     let outcome = match ran {
         Ok(()) => Ok(ended(stages, &nodes)),
-        Err(error) => Err(error),
+        Err(halt) => halted(halt, stages, &nodes),
     };
     let works = works_in(nodes, left);
     Ran { works, outcome }

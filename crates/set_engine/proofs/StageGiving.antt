@@ -1,11 +1,11 @@
 -- What a stage gives on.
-use Rattle.std.proofs.Common.{◌≡◌, ℕ, cond, true, false, List, [], length, Option, Some, None, Result, Ok, Err, refl, ap, sym, subst, ◌∙◌, true≢false}
+use Rattle.std.proofs.Common.{◌≡◌, ℕ, true, false, List, [], length, Option, Some, None, Result, Ok, Err, refl, ap, sym, subst, ◌∙◌, true≢false}
 use Rattle.std.specs.Prelude.{option_map, IfOk}
 use Rattle.std.proofs.lemmas.Option.{none-some}
-use Rattle.answer_model.specs.Rows.{Row, made, stop, value_on, fault_on}
+use Rattle.answer_model.specs.Rows.{Row, made, stop}
 use Rattle.answer_model.specs.Values.{value_of, wrote_with, files_with}
 use Rattle.cloud_points.specs.Events.{is_device}
-use Rattle.cloud_points.specs.Flows.{Flow, all_of, points}
+use Rattle.cloud_points.specs.Flows.{Flow, points}
 use Rattle.cloud_points.specs.Marks.{flow_of, flow_marks}
 use Rattle.cloud_points.specs.Queue.{up_to_limit}
 use Rattle.cloud_points.specs.declared.faults.StageFault.TheVariants as stage
@@ -14,12 +14,8 @@ use Rattle.cloud_points.proofs.FlowLaws.{flow_of-flow_marks}
 use Rattle.las_reader.specs.Files.{Las, las_with}
 use Rattle.las_reader.specs.Flows.{las_flow, las_fault}
 use Rattle.stage_kinds.specs.Reads.{tells_of, told_of, told_fault_of}
-use Rattle.stage_kinds.specs.declared.making.Making.{Making}
-use Rattle.stage_kinds.specs.declared.making.Making.TheVariants.{Gathers as Made, WritesEach as Each}
-use Rattle.stage_kinds.specs.Held.{op_of}
-use Rattle.stage_kinds.specs.Makings.{kept_by}
 use Rattle.stage_kinds.specs.Stages.{files_by, holds_chosen, is_leaf, keeps_of, meaning_of, only_of, stops_nowhere, writes_of, writing_filter, writing_of, written_by}
-use Rattle.stage_kinds.proofs.Keeping.{keeps-same, wrote-none, no-files, wrote-each, files-each}
+use Rattle.stage_kinds.proofs.Keeping.{keeps-same}
 use Rattle.stage_kinds.specs.Files.{chosen, count_of}
 use Rattle.stage_kinds.specs.declared.file_form.Writing.{Writing}
 use Rattle.stage_kinds.specs.declared.stage_work.StageWork.{StageWork}
@@ -29,9 +25,7 @@ use Rattle.stage_kinds.proofs.Streams.{sound_nowhere, written-count}
 use Rattle.stage_kinds.proofs.Telling.{reader_starts}
 use Rattle.stage_meanings.specs.Filtering.{filtered, filtered_stop}
 use Rattle.stage_options.specs.Roles.{Role}
-use Rattle.stage_forms.specs.Starts.{IsCollecting}
-use Rattle.set_engine.specs.Fits.{IsFor, IsMaking, IsWriting, HasFile}
-use Rattle.set_engine.specs.Gathering.{IsMadeBy}
+use Rattle.set_engine.specs.Fits.{IsFor, IsWriting, HasFile}
 use Rattle.set_engine.specs.Given.{HoldsTaken, IsGivenBy, fault_of, kept_after}
 use Rattle.set_engine.specs.declared.output.StageOutput.{StageOutput}
 
@@ -90,17 +84,6 @@ leaf-writes (Views h) e none = (refl, refl, refl)
 leaf-writes (ViewFiles t) e none = absurd (none-some _ (sym none))
 leaf-writes (Writer w) e none = absurd (true≢false (sym e))
 
-leaf-begins : {S K : Type 0} (w : StageWork S K) → is_leaf w ≡ true → writing_of w ≡ None
-leaf-begins (Reader r) e = refl
-leaf-begins (Filter f) e = absurd (true≢false (sym e))
-leaf-begins (Collector c) e = absurd (true≢false (sym e))
-leaf-begins (Views h) e = refl
-leaf-begins (ViewFiles t) e = refl
-leaf-begins (Writer w) e = absurd (true≢false (sym e))
-
-pub leaf-writing : {S K : Type 0} (v w : StageWork S K) → is_leaf v ≡ true → is_leaf w ≡ true → writing_of w ≡ writing_of v
-leaf-writing v w a b = leaf-begins w b ∙ sym (leaf-begins v a)
-
 -- it keeps what it kept
 leaf-keeps : {S K : Type 0} (v w : StageWork S K) (given : Flow Point) → is_leaf v ≡ true → meaning_of w ≡ meaning_of v → keeps_of w ≡ kept_after v given
 leaf-keeps v w given a means = keeps-same w v means ∙ go v a
@@ -148,33 +131,3 @@ pub leaf-gave : {S K E : Type 0} (sources : S → Option (List ℕ)) (sinks : K 
     → IfOk r (λ given. is_device given.fault ≡ false → (role : Role) (row : Row) (las : Las) → IsFor sinks role row v → HasFile sources las v → IsGivenBy sinks role row las taken w given)
 leaf-gave sources sinks taken v w (Ok given) a b means gives says = λ calm role row las start file. leaf-given sources sinks role row las taken v w given start file a b means (gives calm) (says calm)
 leaf-gave sources sinks taken v w (Err s) a b means gives says = tt
-
--- ---- stages that need whole views
-
-pub gathered-gave : {S K E : Type 0} (sources : S → Option (List ℕ)) (sinks : K → Option (List ℕ)) (taken : Flow Point) (v w : StageWork S K) (r : Result StageOutput E) → IsCollecting v → op_of w ≡ None → writing_of w ≡ None
-    → IfOk r (IsMadeBy v taken w)
-    → IfOk r (λ given. is_device given.fault ≡ false → (role : Role) (row : Row) (las : Las) → IsFor sinks role row v → HasFile sources las v → IsGivenBy sinks role row las taken w given)
-gathered-gave sources sinks taken (Collector c) w (Ok given) is op idle made = λ calm role row las start file. record {
-  fault = made.fault ∙ ap (option_map stage.Point) (start.fault taken ∙ sym (ap (λ b. cond b (las_fault las) (fault_on row taken)) start.inner));
-  value = made.views ∙ start.makes taken ∙ sym (ap (λ b. cond b (las_flow las) (value_on row taken)) start.inner);
-  files = files-so role row c.making start.writes made.keeps;
-  sound = λ none. record {
-    wrote = wrote-so role row c.making start.writes made.keeps;
-    held = λ x is. absurd (none-some x (sym idle ∙ is));
-  };
-}
-  where
-    wrote-so : (role : Role) (row : Row) (m : Making) → IsMaking role row m → keeps_of w ≡ kept_by m given.views → written_by w ≡ wrote_with role row taken given.views
-    wrote-so role row (Made g) does keeps = wrote-none w op (λ e. absurd cc) keeps ∙ ap (λ r. wrote_with r row taken given.views) (sym does)
-    wrote-so role row (Each x) does keeps = wrote-each w x given.views keeps ∙ ap (λ ps. Some (up_to_limit (length ps))) (does.2 (all_of given.views.views)) ∙ ap (λ r. wrote_with r row taken given.views) (sym does.1)
-
-    files-so : (role : Role) (row : Row) (m : Making) → IsMaking role row m → keeps_of w ≡ kept_by m given.views → files_by w ≡ files_with role given.views
-    files-so role row (Made g) does keeps = no-files w op (λ e. absurd cc) keeps ∙ ap (λ r. files_with r given.views) (sym does)
-    files-so role row (Each x) does keeps = files-each w x given.views keeps ∙ ap (λ r. files_with r given.views) (sym does.1)
-gathered-gave sources sinks taken (Collector c) w (Err e) is op idle made = tt
-gathered-gave sources sinks taken v w r is op idle made = absurd is
-
-pub gathered-keeps : {S K E : Type 0} (taken : Flow Point) (v w : StageWork S K) (r : Result StageOutput E) → IsCollecting v → IfOk r (IsMadeBy v taken w) → IfOk r (λ given. keeps_of w ≡ kept_after v given.views)
-gathered-keeps taken (Collector c) w (Ok given) is made = made.keeps
-gathered-keeps taken (Collector c) w (Err e) is made = tt
-gathered-keeps taken v w r is made = absurd is

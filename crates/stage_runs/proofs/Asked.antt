@@ -39,10 +39,6 @@ first-none : {A : Type 0} (xs ys : List A) → length (xs ++ ys) ≡ 0 → lengt
 first-none [] ys e = refl
 first-none (x ∷ xs) ys e = absurd (omega (arith, e))
 
-no-length : {A : Type 0} (xs : List A) → length xs ≡ 0 → xs ≡ []
-no-length [] e = refl
-no-length (x ∷ xs) e = absurd (omega (arith, e))
-
 -- ---- a work that means what a collector means is one
 
 pub keeps-collecting : {S K : Type 0} (c : Collecting Making) (w : StageWork S K) → meaning_of w ≡ meaning_of {S = S} {K = K} (Collector c) → IsCollecting w
@@ -129,10 +125,10 @@ module _ {S K : Type 0} (s : source.Ghosts S) (k : sink.Ghosts K) (stages : List
         → (m : Node (StageWork S K)) → slice_get after root ≡ Some m → IsCollecting m.work
     root-collects after run g m e =
         let ended = sym (at-root s k stages old new down forest size homes are besides home root is_root now count inside below done after run) ∙ e in
-        let n = some_at run.net root (let a = slice_get_within run.ended root m ended in let b = run.ran.count in omega (arith, a, b)) in
+        let n = some_at run.net root (let a = slice_get_within run.ended root m ended in let b = run.turned.0.count in omega (arith, a, b)) in
         let o = some_at now root (omega (arith, inside, count)) in
         let c = collects-first root o.0 (root-old o.0 o.1) g in
-        keeps-collecting c.0 m.work (run.ran.work root n.0 m n.1 ended ∙ ap meaning_of (run.is_net.work n.0 o.0 n.1 o.1 ∙ c.1))
+        keeps-collecting c.0 m.work (run.turned.0.work root n.0 m n.1 ended ∙ ap meaning_of (run.is_net.work n.0 o.0 n.1 o.1 ∙ c.1))
 
   -- the node of a last stage that gathers is a leaf when all below it came to their end
   pub last-leaf : (now : List (Node (StageWork S K))) → 0 < length stages → is_gathering (role_at stages (length stages - 1)) ≡ true

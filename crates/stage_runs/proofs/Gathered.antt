@@ -8,7 +8,6 @@ use Rattle.file_devices.specs.declared.devices.Source as source
 use Rattle.file_devices.specs.declared.devices.Sink as sink
 use Rattle.network_theory.specs.Opening.{IsFresh}
 use Rattle.network_core.specs.Shown.{shown}
-use Rattle.network_solo.specs.Trees.{IsRanTree}
 use Rattle.network_core.specs.declared.node.Node.{Node}
 use Rattle.stage_runs.specs.Works.{as_works}
 use Rattle.stage_kinds.specs.declared.stage_work.StageWork.{StageWork}
@@ -17,7 +16,7 @@ use Rattle.stage_kinds.specs.Gathers.{IsGathered}
 use Rattle.stage_kinds.specs.Held.{op_of, op_on, held_by}
 use Rattle.stage_kinds.specs.Stages.{is_leaf, is_short}
 use Rattle.stage_forms.specs.Starts.{IsCollecting}
-use Rattle.stage_runs.specs.Parts.{IsNewLeaf, IsLaterNode, IsLeafRun, IsGatheredAt, AreSameOrLater, Besides}
+use Rattle.stage_runs.specs.Parts.{IsNewLeaf, IsLaterNode, IsLeaf, IsGatheredAt, AreSameOrLater}
 use Rattle.stage_runs.proofs.Later.{leaf-later, set-later, steps-later}
 
 module _ {S K : Type 0} where
@@ -92,14 +91,13 @@ module _ {S K : Type 0} (s : source.Ghosts S) (k : sink.Ghosts K) (nodes : List 
       ];
     }
 
-    pub lent-run : (besides : Besides S K) → IsRanTree (as_works s k) ([] ∷ []) (n ∷ []) (now ∷ []) → besides ([] ∷ []) (n ∷ []) (now ∷ []) → is_short now.work ≡ false
-        → IsLeafRun s k besides at nodes (slice_set emptied at now)
-    lent-run besides ran over enough = record {
+    pub lent-became : (became : List (Node (StageWork S K)) → List (Node (StageWork S K)) → Type 0) → became (n ∷ []) (now ∷ []) → is_short now.work ≡ false
+        → IsLeaf s k became at nodes (slice_set emptied at now)
+    lent-became became turned enough = record {
       was = n;
       is = now;
       before = here;
-      ran = ran;
-      over = over;
+      turned = turned;
       enough = enough;
       count = length-set emptied at now ∙ length-set nodes at empty;
       back = there;

@@ -1,6 +1,6 @@
 -- The last part is run, and all stages have come to their end.
-use Rattle.std.proofs.Common.{◌≡◌, ◌≢◌, ◌⊎◌, ℕ, zero, suc, ◌+◌, ◌-◌, ◌<◌, ◌≤◌, ◌==◌, Bool, true, false, true≢false, List, [], ◌∷◌, length, Option, Some, None, is_some, refl, ap, sym, subst, ◌∙◌, inl, inr, arith}
-use Rattle.std.specs.Prelude.{slice_get}
+use Rattle.std.proofs.Common.{◌≡◌, ◌≢◌, ◌⊎◌, ℕ, zero, suc, ◌+◌, ◌-◌, ◌<◌, ◌≤◌, ◌==◌, Bool, true, false, true≢false, cond, List, [], ◌∷◌, length, Option, Some, None, is_some, refl, ap, sym, subst, ◌∙◌, inl, inr, arith}
+use Rattle.std.specs.Prelude.{slice_get, option_map}
 use Rattle.std.proofs.lemmas.Bool.Decides.{eqb_tells}
 use Rattle.std.proofs.lemmas.Option.{none-some, same_Some, slice_get_within}
 use Rattle.file_devices.specs.declared.devices.Source as source
@@ -13,23 +13,25 @@ use Rattle.network_theory.specs.Forest.{IsForest, children}
 use Rattle.network_theory.specs.Shape.{In}
 use Rattle.network_theory.proofs.Forests.{forest-tree}
 use Rattle.network_core.specs.Calm.{Calm, NoEvent}
-use Rattle.network_solo.specs.Trees.{Streams, NoneCame, LeavesTell, EndsOver}
+use Rattle.network_solo.specs.Trees.{Streams, NoneCame, LeavesTell, EndsOver, IsRanTree, fault_of, input_at}
+use Rattle.network_solo.specs.Stopping.{IsStoppedTree, SomeFault}
 use Rattle.network_core.specs.declared.node.Node.{Node}
 use Rattle.network_core.proofs.Opened.{some_at}
 use Rattle.stage_kinds.specs.declared.stage_work.StageWork.{StageWork}
-use Rattle.stage_kinds.specs.Reads.{tells_of, told_of}
+use Rattle.stage_kinds.specs.Reads.{tells_of, told_of, told_fault_of}
 use Rattle.stage_kinds.specs.Held.{op_of}
 use Rattle.stage_kinds.specs.Stages.{is_leaf, is_short}
 use Rattle.stage_options.specs.Roles.{is_gathering}
 use Rattle.stage_options.specs.declared.stage.StageSpec.{StageSpec}
 use Rattle.stage_parts.specs.Parts.{AreHomes, gathers_at, home_at, is_of, part_ins}
 use Rattle.stage_parts.proofs.Tops.{near, near_root, homes-above}
-use Rattle.answer_model.specs.Values.{IsDown, role_at, stage_value}
-use Rattle.stage_runs.specs.Works.{as_works, ins_of, AreNewStages}
-use Rattle.stage_runs.specs.Ran.{EndsAsStage, AreRanStages}
-use Rattle.stage_runs.specs.Parts.{gathers_of, IsNewLeaf, GivesAsStage, IsPartRun, IsLeafRun, is_past, NoneFailedBefore, AreRunBefore, Besides}
+use Rattle.answer_model.specs.Values.{Opened, IsDown, role_at, stage_value, stage_fault}
+use Rattle.stage_runs.specs.Works.{as_works, ins_of, AreNewStages, ReadersTell}
+use Rattle.stage_runs.specs.Ran.{EndsAsStage, AreRanStages, AreStoppedStages, NoneFailed}
+use Rattle.stage_runs.specs.Parts.{gathers_of, IsNewLeaf, GivesAsStage, IsPartRun, IsLeaf, IsLeafRun, IsLeafStopped, is_past, NoneFailedBefore, AreRunBefore, Besides}
 use Rattle.stage_runs.proofs.Part.{IsRoot, gathers-are, same-number}
 use Rattle.stage_kinds.proofs.Keeping.{keeps-same}
+use Rattle.stage_runs.proofs.Later.{AreTurnedNodes, ran-turned, stopped-turned}
 use Rattle.stage_runs.proofs.Ran.{held-ends}
 use Rattle.stage_runs.proofs.Steps.{lt-true, lt-false, true-lt, stays, home-end, root-end}
 
@@ -98,10 +100,10 @@ module _ {S K : Type 0} (s : source.Ghosts S) (k : sink.Ghosts K) (stages : List
 
       at-last : home_at homes i ≡ length stages → ((i == root) ≡ true) × (i ≡ root) ⊎ ((i == root) ≡ false) × (i ≢ root) → EndsAsStage s k stages opened i m
       at-last h (inl q) = subst (λ j. EndsAsStage s k stages opened j m) (sym q.1)
-          (root-end s k stages old new down forest size homes are besides (length stages) root is-root now count inside lower done after part opened tell sound-now quiet m (ap (slice_get after) (sym q.1) ∙ e) streams)
+          (root-end s k stages old new down forest size homes are besides (length stages) root is-root now count inside lower done after opened tell sound-now quiet part m (ap (slice_get after) (sym q.1) ∙ e) streams)
       at-last h (inr q) = (
           let n = q.1 in
-          home-end s k stages old new down forest size homes are besides (length stages) root is-root now count inside lower done after part opened tell sound-now quiet i m (omega (arith, n, within))
+          home-end s k stages old new down forest size homes are besides (length stages) root is-root now count inside lower done after opened tell sound-now quiet part i m (omega (arith, n, within))
           (ap (λ x. x == length stages) h ∙ same-number (length stages)) e)
 
   -- below a last stage that gathers each has a home among the stages
@@ -124,95 +126,134 @@ module _ {S K : Type 0} (s : source.Ghosts S) (k : sink.Ghosts K) (stages : List
       by-parent last j (tree.parent j) c.1 c.2 b
       (λ n. below-last last d (tree.parent j) (let u = c.1 in omega (arith, n, u, size, b)) (let l = c.0 in omega (arith, l, g)))
 
-  -- the last stage gathers
+  -- the last stage gathers: its node is a leaf that gives what it made
+  module _ (now after : List (Node (StageWork S K))) (count : length now ≡ length stages) (some : 0 < length stages) (gathers : is_gathering (role_at stages (length stages - 1)) ≡ true)
+      (done : Done (length stages) now) {became : List (Node (StageWork S K)) → List (Node (StageWork S K)) → Type 0} (run : IsLeaf s k became (length stages - 1) now after)
+      (turned : AreTurnedNodes s k (run.was ∷ []) (run.is ∷ [])) (sound : NoneFailed after) (opened : Opened) (tell : ReadersTell s old opened) where
+    abbrev root : ℕ
+    root = length stages - 1
+
+    within : (i : ℕ) (m : Node (StageWork S K)) → slice_get after i ≡ Some m → i < length stages
+    within i m e = let a = slice_get_within after i m e in let b = run.count in omega (arith, a, b, count)
+
+    inside : root < length stages
+    inside = omega (arith, some)
+
+    root-home : home_at homes root ≡ length stages
+    root-home = ap (home_at homes) (let q = size in omega (arith, q)) ∙ are.root ∙ size
+
+    root-past : past (length stages) root ≡ false
+    root-past = lt-false (home_at homes root) (length stages) (let r = root-home in omega (arith, r))
+
+    -- no other stage lies above all that gather, since each lies below the last one
+    only-root : (i : ℕ) → i < length stages → home_at homes i ≡ length stages → i ≡ root
+    only-root i l h = elim (eqb_tells i root) [
+      | inl q ↦ q.1
+      | inr q ↦ (let n = q.1 in let b = below-last gathers (length stages) i (omega (arith, n, l)) (omega arith) in absurd (omega (arith, b, h)))
+    ]
+
+    sound-now : Sound (length stages) now
+    sound-now j n f p = elim (eqb_tells j root) [
+      | inl q ↦ absurd (true≢false (sym p ∙ ap (past (length stages)) q.1 ∙ root-past))
+      | inr q ↦ sound j n (run.other j q.1 ∙ f)
+    ]
+
+    -- a node that isn't the last one ended as its stage says
+    before : (i : ℕ) (m : Node (StageWork S K)) → slice_get after i ≡ Some m → i ≢ root → EndsAsStage s k stages opened i m
+    before i m e n = elim (past-or-last i (within i m e)) [
+      | inl p ↦ done.past opened sound-now tell i m (sym (run.other i n) ∙ e) p
+      | inr h ↦ absurd (n (only-root i (within i m e) h))
+    ]
+
+    leaf : IsNewLeaf s k run.was
+    leaf = done.held root run.was run.before root-past inside gathers
+
+    given : GivesAsStage s k stages opened root run.was
+    given = done.gives opened sound-now tell root run.was run.before root-past inside gathers
+
+    calm : Calm (as_works s k) run.was run.is
+    calm = turned.calm 0 run.was run.is refl refl
+
+    quiet : NoneCame (as_works s k) (run.was ∷ []) (run.is ∷ [])
+    quiet zero n l f g = subst (λ x. NoEvent (as_works s k) x l) (same_Some run.was n f) (subst (NoEvent (as_works s k) run.was) (same_Some run.is l g) (record {
+      fault = no-fault run.is.fault (calm.named (ap is_some leaf.fresh.fault));
+      short = ap (ran_short (is_short run.was.work)) run.enough ∙ never (is_short run.was.work);
+    }))
+      where
+        never : (b : Bool) → ran_short b false ≡ false
+        never true = refl
+        never false = refl
+
+        no-fault : (o : Option StageFault) → IsOf (op_of run.was.work) o → is_device o ≡ false
+        no-fault None h = refl
+        no-fault (Some (stage.Point p)) h = refl
+        no-fault (Some (stage.Device d)) h = absurd (none-some d (sym leaf.op ∙ h))
+    quiet (suc j) n l f g = absurd (none-some n f)
+
+    tells : LeavesTell (as_works s k) (run.was ∷ [])
+    tells zero n f l = subst (λ (x : Node (StageWork S K)). tells_of s.bytes x.work ≡ true) (same_Some run.was n f) given.gives.tells
+    tells (suc j) n f l = absurd (none-some n f)
+
+    streams : Streams (as_works s k) ([] ∷ []) (run.was ∷ []) (λ _. stage_value stages opened root)
+    streams = record {
+      leaf = λ j n f l. at-leaf j n f;
+      inner = λ j n f l. absurd (true≢false (sym (is-leaf j n f) ∙ l));
+    }
+      where
+        at-leaf : (j : ℕ) (n : Node (StageWork S K)) → slice_get (run.was ∷ []) j ≡ Some n → told_of s.bytes n.work ≡ flow_marks (stage_value stages opened root)
+        at-leaf zero n f = subst (λ (x : Node (StageWork S K)). told_of s.bytes x.work ≡ flow_marks (stage_value stages opened root)) (same_Some run.was n f) given.gives.told
+        at-leaf (suc j) n f = absurd (none-some n f)
+
+        is-leaf : (j : ℕ) (n : Node (StageWork S K)) → slice_get (run.was ∷ []) j ≡ Some n → is_leaf n.work ≡ true
+        is-leaf zero n f = subst (λ (x : Node (StageWork S K)). is_leaf x.work ≡ true) (same_Some run.was n f) leaf.leaf
+        is-leaf (suc j) n f = absurd (none-some n f)
+
+    same-root : (m : Node (StageWork S K)) → slice_get after root ≡ Some m → run.is ≡ m
+    same-root m f = same_Some run.is m (sym run.back ∙ f)
+
+    -- it gave all
+    module _ (ran : IsRanTree (as_works s k) ([] ∷ []) (run.was ∷ []) (run.is ∷ [])) where
+      over : EndsOver (as_works s k) ([] ∷ []) (run.was ∷ []) (run.is ∷ []) (λ _. stage_value stages opened root)
+      over = ran.ends quiet tells (λ _. stage_value stages opened root) streams
+
+      root-ends-so : (m : Node (StageWork S K)) → slice_get after root ≡ Some m → EndsAsStage s k stages opened root m
+      root-ends-so m f =
+          let o = some_at old root (let c = new.count in omega (arith, c, inside)) in
+          subst (EndsAsStage s k stages opened root) (same-root m f)
+          (held-ends s k stages old new down opened tell root o.0 run.is o.1 gathers (calm.op ∙ leaf.op) (over.gave 0 run.is refl) (over.told 0 run.was run.is refl refl leaf.leaf ∙ given.gives.fault)
+          (keeps-same run.is.work run.was.work (ran.work 0 run.was run.is refl refl) ∙ given.keeps))
+
+      all-end : (i : ℕ) (m : Node (StageWork S K)) → slice_get after i ≡ Some m → EndsAsStage s k stages opened i m
+      all-end i m e = elim (eqb_tells i root) [
+        | inl q ↦ subst (λ j. EndsAsStage s k stages opened j m) (sym q.1) (root-ends-so m (ap (slice_get after) (sym q.1) ∙ e))
+        | inr q ↦ before i m e q.1
+      ]
+
+    -- it gave up to its fault
+    module _ (stopped : IsStoppedTree (as_works s k) ([] ∷ []) (run.was ∷ []) (run.is ∷ [])) where
+      root-faulty-so : (m : Node (StageWork S K)) (f : StageFault) → slice_get after root ≡ Some m → m.fault ≡ Some f → option_map stage.Point (stage_fault stages opened root) ≡ Some f
+      root-faulty-so m f e has = sym given.gives.fault
+          ∙ sym (ap (λ b. cond b (told_fault_of s.bytes run.was.work) (fault_of (as_works s k) run.was.work (input_at ([] ∷ []) (λ _. stage_value stages opened root) 0))) leaf.leaf)
+          ∙ stopped.faults quiet tells (λ _. stage_value stages opened root) streams 0 run.was run.is f refl refl (ap (λ (n : Node (StageWork S K)). n.fault) (same-root m e) ∙ has)
+
+      all-faulty : (i : ℕ) (m : Node (StageWork S K)) (f : StageFault) → slice_get after i ≡ Some m → m.fault ≡ Some f → option_map stage.Point (stage_fault stages opened i) ≡ Some f
+      all-faulty i m f e has = elim (eqb_tells i root) [
+        | inl q ↦ subst (λ j. option_map stage.Point (stage_fault stages opened j) ≡ Some f) (sym q.1) (root-faulty-so m f (ap (slice_get after) (sym q.1) ∙ e) has)
+        | inr q ↦ sym (before i m e q.1).fault ∙ has
+      ]
+
   pub last-gathers : (now after : List (Node (StageWork S K))) → length now ≡ length stages → 0 < length stages → is_gathering (role_at stages (length stages - 1)) ≡ true
       → Done (length stages) now → IsLeafRun s k besides (length stages - 1) now after → AreRanStages s k stages old after
-  last-gathers now after count some gathers done run sound opened tell i m e = elim (eqb_tells i root) [
-    | inl q ↦ subst (λ j. EndsAsStage s k stages opened j m) (sym q.1) (root-ends-so (ap (slice_get after) (sym q.1) ∙ e))
-    | inr q ↦ elim (past-or-last i within) [
-      | inl p ↦ done.past opened sound-now tell i m (sym (run.other i q.1) ∙ e) p
-      | inr h ↦ absurd (q.1 (only-root h))
-    ]
-  ]
+  last-gathers now after count some gathers done run sound opened tell i m e =
+      all-end now after count some gathers done run (ran-turned s k ([] ∷ []) (run.was ∷ []) (run.is ∷ []) run.turned.0) sound opened tell run.turned.0 i m e
+
+  pub last-leaf-stopped : (now after : List (Node (StageWork S K))) → length now ≡ length stages → 0 < length stages → is_gathering (role_at stages (length stages - 1)) ≡ true
+      → Done (length stages) now → IsLeafStopped s k (length stages - 1) now after → AreStoppedStages s k stages old after
+  last-leaf-stopped now after count some gathers done run sound opened tell = (
+    some-fault run.turned.1,
+    λ i m f e has. all-faulty now after count some gathers done run (stopped-turned s k ([] ∷ []) (run.was ∷ []) (run.is ∷ []) run.turned.0) sound opened tell run.turned.0 i m f e has,
+  )
     where
-      root : ℕ
-      root = length stages - 1
-
-      within : i < length stages
-      within = let a = slice_get_within after i m e in let b = run.count in omega (arith, a, b, count)
-
-      inside : root < length stages
-      inside = omega (arith, some)
-
-      root-home : home_at homes root ≡ length stages
-      root-home = ap (home_at homes) (let q = size in omega (arith, q)) ∙ are.root ∙ size
-
-      root-past : past (length stages) root ≡ false
-      root-past = lt-false (home_at homes root) (length stages) (let r = root-home in omega (arith, r))
-
-      -- no other stage lies above all that gather, since each lies below the last one
-      only-root : home_at homes i ≡ length stages → i ≡ root
-      only-root h = elim (eqb_tells i root) [
-        | inl q ↦ q.1
-        | inr q ↦ (let n = q.1 in let b = below-last gathers (length stages) i (omega (arith, n, within)) (omega arith) in absurd (omega (arith, b, h)))
-      ]
-
-      sound-now : Sound (length stages) now
-      sound-now j n f p = elim (eqb_tells j root) [
-        | inl q ↦ absurd (true≢false (sym p ∙ ap (past (length stages)) q.1 ∙ root-past))
-        | inr q ↦ sound j n (run.other j q.1 ∙ f)
-      ]
-
-      leaf : IsNewLeaf s k run.was
-      leaf = done.held root run.was run.before root-past inside gathers
-
-      given : GivesAsStage s k stages opened root run.was
-      given = done.gives opened sound-now tell root run.was run.before root-past inside gathers
-
-      calm : Calm (as_works s k) run.was run.is
-      calm = run.ran.calm 0 run.was run.is refl refl
-
-      quiet : NoneCame (as_works s k) (run.was ∷ []) (run.is ∷ [])
-      quiet zero n l f g = subst (λ x. NoEvent (as_works s k) x l) (same_Some run.was n f) (subst (NoEvent (as_works s k) run.was) (same_Some run.is l g) (record {
-        fault = no-fault run.is.fault (calm.named (ap is_some leaf.fresh.fault));
-        short = ap (ran_short (is_short run.was.work)) run.enough ∙ never (is_short run.was.work);
-      }))
-        where
-          never : (b : Bool) → ran_short b false ≡ false
-          never true = refl
-          never false = refl
-
-          no-fault : (o : Option StageFault) → IsOf (op_of run.was.work) o → is_device o ≡ false
-          no-fault None h = refl
-          no-fault (Some (stage.Point p)) h = refl
-          no-fault (Some (stage.Device d)) h = absurd (none-some d (sym leaf.op ∙ h))
-      quiet (suc j) n l f g = absurd (none-some n f)
-
-      tells : LeavesTell (as_works s k) (run.was ∷ [])
-      tells zero n f l = subst (λ (x : Node (StageWork S K)). tells_of s.bytes x.work ≡ true) (same_Some run.was n f) given.gives.tells
-      tells (suc j) n f l = absurd (none-some n f)
-
-      streams : Streams (as_works s k) ([] ∷ []) (run.was ∷ []) (λ _. stage_value stages opened root)
-      streams = record {
-        leaf = λ j n f l. at-leaf j n f;
-        inner = λ j n f l. absurd (true≢false (sym (is-leaf j n f) ∙ l));
-      }
-        where
-          at-leaf : (j : ℕ) (n : Node (StageWork S K)) → slice_get (run.was ∷ []) j ≡ Some n → told_of s.bytes n.work ≡ flow_marks (stage_value stages opened root)
-          at-leaf zero n f = subst (λ (x : Node (StageWork S K)). told_of s.bytes x.work ≡ flow_marks (stage_value stages opened root)) (same_Some run.was n f) given.gives.told
-          at-leaf (suc j) n f = absurd (none-some n f)
-
-          is-leaf : (j : ℕ) (n : Node (StageWork S K)) → slice_get (run.was ∷ []) j ≡ Some n → is_leaf n.work ≡ true
-          is-leaf zero n f = subst (λ (x : Node (StageWork S K)). is_leaf x.work ≡ true) (same_Some run.was n f) leaf.leaf
-          is-leaf (suc j) n f = absurd (none-some n f)
-
-      over : EndsOver (as_works s k) ([] ∷ []) (run.was ∷ []) (run.is ∷ []) (λ _. stage_value stages opened root)
-      over = run.ran.ends quiet tells (λ _. stage_value stages opened root) streams
-
-      root-ends-so : slice_get after root ≡ Some m → EndsAsStage s k stages opened root m
-      root-ends-so f =
-          let o = some_at old root (let c = new.count in omega (arith, c, inside)) in
-          let same : run.is ≡ m = same_Some run.is m (sym run.back ∙ f) in
-          subst (EndsAsStage s k stages opened root) same
-          (held-ends s k stages old new down opened tell root o.0 run.is o.1 gathers (calm.op ∙ leaf.op) (over.gave 0 run.is refl) (over.told 0 run.was run.is refl refl leaf.leaf ∙ given.gives.fault)
-          (keeps-same run.is.work run.was.work (run.ran.work 0 run.was run.is refl refl) ∙ given.keeps))
+      some-fault : SomeFault (as_works s k) (run.is ∷ []) → SomeFault (as_works s k) after
+      some-fault (zero, m, e, fault) = (length stages - 1, m, run.back ∙ e, fault)
+      some-fault (suc j, m, e, fault) = absurd (none-some m e)

@@ -1,5 +1,5 @@
 -- The last part, by its memory.
-use Rattle.std.proofs.Common.{◌≡◌, ℕ, ◌-◌, ◌<◌, ◌≤◌, ◌↔◌, Bool, true, false, true≢false, List, length, Some, None, refl, ap, sym, subst, ◌∙◌, inr, arith}
+use Rattle.std.proofs.Common.{◌≡◌, ◌⊎◌, ℕ, ◌-◌, ◌<◌, ◌≤◌, ◌↔◌, Bool, true, false, true≢false, List, length, Some, None, refl, ap, sym, subst, ◌∙◌, inr, arith}
 use Rattle.std.specs.Prelude.{slice_get}
 use Rattle.file_devices.specs.declared.devices.Source as source
 use Rattle.file_devices.specs.declared.devices.Sink as sink
@@ -19,13 +19,15 @@ use Rattle.answer_model.specs.Values.{IsDown, role_at}
 use Rattle.answer_model.proofs.Values.{tree-down}
 use Rattle.stage_runs.specs.declared.rooms.PartRoom.{PartRoom}
 use Rattle.stage_runs.specs.declared.rooms.StageRoom.{StageRoom}
+use Rattle.network_solo.specs.Stopping.{SomeFault}
 use Rattle.stage_runs.specs.Works.{as_works, ins_of, AreNewStages}
-use Rattle.stage_runs.specs.Ran.{AreRanStages}
-use Rattle.stage_runs.specs.Parts.{gathers_of, AreLaterNodes, Besides, IsNewLeaf, IsPartRun, IsLeafRun, AreRunBefore, AreTurned, ByParts}
+use Rattle.stage_runs.specs.Ran.{AreRanStages, AreStoppedStages}
+use Rattle.stage_runs.specs.Parts.{gathers_of, AreLaterNodes, Besides, IsNewLeaf, IsPartRun, IsPartStopped, IsLeafRun, IsLeafStopped, AreRunBefore, AreTurned, ByParts}
 use Rattle.stage_runs.specs.Rooms.{IsRoom, IsLastRoom, IsStageRoom}
 use Rattle.stage_runs.specs.Short.{RanShort, SomeGathers}
 use Rattle.stage_runs.proofs.Asked.{fresh-before, root-inputs, last-leaf}
-use Rattle.stage_runs.proofs.LastPart.{last-streams, last-gathers}
+use Rattle.stage_runs.proofs.LastPart.{last-streams, last-gathers, last-leaf-stopped}
+use Rattle.stage_runs.proofs.Halted.{part-stopped, part-known}
 use Rattle.stage_runs.proofs.Part.{IsRoot, gathers-are}
 use Rattle.stage_runs.proofs.Short.{short-gathers}
 use Rattle.stage_runs.proofs.Turns.{some-stages, few-stages, ins-size, homes-size, all-forest, planned-part}
@@ -106,6 +108,9 @@ module _ {S K E : Type 0} (s : source.Ghosts S) (k : sink.Ghosts K) (fits : ℕ 
       pub last-waits : (n : Node (StageWork S K)) → slice_get now root ≡ Some n → IsNewLeaf s k n
       last-waits n e = last-leaf s k stages old new down forest (ins-size stages) homes is.homes besides now some gathers done n e
 
+      pub leaf-stopped : {after : List (Node (StageWork S K))} → IsLeafStopped s k root now after → AreStoppedStages s k stages old after
+      leaf-stopped {after} run = last-leaf-stopped s k stages old new down forest (ins-size stages) homes is.homes besides now after count some gathers done run
+
       module _ {after : List (Node (StageWork S K))} (run : IsLeafRun s k besides root now after) where
         pub leaf-ran : AreRanStages s k stages old after
         leaf-ran = last-gathers s k stages old new down forest (ins-size stages) homes is.homes besides now after count some gathers done run
@@ -151,6 +156,15 @@ module _ {S K E : Type 0} (s : source.Ghosts S) (k : sink.Ghosts K) (fits : ℕ 
       last-inputs n f = subst (λ xss. (is_leaf n.work ≡ true) ↔ (length (children xss root) ≡ 0)) (sym same-part)
           (root-inputs s k stages old new down forest (ins-size stages) homes is.homes besides (length stages) root at-last now count inside lower done
           (λ q. let m = some in omega (arith, m)) n f)
+
+      -- the last part ended at a fault
+      pub last-stopped : {after : List (Node (StageWork S K))} → IsPartStopped s k part homes (length stages) root now after → AreStoppedStages s k stages old after
+      last-stopped {after} stopped = part-stopped s k stages old new down forest (ins-size stages) homes is.homes besides (length stages) root at-last now count inside lower
+          (λ i l h n. omega (arith, l, n)) done after (subst (λ xss. IsPartStopped s k xss homes (length stages) root now after) same-part stopped)
+
+      pub last-known : {after : List (Node (StageWork S K))} → IsPartStopped s k part homes (length stages) root now after → SomeFault (as_works s k) after ⊎ SomeGathers stages
+      last-known {after} stopped = part-known s k stages old new down forest (ins-size stages) homes is.homes besides (length stages) root at-last now count inside lower
+          (λ i l h n. omega (arith, l, n)) done after (subst (λ xss. IsPartStopped s k xss homes (length stages) root now after) same-part stopped) refl
 
       module _ {after : List (Node (StageWork S K))} (run : IsPartRun s k besides part homes (length stages) root now after) where
         ran : IsPartRun s k besides (part_ins (gathers_of stages) (ins_of stages) homes (length stages) root) homes (length stages) root now after

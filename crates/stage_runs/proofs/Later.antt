@@ -13,10 +13,15 @@ use Rattle.network_theory.specs.Opening.{IsFresh}
 use Rattle.network_core.specs.declared.node.Node.{Node}
 use Rattle.network_core.specs.Shown.{shown}
 use Rattle.network_core.proofs.Opened.{some_at}
+use Rattle.network_core.specs.Calm.{Calm}
+use Rattle.network_core.specs.declared.stop.Stop.{Stop}
+use Rattle.network_core.specs.declared.stop.Stop.TheVariants.{Last, First}
+use Rattle.network_solo.specs.Stopping.{CameToEnd, IsStoppedTree}
 use Rattle.network_solo.specs.Trees.{IsRanTree}
 use Rattle.stage_kinds.specs.declared.stage_work.StageWork.{StageWork}
 use Rattle.stage_kinds.specs.declared.stage_work.StageWork.TheVariants.{Reader, Filter, Collector, Views, ViewFiles, Writer}
 use Rattle.stage_kinds.specs.Held.{op_of, faults_of}
+use Rattle.stage_kinds.specs.Stages.{meaning_of}
 use Rattle.stage_runs.specs.Works.{as_works}
 use Rattle.cloud_points.specs.Flows.{empty_flow}
 use Rattle.stage_runs.specs.Parts.{IsLaterNode, AreLaterNodes, AreSameOrLater, AreStandIns, IsNewLeaf, Gives}
@@ -79,9 +84,27 @@ module _ {S K : Type 0} (s : source.Ghosts S) (k : sink.Ghosts K) where
     named = subst (λ o. IsOf o l.fault) first.op second.named;
   }
 
-  -- nodes that took turns are later
+  -- nodes that took turns, wherever these ended: each keeps what its work does, and a device's fault has its cause
+  pub record AreTurnedNodes (nodes ended : List (Node (StageWork S K))) : Type 0 where
+    pub count : length ended ≡ length nodes
+    pub work : (i : ℕ) (n m : Node (StageWork S K)) → slice_get nodes i ≡ Some n → slice_get ended i ≡ Some m → meaning_of m.work ≡ meaning_of n.work
+    pub calm : (i : ℕ) (n m : Node (StageWork S K)) → slice_get nodes i ≡ Some n → slice_get ended i ≡ Some m → Calm (as_works s k) n m
+
+  pub ran-turned : (ins : List (List ℕ)) (nodes ended : List (Node (StageWork S K))) → IsRanTree (as_works s k) ins nodes ended → AreTurnedNodes nodes ended
+  ran-turned ins nodes ended ran = record { count = ran.count; work = ran.work; calm = ran.calm }
+
+  pub stopped-turned : (ins : List (List ℕ)) (nodes ended : List (Node (StageWork S K))) → IsStoppedTree (as_works s k) ins nodes ended → AreTurnedNodes nodes ended
+  stopped-turned ins nodes ended stopped = record { count = stopped.count; work = stopped.work; calm = stopped.calm }
+
+  -- so it is wherever a scheduler ends turns
+  pub any-turned : (ins : List (List ℕ)) (nodes ended : List (Node (StageWork S K))) (stop : Stop) → (CameToEnd (as_works s k) stop ended → IsRanTree (as_works s k) ins nodes ended)
+      → (stop ≡ First → IsStoppedTree (as_works s k) ins nodes ended) → AreTurnedNodes nodes ended
+  any-turned ins nodes ended Last ran stopped = ran-turned ins nodes ended (ran tt)
+  any-turned ins nodes ended First ran stopped = stopped-turned ins nodes ended (stopped refl)
+
+  -- they are later
   pub ran-later : (ins : List (List ℕ)) (nodes ended : List (Node (StageWork S K))) → ((i : ℕ) (n : Node (StageWork S K)) → slice_get nodes i ≡ Some n → IsFresh (shown (as_works s k) (children ins i) n))
-      → IsRanTree (as_works s k) ins nodes ended → AreLaterNodes s k nodes ended
+      → AreTurnedNodes nodes ended → AreLaterNodes s k nodes ended
   ran-later ins nodes ended fresh ran = record {
     count = ran.count;
     each = λ i n m e f.

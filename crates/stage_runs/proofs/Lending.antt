@@ -9,11 +9,10 @@ use Rattle.network_theory.specs.Opening.{IsFresh}
 use Rattle.network_core.specs.declared.node.Node.{Node}
 use Rattle.network_core.specs.Shown.{shown}
 use Rattle.network_core.proofs.Opened.{some_at}
-use Rattle.network_solo.specs.Trees.{IsRanTree}
 use Rattle.stage_kinds.specs.declared.stage_work.StageWork.{StageWork}
 use Rattle.stage_kinds.specs.declared.stage_work.StageWork.TheVariants.{Collector}
 use Rattle.stage_kinds.specs.Held.{op_of, faults_of}
-use Rattle.stage_kinds.specs.Stages.{is_leaf, is_short}
+use Rattle.stage_kinds.specs.Stages.{is_leaf}
 use Rattle.file_devices.specs.Counts.{Rose}
 use Rattle.cloud_points.specs.Events.{IsOf}
 use Rattle.stage_parts.specs.Parts.{is_of, part_ins}
@@ -22,7 +21,7 @@ use Rattle.stage_runs.specs.declared.plan.Plan.{Plan}
 use Rattle.stage_runs.specs.declared.rooms.PartRoom.{PartRoom}
 use Rattle.stage_runs.specs.Works.{as_works}
 use Rattle.stage_forms.specs.Starts.{IsCollecting}
-use Rattle.stage_runs.specs.Parts.{IsExchanged, IsRenewed, IsNewLeaf, IsLaterNode, AreLaterNodes, AreSameOrLater, is_own, IsNet, IsPartRun, Besides}
+use Rattle.stage_runs.specs.Parts.{IsExchanged, IsRenewed, IsNewLeaf, IsLaterNode, AreLaterNodes, AreSameOrLater, is_own, IsNet, IsPart}
 use Rattle.stage_runs.specs.Rooms.{IsRoom}
 use Rattle.stage_runs.specs.Short.{RanShort, NoneShort}
 use Rattle.stage_runs.proofs.Part.{same-number, other-number}
@@ -253,14 +252,13 @@ module _ {S K : Type 0} (s : source.Ghosts S) (k : sink.Ghosts K) where
                 }
             by_own false o = absurd (no-leaf short.before.work short.collects (stranger short.place short.before less o short.was).leaf)
 
-        pub part-run : (besides : Besides S K) → IsRanTree (as_works s k) room.ins renewed ended → besides room.ins renewed ended → NoneShort ended
-            → IsPartRun s k besides part homes home root nodes after
-        part-run besides ran over enough = record {
+        pub part-became : (became : List (List ℕ) → List (Node (StageWork S K)) → List (Node (StageWork S K)) → Type 0) → became room.ins renewed ended → NoneShort ended
+            → IsPart s k (became part) part homes home root nodes after
+        part-became became turned enough = record {
           net = renewed;
           ended = ended;
           is_net = is-net;
-          ran = subst (λ xss. IsRanTree (as_works s k) xss renewed ended) is.ins ran;
-          over = subst (λ xss. besides xss renewed ended) is.ins over;
+          turned = subst (λ xss. became xss renewed ended) is.ins turned;
           enough = enough;
           count = after-count;
           back = back;

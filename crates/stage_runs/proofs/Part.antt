@@ -1,6 +1,6 @@
 -- The net of a part streams the values of its stages.
-use Rattle.std.proofs.Common.{◌≡◌, ◌≢◌, ◌⊎◌, ℕ, zero, suc, ◌<◌, ◌≤◌, ◌==◌, ◌&&◌, not, if◌then◌else◌, Bool, true, false, true≢false, List, [], ◌∷◌, map, length, Option, Some, None, is_some, refl, ap, sym, subst, ◌∙◌, inl, inr, arith}
-use Rattle.std.specs.Prelude.{slice_get}
+use Rattle.std.proofs.Common.{◌≡◌, ◌≢◌, ◌⊎◌, ℕ, zero, suc, ◌<◌, ◌≤◌, ◌==◌, ◌&&◌, not, cond, if◌then◌else◌, Bool, true, false, true≢false, List, [], ◌∷◌, map, length, Option, Some, None, is_some, refl, ap, sym, subst, ◌∙◌, inl, inr, arith}
+use Rattle.std.specs.Prelude.{slice_get, option_map}
 use Rattle.std.proofs.lemmas.Bool.Decides.{eqb_tells}
 use Rattle.std.proofs.lemmas.Option.{none-some, slice_get_within}
 use Rattle.file_devices.specs.declared.devices.Source as source
@@ -17,6 +17,7 @@ use Rattle.network_theory.specs.Machine.{made_of, state_after}
 use Rattle.network_core.specs.declared.node.Node.{Node}
 use Rattle.network_core.proofs.Opened.{some_at}
 use Rattle.network_solo.specs.Trees.{input_at, makes_of, fault_of, state_left, Streams, NoneCame, LeavesTell, EndsOver, Gave, Took, IsRanTree}
+use Rattle.network_solo.specs.Stopping.{IsStoppedTree, fault_to_come}
 use Rattle.stage_kinds.specs.declared.stage_work.StageWork.{StageWork}
 use Rattle.stage_kinds.specs.declared.stage_work.StageState.TheVariants.{Collecting}
 use Rattle.stage_kinds.specs.Held.{op_of}
@@ -35,14 +36,16 @@ use Rattle.stage_parts.proofs.Tops.{near, near_root}
 use Rattle.stage_parts.proofs.Trees.{own, strange}
 use Rattle.pipeline_json.specs.Lists.{has}
 use Rattle.answer_model.proofs.Values.{has-own, has-later}
-use Rattle.answer_model.specs.Values.{Opened, IsDown, stage_at, options_at, role_at, setting_at, stage_value, stage_input}
+use Rattle.answer_model.specs.Values.{Opened, IsDown, stage_at, options_at, role_at, setting_at, stage_value, stage_input, stage_fault}
 use Rattle.stage_forms.specs.Starts.{form_for}
 use Rattle.stage_kinds.proofs.Keeping.{keeps-same}
 use Rattle.stage_runs.specs.Works.{as_works, ins_of, AreNewStages, ReadersTell}
 use Rattle.stage_runs.specs.Ran.{EndsAsStage}
 use Rattle.stage_runs.specs.Parts.{gathers_of, IsNewLeaf, GivesAsStage, IsNet}
 use Rattle.stage_runs.proofs.Forests.{children-are}
-use Rattle.stage_runs.proofs.Ran.{tells-value, makes-value, leaf-at, ends-as, held-ends, gathers-row}
+use Rattle.stage_runs.proofs.Calm.{collector-sound}
+use Rattle.stage_runs.proofs.Later.{AreTurnedNodes}
+use Rattle.stage_runs.proofs.Ran.{tells-value, makes-value, leaf-at, fault-at, ends-as, held-ends, gathers-row}
 
 -- ---- choices
 
@@ -58,7 +61,7 @@ same-number a = elim (eqb_tells a a) [ inl p ↦ p.0 | inr p ↦ absurd (p.1 ref
 pub other-number : (a b : ℕ) → a ≢ b → (a == b) ≡ false
 other-number a b n = elim (eqb_tells a b) [ inl p ↦ absurd (n p.1) | inr p ↦ p.0 ]
 
-number-same : (a b : ℕ) → (a == b) ≡ true → a ≡ b
+pub number-same : (a b : ℕ) → (a == b) ≡ true → a ≡ b
 number-same a b e = elim (eqb_tells a b) [ inl p ↦ p.1 | inr p ↦ absurd (true≢false (sym e ∙ p.0)) ]
 
 has-in : (j : ℕ) (xs : List ℕ) → In j xs → has xs j ≡ true
@@ -248,12 +251,12 @@ module _ {S K : Type 0} (s : source.Ghosts S) (k : sink.Ghosts K) (stages : List
 
     -- ---- how they end
 
-    module _ (ended : List (Node (StageWork S K))) (ran : IsRanTree (as_works s k) part net ended)
+    module _ (ended : List (Node (StageWork S K))) (turned : AreTurnedNodes s k net ended)
         (enough : (i : ℕ) (m : Node (StageWork S K)) → slice_get ended i ≡ Some m → is_short m.work ≡ false)
         (sound : (i : ℕ) (m : Node (StageWork S K)) → i ≤ root → is_of homes home i ≡ true → slice_get ended i ≡ Some m → is_device m.fault ≡ false) where
       -- a node without a device has no fault of one
       no-device : (i : ℕ) (n m : Node (StageWork S K)) → slice_get net i ≡ Some n → slice_get ended i ≡ Some m → n.fault ≡ None → op_of n.work ≡ None → is_device m.fault ≡ false
-      no-device i n m e f none op = go m.fault ((ran.calm i n m e f).named (ap is_some none))
+      no-device i n m e f none op = go m.fault ((turned.calm i n m e f).named (ap is_some none))
         where
           go : (o : Option StageFault) → IsOf (op_of n.work) o → is_device o ≡ false
           go None h = refl
@@ -279,72 +282,123 @@ module _ {S K : Type 0} (s : source.Ghosts S) (k : sink.Ghosts K) (stages : List
           fault (of_home less h) = sound i m (omega (arith, less)) h f
           fault (stranger less h) = let x = (is_net.strange i n less h e).0 in no-device i n m e f x.fresh.fault x.op
 
-      over : EndsOver (as_works s k) part net ended value
-      over = ran.ends quiet leaves-tell value streams
-
       before : (i : ℕ) (m : Node (StageWork S K)) → slice_get ended i ≡ Some m → (n : Node (StageWork S K)) × (slice_get net i ≡ Some n)
-      before i m f = some_at net i (let a = slice_get_within ended i m f in let c = ran.count in omega (arith, a, c))
-
-      -- the nodes of this home end as their stages say
-      pub home-ends : (i : ℕ) (m : Node (StageWork S K)) → i < root → is_of homes home i ≡ true → slice_get ended i ≡ Some m → EndsAsStage s k stages opened i m
-      home-ends i m less h f = go (is_gathering (role_at stages i)) refl
-        where
-          was : (n : Node (StageWork S K)) × (slice_get net i ≡ Some n)
-          was = before i m f
-
-          at : slice_get nodes i ≡ Some was.0
-          at = is_net.own i was.0 less h was.1
-
-          op : op_of m.work ≡ op_of was.0.work
-          op = (ran.calm i was.0 m was.1 f).op
-
-          gave : Gave (as_works s k) (stage_value stages opened i) m
-          gave = subst (λ flow. Gave (as_works s k) flow m) (value-home i less h) (over.gave i m f)
-
-          go : (b : Bool) → is_gathering (role_at stages i) ≡ b → EndsAsStage s k stages opened i m
-          go true g = (
-              let x = held i was.0 less h g at in
-              let o = some_at old i (omega (arith, less, inside, size)) in
-              let y = gives i was.0 less h g at in
-              held-ends s k stages old new down opened tell i o.0 m o.1 g (op ∙ x.op) gave (over.told i was.0 m was.1 f x.leaf ∙ y.gives.fault)
-              (keeps-same m.work was.0.work (ran.work i was.0 m was.1 f) ∙ y.keeps))
-          go false g = ends-as s k stages old new down opened tell i was.0 m (waits i was.0 less h g at) g op (ran.work i was.0 m was.1 f) gave
-              (λ l. over.told i was.0 m was.1 f l)
-              (λ l. subst (λ flow. Took (as_works s k) flow was.0 m) (input-home i less h g) (over.took i was.0 m was.1 f l))
+      before i m f = some_at net i (let a = slice_get_within ended i m f in let c = turned.count in omega (arith, a, c))
 
       root-ended : (m : Node (StageWork S K)) → slice_get ended root ≡ Some m
           → (n : Node (StageWork S K)) × (o : Node (StageWork S K)) × (slice_get net root ≡ Some n) × (slice_get old root ≡ Some o) × (n.work ≡ o.work)
       root-ended m f = let n = before root m f in let o = root-node n.0 n.1 in (n.0, o.0, n.1, o.1, o.2)
 
-      took-root : (n o m : Node (StageWork S K)) → slice_get net root ≡ Some n → n.work ≡ o.work → slice_get ended root ≡ Some m → is_leaf n.work ≡ false → Took (as_works s k) (stage_input stages opened root) o m
-      took-root n o m e same f l =
-          let t = over.took root n m e f l in
-          let flow = input_at part value root in
-          subst (λ flow. Took (as_works s k) flow o m) input-root (record {
-            fault = t.fault ∙ ap (λ w. fault_of (as_works s k) w flow) same;
-            state = t.state ∙ ap (λ w. state_left (as_works s k) w flow) same;
-            holds = λ sound h. t.holds sound (ap (λ w. holds_of k.bytes w []) same ∙ h);
-          })
+      -- where all were done
+      module _ (ran : IsRanTree (as_works s k) part net ended) where
+        over : EndsOver (as_works s k) part net ended value
+        over = ran.ends quiet leaves-tell value streams
 
-      -- a root that needs whole views holds those that the stage takes
-      pub root-holds : (m : Node (StageWork S K)) → slice_get ended root ≡ Some m → is_gathering (role_at stages root) ≡ true
-          → (g : Making) × (state_of m.work ≡ Collecting g (Some (stage_input stages opened root))) × (form_for (options_at stages root) (setting_at stages opened root) ≡ Gathers g)
-      root-holds m f g =
-          let x = root-ended m f in
-          let row = gathers-row s k stages old new down opened tell root x.1 x.3 g in
-          let t = took-root x.0 x.1 m x.2 x.4 f (ap is_leaf (x.4 ∙ row.2)) in (
-            row.1,
-            t.state ∙ ap (λ w. state_left (as_works s k) w (stage_input stages opened root)) row.2
-                ∙ ap (λ h. state_after collector_work (Collecting row.0.making h) (stage_input stages opened root)) (ap (λ b. held_of b row.0.views) row.3.short ∙ ap Some row.3.views)
-                ∙ collector-holds row.0.making (stage_input stages opened root) ∙ ap (λ g. Collecting g (Some (stage_input stages opened root))) row.3.makes,
-            row.4,
-          )
+        -- the nodes of this home end as their stages say
+        pub home-ends : (i : ℕ) (m : Node (StageWork S K)) → i < root → is_of homes home i ≡ true → slice_get ended i ≡ Some m → EndsAsStage s k stages opened i m
+        home-ends i m less h f = go (is_gathering (role_at stages i)) refl
+          where
+            was : (n : Node (StageWork S K)) × (slice_get net i ≡ Some n)
+            was = before i m f
 
-      -- any other root ends as its stage says
-      pub root-ends : (m : Node (StageWork S K)) → slice_get ended root ≡ Some m → is_gathering (role_at stages root) ≡ false → EndsAsStage s k stages opened root m
-      root-ends m f g =
-          let x = root-ended m f in
-          ends-as s k stages old new down opened tell root x.1 m x.3 g ((ran.calm root x.0 m x.2 f).op ∙ ap op_of x.4) (ran.work root x.0 m x.2 f ∙ ap meaning_of x.4)
-          (subst (λ flow. Gave (as_works s k) flow m) (value-root ∙ unless _ _ g) (over.gave root m f))
-          (λ l. over.told root x.0 m x.2 f (ap is_leaf x.4 ∙ l) ∙ ap (told_fault_of s.bytes) x.4)
-          (λ l. took-root x.0 x.1 m x.2 x.4 f (ap is_leaf x.4 ∙ l))
+            at : slice_get nodes i ≡ Some was.0
+            at = is_net.own i was.0 less h was.1
+
+            op : op_of m.work ≡ op_of was.0.work
+            op = (ran.calm i was.0 m was.1 f).op
+
+            gave : Gave (as_works s k) (stage_value stages opened i) m
+            gave = subst (λ flow. Gave (as_works s k) flow m) (value-home i less h) (over.gave i m f)
+
+            go : (b : Bool) → is_gathering (role_at stages i) ≡ b → EndsAsStage s k stages opened i m
+            go true g = (
+                let x = held i was.0 less h g at in
+                let o = some_at old i (omega (arith, less, inside, size)) in
+                let y = gives i was.0 less h g at in
+                held-ends s k stages old new down opened tell i o.0 m o.1 g (op ∙ x.op) gave (over.told i was.0 m was.1 f x.leaf ∙ y.gives.fault)
+                (keeps-same m.work was.0.work (ran.work i was.0 m was.1 f) ∙ y.keeps))
+            go false g = ends-as s k stages old new down opened tell i was.0 m (waits i was.0 less h g at) g op (ran.work i was.0 m was.1 f) gave
+                (λ l. over.told i was.0 m was.1 f l)
+                (λ l. subst (λ flow. Took (as_works s k) flow was.0 m) (input-home i less h g) (over.took i was.0 m was.1 f l))
+
+        took-root : (n o m : Node (StageWork S K)) → slice_get net root ≡ Some n → n.work ≡ o.work → slice_get ended root ≡ Some m → is_leaf n.work ≡ false → Took (as_works s k) (stage_input stages opened root) o m
+        took-root n o m e same f l =
+            let t = over.took root n m e f l in
+            let flow = input_at part value root in
+            subst (λ flow. Took (as_works s k) flow o m) input-root (record {
+              fault = t.fault ∙ ap (λ w. fault_of (as_works s k) w flow) same;
+              state = t.state ∙ ap (λ w. state_left (as_works s k) w flow) same;
+              holds = λ sound h. t.holds sound (ap (λ w. holds_of k.bytes w []) same ∙ h);
+            })
+
+        -- a root that needs whole views holds those that the stage takes
+        pub root-holds : (m : Node (StageWork S K)) → slice_get ended root ≡ Some m → is_gathering (role_at stages root) ≡ true
+            → (g : Making) × (state_of m.work ≡ Collecting g (Some (stage_input stages opened root))) × (form_for (options_at stages root) (setting_at stages opened root) ≡ Gathers g)
+        root-holds m f g =
+            let x = root-ended m f in
+            let row = gathers-row s k stages old new down opened tell root x.1 x.3 g in
+            let t = took-root x.0 x.1 m x.2 x.4 f (ap is_leaf (x.4 ∙ row.2)) in (
+              row.1,
+              t.state ∙ ap (λ w. state_left (as_works s k) w (stage_input stages opened root)) row.2
+                  ∙ ap (λ h. state_after collector_work (Collecting row.0.making h) (stage_input stages opened root)) (ap (λ b. held_of b row.0.views) row.3.short ∙ ap Some row.3.views)
+                  ∙ collector-holds row.0.making (stage_input stages opened root) ∙ ap (λ g. Collecting g (Some (stage_input stages opened root))) row.3.makes,
+              row.4,
+            )
+
+        -- any other root ends as its stage says
+        pub root-ends : (m : Node (StageWork S K)) → slice_get ended root ≡ Some m → is_gathering (role_at stages root) ≡ false → EndsAsStage s k stages opened root m
+        root-ends m f g =
+            let x = root-ended m f in
+            ends-as s k stages old new down opened tell root x.1 m x.3 g ((ran.calm root x.0 m x.2 f).op ∙ ap op_of x.4) (ran.work root x.0 m x.2 f ∙ ap meaning_of x.4)
+            (subst (λ flow. Gave (as_works s k) flow m) (value-root ∙ unless _ _ g) (over.gave root m f))
+            (λ l. over.told root x.0 m x.2 f (ap is_leaf x.4 ∙ l) ∙ ap (told_fault_of s.bytes) x.4)
+            (λ l. took-root x.0 x.1 m x.2 x.4 f (ap is_leaf x.4 ∙ l))
+
+      -- where turns ended at a fault
+      module _ (stopped : IsStoppedTree (as_works s k) part net ended) where
+        comes : (i : ℕ) (n m : Node (StageWork S K)) (f : StageFault) → slice_get net i ≡ Some n → slice_get ended i ≡ Some m → m.fault ≡ Some f → fault_to_come (as_works s k) part value i n ≡ Some f
+        comes i n m f e h why = stopped.faults quiet leaves-tell value streams i n m f e h why
+
+        -- a node of this home has the fault of its stage
+        pub home-fault : (i : ℕ) (m : Node (StageWork S K)) (f : StageFault) → i < root → is_of homes home i ≡ true → slice_get ended i ≡ Some m → m.fault ≡ Some f → option_map stage.Point (stage_fault stages opened i) ≡ Some f
+        home-fault i m f less h e why = go (is_gathering (role_at stages i)) refl
+          where
+            was : (n : Node (StageWork S K)) × (slice_get net i ≡ Some n)
+            was = before i m e
+
+            at : slice_get nodes i ≡ Some was.0
+            at = is_net.own i was.0 less h was.1
+
+            to_come : fault_to_come (as_works s k) part value i was.0 ≡ Some f
+            to_come = comes i was.0 m f was.1 e why
+
+            go : (b : Bool) → is_gathering (role_at stages i) ≡ b → option_map stage.Point (stage_fault stages opened i) ≡ Some f
+            go true g = sym (gives i was.0 less h g at).gives.fault
+                ∙ sym (ap (λ b. cond b (told_fault_of s.bytes was.0.work) (fault_of (as_works s k) was.0.work (input_at part value i))) (held i was.0 less h g at).leaf) ∙ to_come
+            go false g = sym (fault-at s k stages old new down opened tell i was.0 (waits i was.0 less h g at) g)
+                ∙ ap (λ flow. cond (is_leaf was.0.work) (told_fault_of s.bytes was.0.work) (fault_of (as_works s k) was.0.work flow)) (sym (input-home i less h g)) ∙ to_come
+
+        -- a root that needs whole views has none, and any other has that of its stage
+        pub root-fault : (m : Node (StageWork S K)) (f : StageFault) → slice_get ended root ≡ Some m → m.fault ≡ Some f → option_map stage.Point (stage_fault stages opened root) ≡ Some f
+        root-fault m f e why = go (is_gathering (role_at stages root)) refl
+          where
+            x : (n : Node (StageWork S K)) × (o : Node (StageWork S K)) × (slice_get net root ≡ Some n) × (slice_get old root ≡ Some o) × (n.work ≡ o.work)
+            x = root-ended m e
+
+            to_come : cond (is_leaf x.1.work) (told_fault_of s.bytes x.1.work) (fault_of (as_works s k) x.1.work (stage_input stages opened root)) ≡ Some f
+            to_come = ap (λ w. cond (is_leaf w) (told_fault_of s.bytes w) (fault_of (as_works s k) w (stage_input stages opened root))) (sym x.4)
+                ∙ ap (λ flow. cond (is_leaf x.0.work) (told_fault_of s.bytes x.0.work) (fault_of (as_works s k) x.0.work flow)) (sym input-root) ∙ comes root x.0 m f x.2 e why
+
+            go : (b : Bool) → is_gathering (role_at stages root) ≡ b → option_map stage.Point (stage_fault stages opened root) ≡ Some f
+            go true g = (
+                let row = gathers-row s k stages old new down opened tell root x.1 x.3 g in
+                absurd (none-some f (sym (ap (λ w. cond (is_leaf w) (told_fault_of s.bytes w) (fault_of (as_works s k) w (stage_input stages opened root))) row.2
+                ∙ collector-sound (Collecting row.0.making (held_of row.0.short row.0.views)) (stage_input stages opened root)) ∙ to_come)))
+            go false g = sym (fault-at s k stages old new down opened tell root x.1 x.3 g) ∙ to_come
+
+        -- a stranger has none
+        pub stranger-sound : (i : ℕ) (m : Node (StageWork S K)) (f : StageFault) → i < root → is_of homes home i ≡ false → slice_get ended i ≡ Some m → m.fault ≡ Some f → ⊥
+        stranger-sound i m f less h e why =
+            let was = before i m e in
+            let x = is_net.strange i was.0 less h was.1 in
+            none-some f (sym (ap (λ b. cond b (told_fault_of s.bytes was.0.work) (fault_of (as_works s k) was.0.work (input_at part value i))) x.0.leaf ∙ x.1.fault) ∙ comes i was.0 m f was.1 e why)

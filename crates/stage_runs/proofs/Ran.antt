@@ -10,7 +10,7 @@ use Rattle.cloud_points.specs.Marks.{flow_marks}
 use Rattle.las_reader.specs.Flows.{las_flow, las_fault}
 use Rattle.network_core.specs.declared.node.Node.{Node}
 use Rattle.network_core.specs.Shown.{work_of}
-use Rattle.network_solo.specs.Trees.{makes_of, Gave, Took}
+use Rattle.network_solo.specs.Trees.{makes_of, Gave, Took, fault_of}
 use Rattle.stage_kinds.specs.declared.stage_work.StageWork.{StageWork}
 use Rattle.stage_kinds.specs.declared.file_form.StageForm.{StageForm}
 use Rattle.stage_kinds.specs.declared.file_form.StageForm.TheVariants.{Reads, Filters, Gathers, Writes as Makes}
@@ -93,6 +93,20 @@ module _ {S K : Type 0} (s : source.Ghosts S) (k : sink.Ghosts K) (stages : List
         → makes_of (as_works s k) n.work (stage_input stages opened i) ≡ flow_marks (stage_value stages opened i)
     makes-value i n e l streams = let f = inner-at i n e l streams in f.makes (stage_input stages opened i) ∙ ap flow_marks (sym (value-inner i f.inner))
 
+    -- the fault that it tells, or has on what the stage takes
+    pub fault-at : (i : ℕ) (n : Node (StageWork S K)) → slice_get old i ≡ Some n → is_gathering (role_at stages i) ≡ false
+        → cond (is_leaf n.work) (told_fault_of s.bytes n.work) (fault_of (as_works s k) n.work (stage_input stages opened i)) ≡ option_map stage.Point (stage_fault stages opened i)
+    fault-at i n was streams = by_leaf (is_leaf n.work) refl
+      where
+        by_leaf : (b : Bool) → is_leaf n.work ≡ b → cond b (told_fault_of s.bytes n.work) (fault_of (as_works s k) n.work (stage_input stages opened i)) ≡ option_map stage.Point (stage_fault stages opened i)
+        by_leaf true l =
+            let t = leaf-at i n was l in
+            t.fault ∙ ap (λ b. option_map stage.Point (cond b (las_fault (opened i).las) (rows.fault_on (row_at stages opened i) (stage_input stages opened i)))) (sym t.reads)
+        by_leaf false l =
+            let t = inner-at i n was l streams in
+            t.fault (stage_input stages opened i)
+            ∙ ap (λ b. option_map stage.Point (cond b (las_fault (opened i).las) (rows.fault_on (row_at stages opened i) (stage_input stages opened i)))) (sym t.inner)
+
     -- where it took what the stage takes, it ends so
     pub ends-as : (i : ℕ) (n m : Node (StageWork S K)) → slice_get old i ≡ Some n → is_gathering (role_at stages i) ≡ false → op_of m.work ≡ op_of n.work → meaning_of m.work ≡ meaning_of n.work
         → Gave (as_works s k) (stage_value stages opened i) m
@@ -101,18 +115,12 @@ module _ {S K : Type 0} (s : source.Ghosts S) (k : sink.Ghosts K) (stages : List
         → EndsAsStage s k stages opened i m
     ends-as i n m was streams op means gave told took = record { gave = gave; fault = fault-is; holds = holds-so; wrote = wrote-so; files = files-so; keeps = keeps-so }
       where
-        by_leaf : (b : Bool) → is_leaf n.work ≡ b → m.fault ≡ option_map stage.Point (stage_fault stages opened i)
-        by_leaf true l =
-            let t = leaf-at i n was l in
-            told l ∙ t.fault
-            ∙ ap (λ b. option_map stage.Point (cond b (las_fault (opened i).las) (rows.fault_on (row_at stages opened i) (stage_input stages opened i)))) (sym t.reads)
-        by_leaf false l =
-            let t = inner-at i n was l streams in
-            (took l).fault ∙ t.fault (stage_input stages opened i)
-            ∙ ap (λ b. option_map stage.Point (cond b (las_fault (opened i).las) (rows.fault_on (row_at stages opened i) (stage_input stages opened i)))) (sym t.inner)
+        by_leaf : (b : Bool) → is_leaf n.work ≡ b → m.fault ≡ cond b (told_fault_of s.bytes n.work) (fault_of (as_works s k) n.work (stage_input stages opened i))
+        by_leaf true l = told l
+        by_leaf false l = (took l).fault
 
         fault-is : m.fault ≡ option_map stage.Point (stage_fault stages opened i)
-        fault-is = by_leaf (is_leaf n.work) refl
+        fault-is = by_leaf (is_leaf n.work) refl ∙ fault-at i n was streams
 
         sound-so : m.fault ≡ None → rows.fault_on (row_at stages opened i) (stage_input stages opened i) ≡ None ⊎ is_reading (role_at stages i) ≡ true
         sound-so sound = by_role (is_reading (role_at stages i)) refl

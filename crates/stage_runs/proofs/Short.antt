@@ -1,5 +1,5 @@
 -- Where memory was wanting, a stage needs whole views.
-use Rattle.std.proofs.Common.{◌≡◌, ℕ, ◌-◌, ◌<◌, not, Bool, true, false, true≢false, List, length, map, Some, refl, sym, ◌∙◌, arith}
+use Rattle.std.proofs.Common.{◌≡◌, ℕ, ◌-◌, ◌<◌, Bool, true, false, true≢false, List, length, map, Some, refl, sym, ◌∙◌, arith}
 use Rattle.std.specs.Prelude.{slice_get}
 use Rattle.std.proofs.lemmas.Option.{slice_get_within}
 use Rattle.file_devices.specs.declared.devices.Source as source
@@ -8,7 +8,6 @@ use Rattle.network_theory.specs.Forest.{IsForest}
 use Rattle.network_core.specs.declared.node.Node.{Node}
 use Rattle.network_core.specs.Shown.{work_of}
 use Rattle.network_core.proofs.Opened.{some_at}
-use Rattle.network_solo.specs.Trees.{IsRanTree}
 use Rattle.stage_kinds.specs.declared.stage_work.StageWork.{StageWork}
 use Rattle.stage_kinds.specs.declared.stage_work.StageWork.TheVariants.{Reader, Filter, Collector, Views, ViewFiles, Writer}
 use Rattle.stage_kinds.specs.Stages.{is_short, meaning_of}
@@ -16,19 +15,16 @@ use Rattle.stage_options.specs.Roles.{is_gathering}
 use Rattle.stage_options.specs.declared.stage.StageSpec.{StageSpec}
 use Rattle.stage_parts.specs.Parts.{AreHomes, home_at}
 use Rattle.answer_model.specs.Values.{IsDown, role_at, options_at}
-use Rattle.stage_runs.specs.Works.{as_works, ins_of, AreNewStages}
+use Rattle.stage_runs.specs.Works.{ins_of, AreNewStages}
 use Rattle.stage_runs.specs.Parts.{gathers_of, is_past, AreRunBefore, Besides}
 use Rattle.stage_forms.specs.Starts.{IsCollecting}
 use Rattle.stage_runs.specs.Short.{RanShort, SomeGathers}
 use Rattle.stage_runs.proofs.Asked.{keeps-collecting}
 use Rattle.stage_forms.proofs.AtStart.{somehow}
+use Rattle.stage_runs.proofs.Later.{AreTurnedNodes}
 use Rattle.stage_runs.proofs.Places.{map-at}
 use Rattle.stage_runs.proofs.Steps.{true-lt, home-gathers}
 use Rattle.stage_forms.proofs.Works.{collects-gathers}
-
-pub is-short : (b : Bool) → not b ≡ false → b ≡ true
-is-short true e = refl
-is-short false e = absurd (true≢false e)
 
 -- a work that means what a short one means takes whole views
 short-collects : {S K : Type 0} (v w : StageWork S K) → is_short v ≡ true → meaning_of w ≡ meaning_of v → IsCollecting w
@@ -41,9 +37,9 @@ short-collects (Writer v) w short same = absurd (true≢false (sym short))
 
 module _ {S K : Type 0} (s : source.Ghosts S) (k : sink.Ghosts K) where
   -- so a node that is short in the end took whole views from the start
-  pub short-ran : (ins : List (List ℕ)) (nodes ended : List (Node (StageWork S K))) → IsRanTree (as_works s k) ins nodes ended
+  pub short-ran : (nodes ended : List (Node (StageWork S K))) → AreTurnedNodes s k nodes ended
       → (i : ℕ) (m : Node (StageWork S K)) → slice_get ended i ≡ Some m → is_short m.work ≡ true → RanShort nodes ended
-  short-ran ins nodes ended ran i m e short =
+  short-ran nodes ended ran i m e short =
       let n = some_at nodes i (let a = slice_get_within ended i m e in let b = ran.count in omega (arith, a, b)) in
       record {
         place = i;

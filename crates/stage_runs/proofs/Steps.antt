@@ -1,5 +1,5 @@
 -- One part more is run.
-use Rattle.std.proofs.Common.{◌≡◌, ◌≢◌, ℕ, suc, ◌+◌, ◌-◌, ◌<◌, ◌≤◌, ◌==◌, ◌||◌, nat_lt, Bool, true, false, true≢false, List, length, Option, Some, None, refl, ap, sym, subst, ◌∙◌, inl, inr, arith}
+use Rattle.std.proofs.Common.{◌≡◌, ◌≢◌, ℕ, suc, ◌+◌, ◌-◌, ◌<◌, ◌≤◌, ◌==◌, ◌||◌, nat_lt, Bool, true, false, true≢false, List, length, Option, Some, None, is_some, refl, ap, sym, subst, ◌∙◌, inl, inr, arith}
 use Rattle.std.specs.Prelude.{slice_get, option_map}
 use Rattle.std.proofs.lemmas.Bool.Decides.{eqb_tells, leb_tells}
 use Rattle.std.proofs.lemmas.Option.{none-some, same_Some, slice_get_within}
@@ -7,12 +7,14 @@ use Rattle.file_devices.specs.declared.devices.Source as source
 use Rattle.file_devices.specs.declared.devices.Sink as sink
 use Rattle.cloud_points.specs.Events.{is_device}
 use Rattle.cloud_points.specs.declared.point.Point.{Point}
+use Rattle.cloud_points.specs.declared.faults.StageFault.{StageFault}
 use Rattle.cloud_points.specs.declared.faults.StageFault.TheVariants as stage
 use Rattle.cloud_points.specs.Flows.{Flow}
 use Rattle.cloud_points.specs.Marks.{flow_marks}
 use Rattle.network_theory.specs.Forest.{IsForest}
 use Rattle.network_core.specs.declared.node.Node.{Node}
 use Rattle.network_core.proofs.Opened.{some_at}
+use Rattle.network_solo.specs.Stopping.{SomeFault}
 use Rattle.view_works.specs.Collecting.{Held, held}
 use Rattle.stage_kinds.specs.declared.making.Making.{Making}
 use Rattle.stage_kinds.specs.declared.file_form.StageForm.TheVariants.{Gathers}
@@ -27,12 +29,13 @@ use Rattle.stage_options.specs.Roles.{is_gathering}
 use Rattle.stage_options.specs.declared.stage.StageSpec.{StageSpec}
 use Rattle.stage_parts.specs.Parts.{AreHomes, gathers_at, home_at, is_of, part_ins}
 use Rattle.stage_parts.proofs.Tops.{homes-above}
-use Rattle.answer_model.specs.Values.{Opened, IsDown, options_at, role_at, setting_at, stage_value, stage_input}
+use Rattle.answer_model.specs.Values.{Opened, IsDown, options_at, role_at, setting_at, stage_value, stage_input, stage_fault}
 use Rattle.stage_forms.specs.Starts.{form_for, kept_for}
-use Rattle.stage_runs.specs.Works.{ins_of, AreNewStages, ReadersTell}
+use Rattle.stage_runs.specs.Works.{as_works, ins_of, AreNewStages, ReadersTell}
 use Rattle.stage_runs.specs.Ran.{EndsAsStage}
-use Rattle.stage_runs.specs.Parts.{gathers_of, IsNewLeaf, GivesAsStage, IsPartRun, IsGatheredAt, is_past, NoneFailedBefore, AreRunBefore, Besides}
-use Rattle.stage_runs.proofs.Part.{IsRoot, gathers-are, same-number, other-number, home-ends, root-holds, root-ends}
+use Rattle.stage_runs.specs.Parts.{gathers_of, IsNewLeaf, GivesAsStage, IsPart, IsPartRun, IsPartStopped, IsGatheredAt, is_past, NoneFailedBefore, AreRunBefore, Besides}
+use Rattle.stage_runs.proofs.Later.{AreTurnedNodes, ran-turned, stopped-turned}
+use Rattle.stage_runs.proofs.Part.{IsRoot, gathers-are, same-number, other-number, home-ends, root-holds, root-ends, home-fault, root-fault, stranger-sound}
 use Rattle.stage_runs.proofs.Ran.{gathers-value, gathers-fault}
 
 -- ---- numbers
@@ -82,6 +85,12 @@ module _ {S K : Type 0} (s : source.Ghosts S) (k : sink.Ghosts K) (stages : List
   abbrev Part : ℕ → ℕ → List (Node (StageWork S K)) → List (Node (StageWork S K)) → Type 0
   Part home root now after = IsPartRun s k besides (part_ins (gathers_of stages) (ins_of stages) homes home root) homes home root now after
 
+  abbrev PartBy : (List (Node (StageWork S K)) → List (Node (StageWork S K)) → Type 0) → ℕ → ℕ → List (Node (StageWork S K)) → List (Node (StageWork S K)) → Type 0
+  PartBy became home root now after = IsPart s k became (part_ins (gathers_of stages) (ins_of stages) homes home root) homes home root now after
+
+  abbrev PartStopped : ℕ → ℕ → List (Node (StageWork S K)) → List (Node (StageWork S K)) → Type 0
+  PartStopped home root now after = IsPartStopped s k (part_ins (gathers_of stages) (ins_of stages) homes home root) homes home root now after
+
   abbrev Sound : ℕ → List (Node (StageWork S K)) → Type 0
   Sound done now = NoneFailedBefore s k stages homes old done now
 
@@ -103,7 +112,7 @@ module _ {S K : Type 0} (s : source.Ghosts S) (k : sink.Ghosts K) (stages : List
       let h = homes-above (gathers_of stages) (ins_of stages) homes forest are i (omega (arith, l, size)) in
       sym (gathers-are stages w) ∙ ap (gathers_at (gathers_of stages)) (sym e) ∙ h.gathering (omega (arith, e, m, size))
 
-  above : (i : ℕ) → i < length stages → i < home_at homes i
+  pub above : (i : ℕ) → i < length stages → i < home_at homes i
   above i l = (homes-above (gathers_of stages) (ins_of stages) homes forest are i (omega (arith, l, size))).above
 
   -- a stage that doesn't gather has no part of its own
@@ -170,9 +179,9 @@ module _ {S K : Type 0} (s : source.Ghosts S) (k : sink.Ghosts K) (stages : List
     here : root < length now
     here = omega (arith, inside, count)
 
-    module _ (after : List (Node (StageWork S K))) (part : Part home root now after) where
+    module _ {became : List (Node (StageWork S K)) → List (Node (StageWork S K)) → Type 0} (after : List (Node (StageWork S K))) (part : PartBy became home root now after) where
       -- a node of this home but the root
-      own-below : (i : ℕ) → i < root → is_of homes home i ≡ true → slice_get after i ≡ slice_get part.ended i
+      pub own-below : (i : ℕ) → i < root → is_of homes home i ≡ true → slice_get after i ≡ slice_get part.ended i
       own-below i l h = part.back i (omega (arith, l)) (ap (λ b. b || is_of homes home i) (other-number i root (λ e. omega (arith, e, l))) ∙ h)
 
       pub at-root : slice_get after root ≡ slice_get part.ended root
@@ -185,30 +194,70 @@ module _ {S K : Type 0} (s : source.Ghosts S) (k : sink.Ghosts K) (stages : List
         | inr p ↦ part.beyond i p.1
       ]
 
-      module _ (opened : Opened) (tell : ReadersTell s old opened) (sound : Sound home now)
-          (quiet : (i : ℕ) (m : Node (StageWork S K)) → i ≤ root → is_of homes home i ≡ true → slice_get after i ≡ Some m → is_device m.fault ≡ false) where
-        gives : (i : ℕ) (n : Node (StageWork S K)) → i < root → is_of homes home i ≡ true → is_gathering (role_at stages i) ≡ true → slice_get now i ≡ Some n → GivesAsStage s k stages opened i n
-        gives i n l h g e = done.gives opened sound tell i n e (not-past i (of-home i h)) (below i l) g
+      pub quiet-ended : ((i : ℕ) (m : Node (StageWork S K)) → i ≤ root → is_of homes home i ≡ true → slice_get after i ≡ Some m → is_device m.fault ≡ false)
+          → (i : ℕ) (m : Node (StageWork S K)) → i ≤ root → is_of homes home i ≡ true → slice_get part.ended i ≡ Some m → is_device m.fault ≡ false
+      quiet-ended quiet i m l h e = quiet i m l h (part.back i l (own-or (i == root) (is_of homes home i) h) ∙ e)
+        where
+          own-or : (a b : Bool) → b ≡ true → a || b ≡ true
+          own-or true b f = refl
+          own-or false b f = f
 
-        quiet-ended : (i : ℕ) (m : Node (StageWork S K)) → i ≤ root → is_of homes home i ≡ true → slice_get part.ended i ≡ Some m → is_device m.fault ≡ false
-        quiet-ended i m l h e = quiet i m l h (part.back i l (own-or (i == root) (is_of homes home i) h) ∙ e)
-          where
-            own-or : (a b : Bool) → b ≡ true → a || b ≡ true
-            own-or true b f = refl
-            own-or false b f = f
+    module _ (after : List (Node (StageWork S K))) (opened : Opened) (tell : ReadersTell s old opened) (sound : Sound home now)
+        (quiet : (i : ℕ) (m : Node (StageWork S K)) → i ≤ root → is_of homes home i ≡ true → slice_get after i ≡ Some m → is_device m.fault ≡ false) where
+      gives : (i : ℕ) (n : Node (StageWork S K)) → i < root → is_of homes home i ≡ true → is_gathering (role_at stages i) ≡ true → slice_get now i ≡ Some n → GivesAsStage s k stages opened i n
+      gives i n l h g e = done.gives opened sound tell i n e (not-past i (of-home i h)) (below i l) g
+
+      -- where all were done
+      module _ (part : Part home root now after) where
+        turned : AreTurnedNodes s k part.net part.ended
+        turned = ran-turned s k (part_ins (gathers_of stages) (ins_of stages) homes home root) part.net part.ended part.turned.0
 
         pub home-end : (i : ℕ) (m : Node (StageWork S K)) → i < root → is_of homes home i ≡ true → slice_get after i ≡ Some m → EndsAsStage s k stages opened i m
         home-end i m l h e = home-ends s k stages old new down homes are home root is_root now part.net part.is_net waits root-waits held-here here old-size
-            opened tell gives part.ended part.ran part.enough quiet-ended i m l h (sym (own-below i l h) ∙ e)
+            opened tell gives part.ended turned part.enough (quiet-ended after part quiet) part.turned.0 i m l h (sym (own-below after part i l h) ∙ e)
 
         pub root-end : (m : Node (StageWork S K)) → slice_get after root ≡ Some m → is_gathering (role_at stages root) ≡ false → EndsAsStage s k stages opened root m
         root-end m e g = root-ends s k stages old new down homes are home root is_root now part.net part.is_net waits root-waits held-here here old-size
-            opened tell gives part.ended part.ran part.enough quiet-ended m (sym at-root ∙ e) g
+            opened tell gives part.ended turned part.enough (quiet-ended after part quiet) part.turned.0 m (sym (at-root after part) ∙ e) g
 
         pub root-hold : (m : Node (StageWork S K)) → slice_get after root ≡ Some m → is_gathering (role_at stages root) ≡ true
             → (g : Making) × (state_of m.work ≡ Collecting g (Some (stage_input stages opened root))) × (form_for (options_at stages root) (setting_at stages opened root) ≡ Gathers g)
         root-hold m e g = root-holds s k stages old new down homes are home root is_root now part.net part.is_net waits root-waits held-here here old-size
-            opened tell gives part.ended part.ran part.enough quiet-ended m (sym at-root ∙ e) g
+            opened tell gives part.ended turned part.enough (quiet-ended after part quiet) part.turned.0 m (sym (at-root after part) ∙ e) g
+
+      -- where turns ended at a fault
+      module _ (part : PartStopped home root now after) where
+        stopped-turned-nodes : AreTurnedNodes s k part.net part.ended
+        stopped-turned-nodes = stopped-turned s k (part_ins (gathers_of stages) (ins_of stages) homes home root) part.net part.ended part.turned.0
+
+        pub home-faulty : (i : ℕ) (m : Node (StageWork S K)) (f : StageFault) → i < root → is_of homes home i ≡ true → slice_get after i ≡ Some m → m.fault ≡ Some f → option_map stage.Point (stage_fault stages opened i) ≡ Some f
+        home-faulty i m f l h e has = home-fault s k stages old new down homes are home root is_root now part.net part.is_net waits root-waits held-here here old-size
+            opened tell gives part.ended stopped-turned-nodes part.enough (quiet-ended after part quiet) part.turned.0 i m f l h (sym (own-below after part i l h) ∙ e) has
+
+        pub root-faulty : (m : Node (StageWork S K)) (f : StageFault) → slice_get after root ≡ Some m → m.fault ≡ Some f → option_map stage.Point (stage_fault stages opened root) ≡ Some f
+        root-faulty m f e has = root-fault s k stages old new down homes are home root is_root now part.net part.is_net waits root-waits held-here here old-size
+            opened tell gives part.ended stopped-turned-nodes part.enough (quiet-ended after part quiet) part.turned.0 m f (sym (at-root after part) ∙ e) has
+
+        -- no stranger has a fault, so one of the part has
+        pub some-faulty : SomeFault (as_works s k) after
+        some-faulty = by_place part.turned.1
+          where
+            by_home : (i : ℕ) (m : Node (StageWork S K)) (f : StageFault) → i < root → slice_get part.ended i ≡ Some m → m.fault ≡ Some f → (b : Bool) → is_of homes home i ≡ b → SomeFault (as_works s k) after
+            by_home i m f l e has true h = (i, m, own-below after part i l h ∙ e, ap (λ (o : Option StageFault). is_some o) has)
+            by_home i m f l e has false h = absurd (stranger-sound s k stages old new down homes are home root is_root now part.net part.is_net waits root-waits held-here here old-size
+                opened tell gives part.ended stopped-turned-nodes part.enough (quiet-ended after part quiet) part.turned.0 i m f l h e has)
+
+            by_fault : (i : ℕ) (m : Node (StageWork S K)) → i < root → slice_get part.ended i ≡ Some m → (o : Option StageFault) → m.fault ≡ o → is_some o ≡ true → SomeFault (as_works s k) after
+            by_fault i m l e None q some = absurd (true≢false (sym some))
+            by_fault i m l e (Some f) q some = by_home i m f l e q (is_of homes home i) refl
+
+            by_place : SomeFault (as_works s k) part.ended → SomeFault (as_works s k) after
+            by_place (i, m, e, some) = elim (eqb_tells i root) [
+              | inl q ↦ (root, m, at-root after part ∙ ap (slice_get part.ended) (sym q.1) ∙ e, some)
+              | inr q ↦ (
+                  let n = q.1 in let a = slice_get_within part.ended i m e in let b = stopped-turned-nodes.count in let c = part.is_net.count in
+                  by_fault i m (omega (arith, n, a, b, c)) e m.fault refl some)
+            ]
 
   -- ---- the part of a stage that gathers
 
@@ -235,9 +284,6 @@ module _ {S K : Type 0} (s : source.Ghosts S) (k : sink.Ghosts K) (stages : List
 
     kept-later : (i : ℕ) → i ≢ w → past (w + 1) i ≡ false → slice_get last i ≡ slice_get now i
     kept-later i n p = let h = false-le (home_at homes i) (w + 1) p in kept i n (λ e. omega (arith, h, e))
-
-    w-later : past (w + 1) w ≡ false
-    w-later = lt-false (home_at homes w) (w + 1) (let a = above w inside in omega (arith, a))
 
     sound-before : Sound (w + 1) last → Sound w now
     sound-before sound i m e p =
@@ -266,7 +312,7 @@ module _ {S K : Type 0} (s : source.Ghosts S) (k : sink.Ghosts K) (stages : List
               let same : home_at homes i ≡ w = omega (arith, x, y) in
               let a = above i (within i m e) in
               let less : i < w = omega (arith, a, same) in
-              home-end w w at-w now count inside (λ j l. l) done after part opened tell (sound-before sound) (quiet sound) i m less
+              home-end w w at-w now count inside (λ j l. l) done after opened tell (sound-before sound) (quiet sound) part i m less
               (ap (λ h. h == w) same ∙ same-number w) (sym (made.other i (λ r. omega (arith, less, r))) ∙ e))
         ]
 
@@ -282,7 +328,7 @@ module _ {S K : Type 0} (s : source.Ghosts S) (k : sink.Ghosts K) (stages : List
         gives-w : (opened : Opened) → Sound (w + 1) last → ReadersTell s old opened → (m : Node (StageWork S K)) → slice_get last w ≡ Some m → GivesAsStage s k stages opened w m
         gives-w opened sound tell m e =
             let v = some_at after w (let b = part.count in omega (arith, b, count, inside)) in
-            let holds = root-hold w w at-w now count inside (λ j l. l) done after part opened tell (sound-before sound) (quiet sound) v.0 v.1 gathers in
+            let holds = root-hold w w at-w now count inside (λ j l. l) done after opened tell (sound-before sound) (quiet sound) part v.0 v.1 gathers in
             let made = gives-gathered holds.0 (stage_input stages opened w) v.0.work m.work holds.1 (made.here v.0 m v.1 e) in
             let value = sym (gathers-value s k stages old new down opened tell w holds.0 holds.2) in
             record {

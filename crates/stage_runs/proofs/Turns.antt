@@ -1,5 +1,5 @@
 -- What each turn of the parts of a tree of stages asks for and gives.
-use Rattle.std.proofs.Common.{◌≡◌, ℕ, zero, suc, ◌∷◌, ◌+◌, ◌-◌, ◌<◌, ◌≤◌, ◌↔◌, Bool, true, false, true≢false, List, [], length, refl, ap, sym, subst, ◌∙◌, inl, inr, arith}
+use Rattle.std.proofs.Common.{◌≡◌, ◌≢◌, ℕ, zero, suc, ◌∷◌, ◌+◌, ◌-◌, ◌<◌, ◌≤◌, ◌↔◌, Bool, true, false, true≢false, List, [], length, refl, ap, sym, subst, ◌∙◌, inl, inr, arith}
 use Rattle.std.specs.Prelude.{slice_get, slice_index_or, Some}
 use Rattle.file_devices.specs.declared.devices.Source as source
 use Rattle.file_devices.specs.declared.devices.Sink as sink
@@ -13,19 +13,21 @@ use Rattle.pipeline_json.specs.Trees.{IsTree}
 use Rattle.stage_options.specs.Roles.{is_gathering}
 use Rattle.stage_options.specs.Shapes.{shape, shapes}
 use Rattle.stage_options.specs.declared.stage.StageSpec.{StageSpec}
-use Rattle.stage_parts.specs.Parts.{AreHomes, gathers_at, is_of, part_ins}
+use Rattle.stage_parts.specs.Parts.{AreHomes, gathers_at, home_at, is_of, part_ins}
 use Rattle.stage_parts.proofs.Trees.{gathered-forest}
 use Rattle.answer_model.specs.Values.{IsDown, role_at}
 use Rattle.answer_model.proofs.Values.{tree-down}
 use Rattle.stage_runs.specs.Works.{as_works, ins_of, AreNewStages}
 use Rattle.stage_runs.specs.declared.plan.Plan.{Plan}
-use Rattle.stage_runs.specs.Parts.{gathers_of, AreLaterNodes, IsPartRun, IsGatheredAt, AreRunBefore, AreTurned, Besides}
+use Rattle.stage_runs.specs.Ran.{AreStoppedStages}
+use Rattle.stage_runs.specs.Parts.{gathers_of, AreLaterNodes, IsPartRun, IsPartStopped, IsGatheredAt, AreRunBefore, AreTurned, Besides}
 use Rattle.stage_forms.specs.Starts.{IsCollecting}
 use Rattle.stage_runs.specs.Short.{SomeGathers}
 use Rattle.stage_runs.proofs.Asked.{fresh-before, root-inputs, root-collects}
 use Rattle.stage_runs.proofs.Forests.{mapped, stages-forest}
 use Rattle.stage_runs.proofs.Part.{IsRoot, gathers-are}
-use Rattle.stage_runs.proofs.Steps.{none-run, none-here, gathered-here}
+use Rattle.stage_runs.proofs.Halted.{part-stopped}
+use Rattle.stage_runs.proofs.Steps.{above, none-run, none-here, gathered-here}
 
 -- a tree has at least one stage, and at most 64
 pub some-stages : (stages : List StageSpec) → IsTree (shapes stages) → 0 < length stages
@@ -140,6 +142,14 @@ module _ {S K : Type 0} (s : source.Ghosts S) (k : sink.Ghosts K) (stages : List
       part-inputs n e = subst (λ xss. (is_leaf n.work ≡ true) ↔ (length (children xss w) ≡ 0)) (sym (same-part w w))
           (root-inputs s k stages old new down forest (ins-size stages) homes are besides w w at-w now count inside (λ j m. m) done
           (λ streams. absurd (true≢false (sym gathers_w ∙ streams))) n e)
+
+      under : (i : ℕ) → i < length stages → home_at homes i ≡ w → i ≢ w → i < w
+      under i l h n = let a = above s k stages old new down forest (ins-size stages) homes are besides i l in omega (arith, a, h)
+
+      -- its part ended at a fault
+      pub turn-stopped : {after : List (Node (StageWork S K))} → IsPartStopped s k (part w w) homes w w now after → AreStoppedStages s k stages old after
+      turn-stopped {after} stopped = part-stopped s k stages old new down forest (ins-size stages) homes are besides w w at-w now count inside (λ j m. m) under done after
+          (subst (λ xss. IsPartStopped s k xss homes w w now after) (same-part w w) stopped)
 
       module _ {after : List (Node (StageWork S K))} (run : IsPartRun s k besides (part w w) homes w w now after) where
         ran : IsPartRun s k besides (part_ins (gathers_of stages) (ins_of stages) homes w w) homes w w now after

@@ -14,6 +14,7 @@ use Rattle.network_theory.specs.Forest.{children}
 use Rattle.network_theory.specs.Opening.{IsFresh}
 use Rattle.network_core.specs.declared.node.Node.{Node}
 use Rattle.network_core.specs.Shown.{shown}
+use Rattle.network_solo.specs.Stopping.{IsStoppedTree, SomeFault}
 use Rattle.network_solo.specs.Trees.{IsRanTree}
 use Rattle.stage_kinds.specs.declared.stage_work.StageWork.{StageWork}
 use Rattle.stage_kinds.specs.Gathers.{IsGathered}
@@ -129,30 +130,50 @@ module _ {S K : Type 0} (s : source.Ghosts S) (k : sink.Ghosts K) where
     pub own : (i : ℕ) (n : Node (StageWork S K)) → i < root → is_of homes home i ≡ true → slice_get net i ≡ Some n → slice_get nodes i ≡ Some n
     pub strange : (i : ℕ) (n : Node (StageWork S K)) → i < root → is_of homes home i ≡ false → slice_get net i ≡ Some n → IsNewLeaf n × Gives empty_flow None n
 
-  -- the nodes of a part took turns until all were done, and memory was wanting at none; each is back at its place
-  pub record IsPartRun (besides : Besides S K) (part : List (List ℕ)) (homes : List ℕ) (home root : ℕ) (nodes after : List (Node (StageWork S K))) : Type 0 where
+  -- what became of the nodes of a net: they took turns until all were done
+  abbrev pub Ran : Besides S K → List (List ℕ) → List (Node (StageWork S K)) → List (Node (StageWork S K)) → Type 0
+  Ran besides part net ended = IsRanTree (as_works s k) part net ended × besides part net ended
+
+  -- or until one had a fault
+  abbrev pub Stopped : List (List ℕ) → List (Node (StageWork S K)) → List (Node (StageWork S K)) → Type 0
+  Stopped part net ended = IsStoppedTree (as_works s k) part net ended × SomeFault (as_works s k) ended
+
+  -- this became of the nodes of a part, and memory was wanting at none; each is back at its place
+  pub record IsPart (became : List (Node (StageWork S K)) → List (Node (StageWork S K)) → Type 0) (part : List (List ℕ)) (homes : List ℕ) (home root : ℕ) (nodes after : List (Node (StageWork S K))) : Type 0 where
     pub net : List (Node (StageWork S K))
     pub ended : List (Node (StageWork S K))
     pub is_net : IsNet part homes home root nodes net
-    pub ran : IsRanTree (as_works s k) part net ended
-    pub over : besides part net ended
+    pub turned : became net ended
     pub enough : NoneShort ended
     pub count : length after ≡ length nodes
     pub back : (i : ℕ) → i ≤ root → is_own homes home root i ≡ true → slice_get after i ≡ slice_get ended i
     pub other : (i : ℕ) → i ≤ root → is_own homes home root i ≡ false → slice_get after i ≡ slice_get nodes i
     pub beyond : (i : ℕ) → root < i → slice_get after i ≡ slice_get nodes i
 
-  -- the node at a place, a leaf, gave all it had, alone
-  pub record IsLeafRun (besides : Besides S K) (at : ℕ) (nodes after : List (Node (StageWork S K))) : Type 0 where
+  -- the nodes of a part took turns until all were done, or until one had a fault
+  abbrev pub IsPartRun : Besides S K → List (List ℕ) → List ℕ → ℕ → ℕ → List (Node (StageWork S K)) → List (Node (StageWork S K)) → Type 0
+  IsPartRun besides part = IsPart (Ran besides part) part
+
+  abbrev pub IsPartStopped : List (List ℕ) → List ℕ → ℕ → ℕ → List (Node (StageWork S K)) → List (Node (StageWork S K)) → Type 0
+  IsPartStopped part = IsPart (Stopped part) part
+
+  -- this became of the node at a place, a leaf, alone
+  pub record IsLeaf (became : List (Node (StageWork S K)) → List (Node (StageWork S K)) → Type 0) (at : ℕ) (nodes after : List (Node (StageWork S K))) : Type 0 where
     pub was : Node (StageWork S K)
     pub is : Node (StageWork S K)
     pub before : slice_get nodes at ≡ Some was
-    pub ran : IsRanTree (as_works s k) ([] ∷ []) (was ∷ []) (is ∷ [])
-    pub over : besides ([] ∷ []) (was ∷ []) (is ∷ [])
+    pub turned : became (was ∷ []) (is ∷ [])
     pub enough : is_short is.work ≡ false
     pub count : length after ≡ length nodes
     pub back : slice_get after at ≡ Some is
     pub other : (i : ℕ) → i ≢ at → slice_get after i ≡ slice_get nodes i
+
+  -- it gave all it had, or up to its fault
+  abbrev pub IsLeafRun : Besides S K → ℕ → List (Node (StageWork S K)) → List (Node (StageWork S K)) → Type 0
+  IsLeafRun besides = IsLeaf (Ran besides ([] ∷ []))
+
+  abbrev pub IsLeafStopped : ℕ → List (Node (StageWork S K)) → List (Node (StageWork S K)) → Type 0
+  IsLeafStopped = IsLeaf (Stopped ([] ∷ []))
 
   -- the stage at a place made of the views that it took what it is to make, and gives that
   pub record IsGatheredAt (at : ℕ) (nodes after : List (Node (StageWork S K))) : Type 0 where

@@ -1,17 +1,20 @@
-//! Nets of nodes that take turns until all are done.
+//! Nets of nodes that take turns until all are done, or one has a fault.
 
-ghost use Rattle.std.specs.Prelude.{◌≡◌, [], ◌∷◌, ◌-◌, ◌<◌, ◌≤◌, ℕ, true, false, length, None, IfOk};
+ghost use Rattle.std.specs.Prelude.{◌≡◌, [], ◌∷◌, ◌-◌, ◌<◌, ◌≤◌, ℕ, true, false, length, Err, None, IfOk, OnOk};
 ghost use Rattle.cloud_points.specs.Flows.{empty_flow};
 ghost use Rattle.network_theory.specs.Forest.{IsForest};
-ghost use Rattle.network_solo.specs.Trees.{AreFresh, IsRanTree};
+ghost use Rattle.network_core.specs.declared.stop.Stop.TheVariants.{First};
+ghost use Rattle.network_solo.specs.Stopping.{CameToEnd, NoneFaulty, SomeFault};
+ghost use Rattle.network_solo.specs.Trees.{AreFresh};
 ghost use Rattle.stage_kinds.specs.Stages.{is_short};
 ghost use Rattle.stage_runs.specs.Works.{as_works};
-ghost use Rattle.stage_runs.specs.Parts.{AreLaterNodes, AreStandIns, Gives, HoldNoDevice, IsLaterNode, IsNewLeaf};
+ghost use Rattle.stage_runs.specs.Parts.{AreLaterNodes, AreStandIns, Gives, HoldNoDevice, IsLaterNode, IsNewLeaf, Ran, Stopped};
 ghost use Rattle.stage_runs.specs.Short.{NoneShort, RanShort, SomeShort};
 
+use crate::halt::Halt;
 use cloud_points::Layout;
 use file_devices::{FileSink, Source};
-use network_core::{InsList, Node, NodeList};
+use network_core::{InsList, Node, NodeList, Stop};
 use network_solo::Scheduler;
 use stage_kinds::StageWork;
 use std::alloc::{AllocError, Global};
@@ -59,10 +62,50 @@ fn any_short<S: Source, K: FileSink>(nodes: &[Node<StageWork<S, K>>]) -> bool
     false
 }
 
-/// The nodes of a net that took turns until all were done, and whether each had memory enough.
+/// Whether one of these nodes has a fault.
+pub fn any_fault<S: Source, K: FileSink>(nodes: &[Node<StageWork<S, K>>]) -> bool
+    ensures some { result ≡ true → SomeFault (as_works S.Source K.Sink) nodes.now }
+    ensures none { result ≡ false → NoneFaulty (as_works S.Source K.Sink) nodes.now }
+{
+    for i in 0..nodes.len() {
+        if nodes[i].fault().is_some() {
+            return true;
+        }
+    }
+    false
+}
+
+/// How turns of these nodes ended: want of memory goes before a fault.
+fn how_ended<S: Source, K: FileSink, T: Scheduler<StageWork<S, K>>>(
+    scheduler: &T,
+    nodes: &[Node<StageWork<S, K>>],
+) -> Result<(), Halt>
+    ensures done { OnOk result (CameToEnd (as_works S.Source K.Sink) (T.stop scheduler.now) nodes.now) }
+    ensures enough { OnOk result (NoneShort nodes.now) }
+    ensures short { result ≡ Err Halt.Memory → SomeShort nodes.now }
+    ensures stops { result ≡ Err Halt.Fault → T.stop scheduler.now ≡ First }
+    ensures fault { result ≡ Err Halt.Fault → SomeFault (as_works S.Source K.Sink) nodes.now }
+    ensures enough_then { result ≡ Err Halt.Fault → NoneShort nodes.now }
+{
+    if any_short(nodes) {
+        return Err(Halt::Memory);
+    }
+    match scheduler.stop() {
+        Stop::Last => Ok(()),
+        Stop::First => {
+            if any_fault(nodes) {
+                Err(Halt::Fault)
+            } else {
+                Ok(())
+            }
+        }
+    }
+}
+
+/// The nodes of a net that took turns, and how these ended.
 pub(crate) struct RanNet<S, K: FileSink> {
     pub(crate) nodes: Vec<Node<StageWork<S, K>>>,
-    pub(crate) enough: bool,
+    pub(crate) ended: Result<(), Halt>,
 }
 
 /// Ends nodes that hold no device.
@@ -76,7 +119,8 @@ pub(crate) fn let_go<S: Source, K: FileSink>(nodes: Vec<Node<StageWork<S, K>>>)
     nodes.destroy_empty();
 }
 
-/// Lets the new nodes of a net take turns until all are done, over these edges. The last one is the root.
+/// Lets the new nodes of a net take turns until all are done, or as the scheduler has it one has a fault, over these edges. The last one
+/// is the root.
 pub(crate) fn run_net<S: Source, K: FileSink, T: Scheduler<StageWork<S, K>>>(
     scheduler: &T,
     nodes: Vec<Node<StageWork<S, K>>>,
@@ -90,24 +134,27 @@ pub(crate) fn run_net<S: Source, K: FileSink, T: Scheduler<StageWork<S, K>>>(
     requires forest { IsForest ins (length nodes.items - 1) }
     requires edges { (queue : ℕ) × T.fits (length nodes.items) queue edges }
     ensures later { AreLaterNodes S.Source K.Sink nodes.items result.nodes.items }
-    ensures ran { IsRanTree (as_works S.Source K.Sink) ins nodes.items result.nodes.items }
-    ensures over { (queue : ℕ) → T.fits (length nodes.items) queue edges
-        → T.besides queue ins nodes.items result.nodes.items }
-    ensures enough { result.enough ≡ true → NoneShort result.nodes.items }
-    ensures short { result.enough ≡ false → RanShort nodes.items result.nodes.items }
+    ensures ran { OnOk result.ended ((queue : ℕ) → T.fits (length nodes.items) queue edges
+        → Ran S.Source K.Sink (T.besides queue) ins nodes.items result.nodes.items) }
+    ensures enough { OnOk result.ended (NoneShort result.nodes.items) }
+    ensures short { result.ended ≡ Err Halt.Memory → RanShort nodes.items result.nodes.items }
+    ensures stopped { result.ended ≡ Err Halt.Fault
+        → Stopped S.Source K.Sink ins nodes.items result.nodes.items }
+    ensures stops { result.ended ≡ Err Halt.Fault → T.stop scheduler.now ≡ First }
+    ensures enough_then { result.ended ≡ Err Halt.Fault → NoneShort result.nodes.items }
 {
     let nodes = scheduler.run(NodeList::new(nodes), ins, edges).into_vec();
-    let enough = !any_short(&nodes);
-    RanNet { nodes, enough }
+    let ended = how_ended(scheduler, &nodes);
+    RanNet { nodes, ended }
 }
 
-/// A node that took turns alone until it was done, and whether there was memory enough.
+/// A node that took turns alone, and how these ended.
 pub(crate) struct Alone<S, K: FileSink> {
     pub(crate) node: Node<StageWork<S, K>>,
-    pub(crate) enough: bool,
+    pub(crate) ended: Result<(), Halt>,
 }
 
-/// Lets a leaf give all that it has, to no one.
+/// Lets a leaf give all that it has, or as the scheduler has it up to its fault, to no one.
 pub(crate) fn run_alone<S: Source, K: FileSink, T: Scheduler<StageWork<S, K>>>(
     alloc: Global,
     scheduler: &T,
@@ -119,28 +166,31 @@ pub(crate) fn run_alone<S: Source, K: FileSink, T: Scheduler<StageWork<S, K>>>(
     requires room { 0 < queue }
     requires small { queue ≤ 64 }
     ensures later { IsLaterNode S.Source K.Sink node result.node }
-    ensures ran { result.enough ≡ true
-        → IsRanTree (as_works S.Source K.Sink) ([] ∷ []) (node ∷ []) (result.node ∷ []) }
-    ensures over { result.enough ≡ true → T.besides queue ([] ∷ []) (node ∷ []) (result.node ∷ []) }
-    ensures enough { result.enough ≡ true → is_short result.node.work ≡ false }
+    ensures ran { OnOk result.ended
+        (Ran S.Source K.Sink (T.besides queue) ([] ∷ []) (node ∷ []) (result.node ∷ [])) }
+    ensures enough { OnOk result.ended (is_short result.node.work ≡ false) }
+    ensures stopped { result.ended ≡ Err Halt.Fault
+        → Stopped S.Source K.Sink ([] ∷ []) (node ∷ []) (result.node ∷ []) }
+    ensures stops { result.ended ≡ Err Halt.Fault → T.stop scheduler.now ≡ First }
+    ensures enough_then { result.ended ≡ Err Halt.Fault → is_short result.node.work ≡ false }
 {
-    let enough = false;
+    let ended = Err(Halt::Memory);
     let Ok(mut ins) = Vec::with_capacity(alloc, 1) else {
-        return Alone { node, enough };
+        return Alone { node, ended };
     };
     ins.push_reserved(Vec::new(alloc));
     let Ok(mut nodes) = Vec::with_capacity(alloc, 1) else {
-        return Alone { node, enough };
+        return Alone { node, ended };
     };
     let Ok(edges) = scheduler.edges(alloc, 1, queue) else {
         nodes.destroy_empty();
-        return Alone { node, enough };
+        return Alone { node, ended };
     };
     nodes.push_reserved(node);
-    let RanNet { mut nodes, enough } = run_net(scheduler, nodes, InsList::new(ins), edges);
+    let RanNet { mut nodes, ended } = run_net(scheduler, nodes, InsList::new(ins), edges);
     let Some(node) = nodes.pop() else {
         unreachable!()
     };
     nodes.destroy_empty();
-    Alone { node, enough }
+    Alone { node, ended }
 }

@@ -1,13 +1,16 @@
 //! The parts of a tree of stages take turns, each as a net of its own.
 
-ghost use Rattle.std.specs.Prelude.{◌≡◌, ◌-◌, ◌<◌, ◌≤◌, ◌↔◌, true, false, length, slice_get, Some, OnErr, OnOk};
+ghost use Rattle.std.specs.Prelude.{◌≡◌, ◌-◌, ◌<◌, ◌≤◌, ◌↔◌, true, length, slice_get, Some, Err, OnOk};
 ghost use Rattle.network_core.specs.declared.node.Node as node_type;
+ghost use Rattle.network_core.specs.declared.stop.Stop.TheVariants.{First};
 ghost use Rattle.network_theory.specs.Forest.{IsForest};
 ghost use Rattle.stage_runs.specs.Parts.{AreFreshBefore, AreSameOrLater, CollectsAt, HasInputs};
-ghost use Rattle.stage_runs.specs.Parts.{is_own, IsExchanged, IsGatheredAt, IsLeafRun, IsNewLeafAt, IsPartRun, IsRenewed};
+ghost use Rattle.stage_runs.specs.Parts.{is_own, IsExchanged, IsGatheredAt, IsLeafRun, IsLeafStopped, IsNewLeafAt};
+ghost use Rattle.stage_runs.specs.Parts.{IsPartRun, IsPartStopped, IsRenewed};
 ghost use Rattle.stage_runs.specs.Rooms.{IsRoom, part_of};
 ghost use Rattle.stage_runs.specs.Short.{RanShort};
 
+use crate::halt::Halt;
 use crate::nets::{Alone, RanNet, let_go, run_alone, run_net, stand_in};
 use crate::plan::Plan;
 use crate::rooms::PartRoom;
@@ -58,16 +61,8 @@ fn renew_root<W: Work>(net: &mut Vec<Node<W>>, inputs: u32, chunk: usize)
     }
 }
 
-/// Refuses unless memory was enough.
-fn refuse_unless(enough: bool) -> Result<(), AllocError>
-    ensures enough { OnOk result (enough ≡ true) }
-    ensures short { OnErr result (enough ≡ false) }
-{
-    if enough { Ok(()) } else { Err(AllocError) }
-}
-
 /// Lets the nodes of the part of a home take turns until all are done, in its memory. Each node stays at its place. Refuses only where
-/// memory is wanting at a node that takes whole views.
+/// memory is wanting at a node that takes whole views, or as the scheduler has it one has a fault.
 pub(crate) fn run_part<S: Source, K: FileSink, T: Scheduler<StageWork<S, K>>>(
     scheduler: &T,
     nodes: &mut [Node<StageWork<S, K>>],
@@ -76,7 +71,7 @@ pub(crate) fn run_part<S: Source, K: FileSink, T: Scheduler<StageWork<S, K>>>(
     home: u32,
     root: usize,
     sizes: Sizes,
-) -> Result<(), AllocError>
+) -> Result<(), Halt>
     requires sound { T.sound scheduler.now }
     requires root { root < length nodes.old }
     requires few { length nodes.old ≤ 64 }
@@ -89,7 +84,10 @@ pub(crate) fn run_part<S: Source, K: FileSink, T: Scheduler<StageWork<S, K>>>(
     ensures later { AreSameOrLater S.Source K.Sink nodes.old nodes.new }
     ensures run { OnOk result (IsPartRun S.Source K.Sink (T.besides sizes.queue) (part_of plan.now home root)
         plan.now.homes.items home root nodes.old nodes.new) }
-    ensures short { OnErr result (RanShort nodes.old nodes.new) }
+    ensures short { result ≡ Err Halt.Memory → RanShort nodes.old nodes.new }
+    ensures stopped { result ≡ Err Halt.Fault → IsPartStopped S.Source K.Sink (part_of plan.now home root)
+        plan.now.homes.items home root nodes.old nodes.new }
+    ensures stops { result ≡ Err Halt.Fault → T.stop scheduler.now ≡ First }
 {
     let PartRoom {
         ins,
@@ -101,32 +99,34 @@ pub(crate) fn run_part<S: Source, K: FileSink, T: Scheduler<StageWork<S, K>>>(
     renew_root(&mut net, ins.children(root).len() as u32, sizes.chunk);
     let RanNet {
         nodes: mut net,
-        enough,
+        ended,
     } = run_net(scheduler, net, ins, edges);
     lend(nodes, &mut net, homes, home);
     let_go(net);
-    refuse_unless(enough)
+    ended
 }
 
-/// Lets a leaf give all that it has, to no one. Refuses only where memory is wanting.
+/// Lets a leaf give all that it has, to no one. Refuses only where memory is wanting, or as the scheduler has it the leaf has a fault.
 pub(crate) fn run_leaf<S: Source, K: FileSink, T: Scheduler<StageWork<S, K>>>(
     alloc: Global,
     scheduler: &T,
     nodes: &mut [Node<StageWork<S, K>>],
     at: usize,
     sizes: Sizes,
-) -> Result<(), AllocError>
+) -> Result<(), Halt>
     requires sound { T.sound scheduler.now }
     requires inside { at < length nodes.old }
     requires leaf { IsNewLeafAt S.Source K.Sink at nodes.old }
     ensures later { AreSameOrLater S.Source K.Sink nodes.old nodes.new }
     ensures run { OnOk result (IsLeafRun S.Source K.Sink (T.besides sizes.queue) at nodes.old nodes.new) }
+    ensures stopped { result ≡ Err Halt.Fault → IsLeafStopped S.Source K.Sink at nodes.old nodes.new }
+    ensures stops { result ≡ Err Halt.Fault → T.stop scheduler.now ≡ First }
 {
     let empty = stand_in(alloc, sizes.chunk);
     let node = mem::replace(&mut nodes[at], empty);
-    let Alone { node, enough } = run_alone(alloc, scheduler, node, sizes.queue);
+    let Alone { node, ended } = run_alone(alloc, scheduler, node, sizes.queue);
     mem::replace(&mut nodes[at], node).into_work().let_go();
-    refuse_unless(enough)
+    ended
 }
 
 /// Has the stage at a place make of the views that it took what it is to make: it is a leaf then that gives that. Refuses where memory

@@ -10,10 +10,11 @@ const USUAL: RunOptions = RunOptions {
     workers: 1,
     patience: 1_000,
     whole: false,
+    stop_first: false,
 };
 
 /// Lines of words, and the commands that they are.
-const COMMANDS: [(&str, Command<'static>); 10] = [
+const COMMANDS: [(&str, Command<'static>); 12] = [
     ("--help", Command::Help),
     ("--version", Command::Version),
     ("plan p.json", Command::Plan { file: "p.json" }),
@@ -65,6 +66,7 @@ const COMMANDS: [(&str, Command<'static>); 10] = [
                 workers: 32,
                 patience: 0,
                 whole: true,
+                stop_first: false,
             },
         },
     ),
@@ -78,10 +80,32 @@ const COMMANDS: [(&str, Command<'static>); 10] = [
             },
         },
     ),
+    (
+        "run p --workers 4 --stop first --whole",
+        Command::Run {
+            file: "p",
+            options: RunOptions {
+                workers: 4,
+                whole: true,
+                stop_first: true,
+                ..USUAL
+            },
+        },
+    ),
+    (
+        "trial 7 --stop first",
+        Command::Trial {
+            count: 7,
+            options: RunOptions {
+                stop_first: true,
+                ..USUAL
+            },
+        },
+    ),
 ];
 
 /// Lines of words, and the place of the first one that is wrong or missing.
-const BAD: [(&str, usize); 26] = [
+const BAD: [(&str, usize); 32] = [
     ("fly", 0),
     ("run", 1),
     ("run --whole", 1),
@@ -95,6 +119,12 @@ const BAD: [(&str, usize); 26] = [
     ("run p --chunk", 3),
     ("run p --whole 1", 3),
     ("run p --whole --whole", 3),
+    ("run p --stop", 3),
+    ("run p --stop last", 3),
+    ("run p --stop --whole", 3),
+    ("run p --stop first first", 4),
+    ("run p --stop first --stop first", 4),
+    ("plan p --stop first", 2),
     ("run p --workers 33", 3),
     ("run p --patience 1000001", 3),
     ("trial", 1),

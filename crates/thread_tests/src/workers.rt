@@ -4,20 +4,22 @@ ghost use Rattle.std.specs.Prelude.{◌≡◌, [], length, IfSome};
 ghost use Rattle.network_workers.specs.Seats.{DealFits};
 
 use chunk_queue::{RuledOut, RuledQueue};
-use cloud_points::{Make, Point, Spread, StageFault, Work};
+use cloud_points::{Make, Point, PointFault, Spread, StageFault, Work};
 use lasline_top::AlwaysOpen;
-use network_core::Node;
-use network_workers::{Deal, Seat, run_workers};
+use network_core::{Node, Stop};
+use network_workers::{Deal, Seat, run_workers, run_workers_first};
 use std::alloc::Global;
 use std::sync::Wait;
 use std::thread::Threads;
 
-/// A leaf gives its points one by one, the end of its view, and the end of all; any other lets all through.
+/// A leaf gives its points one by one, the end of its view, and the end of all, or a cut end where its file is
+/// cut; any other lets all through.
 #[derive(Drop)]
 struct Giver {
     leaf: bool,
     left: u64,
     viewed: bool,
+    file_cut: bool,
 }
 
 impl Work for Giver {
@@ -58,6 +60,9 @@ impl Work for Giver {
 
     fn make(&mut self, _chunk: usize, into: &mut Spread) -> Make {
         into.clear();
+        if self.file_cut {
+            return Make::End(true, Some(StageFault::Point(PointFault::Cut(0))));
+        }
         if self.left > 0 {
             self.left -= 1;
             into.push(Point::zero());
@@ -83,8 +88,8 @@ impl Work for Giver {
     }
 }
 
-/// A worker with one node, which gives three items.
-fn leaf_deal(alloc: Global, stage: u32, out: RuledOut) -> Option<Deal<Giver>>
+/// A worker with one node, which gives three items, or a cut end.
+fn leaf_deal(alloc: Global, stage: u32, out: RuledOut, file_cut: bool) -> Option<Deal<Giver>>
     requires new { out.sent ≡ [] }
     ensures few { IfSome result (λ deal. length deal.seats.items ≡ 1) }
     ensures fits { IfSome result (λ deal. DealFits ⟦<Giver as Work>⟧ deal) }
@@ -93,6 +98,7 @@ fn leaf_deal(alloc: Global, stage: u32, out: RuledOut) -> Option<Deal<Giver>>
         leaf: true,
         left: 1,
         viewed: false,
+        file_cut,
     };
     let node = Node::new(leaf, 0, 64);
     let out = Some(out);
@@ -107,21 +113,39 @@ fn came(deal: &Deal<Giver>) -> Option<(bool, u64)> {
     Some((seat.node.done(), seat.node.points()))
 }
 
-/// What two workers came to that stop at their first round without work. Their queues have room for all that
-/// they give.
-fn work_two<R: Threads + Wait + Sync>(rt: &R, alloc: Global) -> Option<[Option<(bool, u64)>; 2]> {
+/// What two workers came to that stop at their first round without work, or at a fault. Their queues have room
+/// for all that they give. The file of the first one's node is cut.
+fn work_two<R: Threads + Wait + Sync>(
+    rt: &R,
+    alloc: Global,
+    stop: Stop,
+) -> Option<[Option<(bool, u64)>; 2]> {
     let mut one = RuledQueue::new(alloc, 8).ok()?;
     let mut other = RuledQueue::new(alloc, 8).ok()?;
     let (first, _first_in) = one.split();
     let (second, _second_in) = other.split();
-    let mut deals = [leaf_deal(alloc, 0, first)?, leaf_deal(alloc, 1, second)?];
-    run_workers(rt, &mut deals, 1, &AlwaysOpen);
+    let mut deals = [
+        leaf_deal(alloc, 0, first, true)?,
+        leaf_deal(alloc, 1, second, false)?,
+    ];
+    match stop {
+        Stop::Last => run_workers(rt, &mut deals, 1, &AlwaysOpen),
+        Stop::First => run_workers_first(rt, &mut deals, 1, &AlwaysOpen),
+    }
     Some([came(&deals[0]), came(&deals[1])])
 }
 
-/// A worker has its nodes done where nothing is in their way: no clause says that a worker takes a turn.
+/// A worker has its nodes done where nothing is in their way, also where one has a fault: no clause says that a
+/// worker takes a turn.
 #[test]
 fn a_worker_has_its_node_done(rt: HostRuntime) {
-    let done = Some((true, 1));
-    assert!(rt; work_two(&rt, rt.alloc()) == Some([done, done]));
+    let came = work_two(&rt, rt.alloc(), Stop::Last);
+    assert!(rt; came == Some([Some((true, 0)), Some((true, 1))]));
+}
+
+/// A worker that is to stop at a fault leaves the node that has it, and another one goes on.
+#[test]
+fn a_worker_stops_at_a_fault(rt: HostRuntime) {
+    let came = work_two(&rt, rt.alloc(), Stop::First);
+    assert!(rt; came == Some([Some((false, 0)), Some((true, 1))]));
 }

@@ -41,10 +41,11 @@ use Rattle.answer_model.specs.Examples.{read, head, write}
 use Rattle.answer_model.specs.Runs as runs
 use Rattle.answer_model.specs.Runs.{Run, las_file_of, las_read, file_or, no_file, unless_unread, run_of, opened_in}
 use Rattle.command_words.specs.Machine.{command_of}
+use Rattle.command_words.specs.Options.{usual}
 use Rattle.stage_planner.specs.Plans.{end_of, plan_of}
 use Rattle.lasline_top.specs.Texts.{plan_text}
-use Rattle.lasline_top.specs.Words.{Queues, Run_file, Plan_file, Make_file, task_of}
-use Rattle.lasline_top.specs.Answer.{stages_in, ran, planned, printed, made, trial_text, done, answer}
+use Rattle.lasline_top.specs.Words.{Run_file, Plan_file, Make_file, engine_of, task_of}
+use Rattle.lasline_top.specs.Answer.{stages_in, ran, printed, made, trial_text, done, answer}
 use Rattle.worked_examples.specs.Rows.{run_p, files, files_with, pipeline_alone, pipeline_text, head_of_1, head_of_0, tagged_head, reader_alone, writer_between, file_a, file_of_1_1, file_of_1_2, file_of_1_2_in_format_6, file_of_format_6, file_of_a_vlr, file_of_many_vlrs, file_of_a_far_evlr, file_compressed, file_of_neighbour, file_far, file_with_x, file_without_points, first_point, none_pass, only_read, all_and_first, twice, second_absent, two_points_twice}
 
 -- a reader, and stages behind the reader of the LAS file
@@ -243,8 +244,8 @@ pub no_bytes : las_file_of [] ≡ Err (In_header NotLas)
 unfolding block_of header_in
 no_bytes = refl
 
--- the words of the example ask for the run of its pipeline's file
-asked : task_of run_p ≡ Ok (Run_file (codes "p.json") (Queues 64 8))
+-- the words of the example ask for the run of its pipeline's file with the usual options
+asked : task_of run_p ≡ Ok (Run_file (codes "p.json") (engine_of usual))
 unfolding command_of
 asked = refl
 

@@ -1,6 +1,18 @@
-use Rattle.std.proofs.Common.{Ok, ap, sym, ◌∙◌}
-use Rattle.lasline_top.proofs.Ran.{if-stopped}
+use Rattle.std.proofs.Common.{Ok, IfErr, ap, subst, sym, ◌∙◌}
+use Rattle.file_devices.specs.Counts.{Rose}
+use Rattle.run_engine.specs.Stopping.{IsCauseBy}
+use Rattle.lasline_top.specs.Tasks.{engine_view}
+use Rattle.lasline_top.specs.Words.{stop_in}
+use Rattle.lasline_top.proofs.Ran.{if-stopped, ends-so}
 use Rattle.lasline_top.proofs.running.run_text.Goals as goal
 
 pub returns-clause-err : goal.returns-clause-err
-returns-clause-err g c = if-stopped _ _ _ c.args.text.now c.as_slice.result.now (c.in_ok-tree.ensures.ok ∙ ap (λ stages. Ok stages) (sym c.as_slice.ensures.stages)) c.run_pipeline.result c.run_pipeline.ensures.err c.run_pipeline.ensures.left
+returns-clause-err g c =
+    let files = g.F.Files in
+    let stop = g.T.Scheduler.stop c.args.scheduler.now in
+    let rose = Rose (files.faults c.args.files.now) (files.faults c.run_pipeline.new.files) in
+    let stages = c.as_slice.result.now in
+    if-stopped (stop_in (engine_view stop c.args.engine)) rose (files.map c.args.files.now) (files.map c.run_pipeline.new.files) c.args.text.now stages
+    (c.in_ok-tree.ensures.ok ∙ ap (λ tree. Ok tree) (sym c.as_slice.ensures.stages)) c.run_pipeline.result
+    (subst (λ ends. IfErr c.run_pipeline.result (IsCauseBy ends rose (files.map c.args.files.now) stages)) (ends-so c.args.engine stop) c.run_pipeline.ensures.err)
+    c.run_pipeline.ensures.left

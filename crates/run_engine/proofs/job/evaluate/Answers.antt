@@ -1,6 +1,9 @@
-use Rattle.std.proofs.Common.{subst}
-use Rattle.run_outcome.proofs.Results.{if-on-err}
+use Rattle.std.proofs.Common.{IfOk, subst}
+use Rattle.network_core.specs.declared.stop.Stop.TheVariants.{Last}
+use Rattle.run_outcome.proofs.Results.{if-ok, if-on-err}
 use Rattle.run_engine.specs.Jobs.{IsWaiting, TakesTurns}
+use Rattle.run_engine.specs.Stopping.{HaveEndedBy}
+use Rattle.run_engine.proofs.Stopping.{ended-by, turns-stop, whole-stop}
 use Rattle.run_engine.proofs.Waiting.{not-done, not-short, on-any-err, turns-room}
 use Rattle.run_engine.proofs.job.evaluate.Goals as goal
 
@@ -24,3 +27,19 @@ returns-in-Turns-clause-gathers g c = if-on-err c.turn_works.result.outcome c.tu
 
 pub returns-in-Whole-clause-gathers : goal.returns-in-Whole-clause-gathers
 returns-in-Whole-clause-gathers g c = on-any-err c.whole_works.result.outcome (λ turns. absurd (subst (TakesTurns {S = g.row.S.Denot} {K = g.row.K.Denot}) c.in-Whole.is turns))
+
+pub returns-in-Turns-clause-ended : goal.returns-in-Turns-clause-ended
+returns-in-Turns-clause-ended g c = λ chosen waits.
+    let stop = g.T.Scheduler.stop c.args.scheduler.now in
+    let waits-so = subst (IsWaiting g.S.Source g.K.Sink g.T.Scheduler.fits chosen c.args.stages.now) c.in-Turns.is waits in
+    subst (λ end. IfOk c.turn_works.result.outcome (λ ended. HaveEndedBy g.S.Source g.K.Sink end c.args.stages.now c.args.works.items c.turn_works.result.works.items ended.faults.items ended.report.items))
+    (turns-stop g.S.Source g.K.Sink g.T.Scheduler.fits c.args.stages.now stop chosen c.in-Turns.room waits-so) c.turn_works.ensures.ended
+
+pub returns-in-Whole-clause-ended : goal.returns-in-Whole-clause-ended
+returns-in-Whole-clause-ended g c = λ chosen waits.
+    let stop = g.T.Scheduler.stop c.args.scheduler.now in
+    let waits-so = subst (IsWaiting g.S.Source g.K.Sink g.T.Scheduler.fits chosen c.args.stages.now) c.in-Whole.is waits in
+    let works = c.whole_works.result.works.items in
+    subst (λ end. IfOk c.whole_works.result.outcome (λ ended. HaveEndedBy g.S.Source g.K.Sink end c.args.stages.now c.args.works.items works ended.faults.items ended.report.items))
+    (whole-stop g.S.Source g.K.Sink g.T.Scheduler.fits c.args.stages.now stop chosen waits-so)
+    (if-ok c.whole_works.result.outcome c.whole_works.ensures.ended (λ ended have. ended-by g.S.Source g.K.Sink Last c.args.stages.now c.args.works.items works ended.faults.items ended.report.items have))

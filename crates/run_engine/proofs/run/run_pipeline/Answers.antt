@@ -2,44 +2,49 @@ use Rattle.std.proofs.Common.{◌+◌, IsOkAnd, ap, sym, subst, ◌∙◌, arith
 use Rattle.answer_model.specs.Runs.{run_of}
 use Rattle.run_outcome.specs.Cause.{IsLeft, IsRun}
 use Rattle.run_outcome.proofs.Results.{if-ok, if-err}
-use Rattle.run_outcome.proofs.Causes.{rose-within, cause-weaker}
+use Rattle.run_outcome.proofs.Causes.{rose-within}
+use Rattle.run_engine.specs.Stopping.{ends_at}
+use Rattle.run_engine.proofs.Stopping.{cause-by-weaker}
 use Rattle.run_engine.specs.Jobs.{HasRun}
 use Rattle.run_engine.proofs.run.run_pipeline.Goals as goal
 
 pub close-requires-clause-ran : goal.close-requires-clause-ran
 close-requires-clause-ran g c =
     let map = g.F.Files.map c.args.files.now in
-    (map, c.run-enough.ensures.ran c.args.engine map c.in_ok-job.ensures.ready)
+    (ends_at c.args.engine (g.T.Scheduler.stop c.args.scheduler.now), map, c.run-enough.ensures.ran c.args.engine map c.in_ok-job.ensures.ready)
 
 pub returns-clause-ok : goal.returns-clause-ok
 returns-clause-ok g c =
     let files = g.F.Files in
     let map = files.map c.args.files.now in
+    let stop = ends_at c.args.engine (g.T.Scheduler.stop c.args.scheduler.now) in
     let stages = c.args.stages.now in
     let ran = c.run-enough.ensures.ran c.args.engine map c.in_ok-job.ensures.ready in
     if-ok c.close.result c.close.ensures.ok (λ report run m told.
     subst (λ old. IsOkAnd (run_of m stages) (IsRun old (files.map c.close.new.files) report.items)) c.prepare.ensures.map
-    (run m (subst (λ first. HasRun g.F.In.Source g.F.Out.Sink first stages c.run-enough.new.self) told ran)))
+    (run stop m (subst (λ first. HasRun g.F.In.Source g.F.Out.Sink stop first stages c.run-enough.new.self) told ran)))
 
 pub returns-clause-err : goal.returns-clause-err
 returns-clause-err g c =
     let files = g.F.Files in
     let map = files.map c.args.files.now in
+    let stop = ends_at c.args.engine (g.T.Scheduler.stop c.args.scheduler.now) in
     let stages = c.args.stages.now in
     let ran = c.run-enough.ensures.ran c.args.engine map c.in_ok-job.ensures.ready in
-    if-err c.close.result c.close.ensures.err (λ refusal cause. cause-weaker map stages refusal
+    if-err c.close.result c.close.ensures.err (λ refusal cause. cause-by-weaker stop map stages refusal
     (rose-within (files.faults c.args.files.now) (files.faults c.prepare.new.files) (files.faults c.close.new.files) (files.faults c.close.new.files) c.prepare.ensures.later (omega arith))
-    (cause map ran))
+    (cause stop map ran))
 
 pub returns-clause-left : goal.returns-clause-left
 returns-clause-left g c =
     let files = g.F.Files in
     let map = files.map c.args.files.now in
+    let stop = ends_at c.args.engine (g.T.Scheduler.stop c.args.scheduler.now) in
     let stages = c.args.stages.now in
     let ran = c.run-enough.ensures.ran c.args.engine map c.in_ok-job.ensures.ready in
     if-err c.close.result c.close.ensures.left (λ refusal left m told.
     subst (λ old. IsLeft refusal old (files.map c.close.new.files) (run_of m stages)) c.prepare.ensures.map
-    (left m (subst (λ first. HasRun g.F.In.Source g.F.Out.Sink first stages c.run-enough.new.self) told ran)))
+    (left stop m (subst (λ first. HasRun g.F.In.Source g.F.Out.Sink stop first stages c.run-enough.new.self) told ran)))
 
 pub returns-clause-lent : goal.returns-clause-lent
 returns-clause-lent g c = c.close.ensures.lent (g.F.Files.lent c.args.files.now)

@@ -1,16 +1,19 @@
-use Rattle.std.proofs.Common.{List, map, length, Ok, Err, OnErr, ap, sym, subst, ◌∙◌, arith}
+use Rattle.std.proofs.Common.{List, map, length, Option, Ok, Err, OnErr, refl, ap, sym, subst, ◌∙◌, arith, inl, inr}
+use Rattle.cloud_points.specs.declared.faults.StageFault.{StageFault}
 use Rattle.network_core.specs.declared.node.Node.{Node}
 use Rattle.network_core.specs.Shown.{work_of}
 use Rattle.stage_kinds.specs.Held.{faults_of}
 use Rattle.stage_runs.specs.Parts.{AreLaterNodes}
-use Rattle.stage_runs.specs.Ran.{AreRanStages}
+use Rattle.stage_runs.specs.Ran.{AreRanStages, AreStoppedStages}
 use Rattle.stage_runs.specs.Short.{SomeGathers}
 use Rattle.stage_runs.proofs.Lending.{slice-back}
 use Rattle.run_engine.specs.Counted.{AreCounted, AreFaultsOf}
 use Rattle.stage_forms.specs.Later.{AreLater}
-use Rattle.set_engine.specs.Evaluated.{HaveEnded}
+use Rattle.run_outcome.specs.Faults.{AreSound}
+use Rattle.run_engine.specs.Stopping.{HaveEndedBy}
+use Rattle.run_engine.proofs.Stopping.{three-if-ok, by-halt, ended-by, on-err-so}
 use Rattle.run_outcome.proofs.Results.{ok-same}
-use Rattle.run_engine.proofs.Ran.{later, have-ended}
+use Rattle.run_engine.proofs.Ran.{later, have-ended, have-stopped, some-unsound}
 use Rattle.run_engine.proofs.turns.turn_works.Goals.{in-Ok, in-Err}
 use Rattle.run_engine.proofs.turns.turn_works.Goals as goal
 
@@ -40,6 +43,7 @@ returns-clause-ended g c =
     let lasted = subst (λ xs. AreLaterNodes s k xs new) c.as_mut_slice.ensures.value c.run_stages-ran.ensures.later in
     let back = slice-back old new c.nodes_over-nodes.result.len lasted.count c.nodes_over-nodes.result.ok.0 in
     let is-works = c.works_in-works.ensures ∙ ap (map work_of) back in
+    let stop = g.T.Scheduler.stop c.args.scheduler.now in
     elim c.match-ran.branch [
       | in-Ok w ↦ (
           let ran = subst (λ xs. AreRanStages s k stages xs new) c.as_mut_slice.ensures.value w.in-Ok.ensures.ran in
@@ -47,11 +51,22 @@ returns-clause-ended g c =
           let out = w.ended.ensures in
           let report = w.ended.result in
           ok-same _ c.match-ran.outcome (Ok report) w.outcome-is
-          (subst (λ ws. HaveEnded s k stages works ws report.faults.items report.report.items) (sym is-works)
+          (subst (λ ws. HaveEndedBy s k stop stages works ws report.faults.items report.report.items) (sym is-works)
+          (ended-by s k stop stages works (map work_of new) report.faults.items report.report.items
           (have-ended s k stages old new works made.works made.new lasted ran report.faults.items report.report.items
           (subst (λ (ns : List (Node _)). AreFaultsOf ns report.faults.items) nodes out.faults) out.count
-          (subst (λ (ns : List (Node _)). AreCounted stages ns report.report.items) nodes out.counted))))
-      | in-Err w ↦ ok-same _ c.match-ran.outcome (Err w.in-Err.error) w.outcome-is tt
+          (subst (λ (ns : List (Node _)). AreCounted stages ns report.report.items) nodes out.counted)))))
+      | in-Err w ↦ (
+          let nodes = w.deref-in-Err.ensures.value ∙ back in
+          let result = w.halted-outcome.result in
+          let ensures = w.halted-outcome.ensures in
+          ok-same _ c.match-ran.outcome result w.outcome-is
+          (three-if-ok result _ _ _ _ ensures.fault ensures.faults ensures.faulty (λ report fault faults faulty.
+          let stopped = subst (λ xs. AreStoppedStages s k stages xs new) c.as_mut_slice.ensures.value (w.in-Err.ensures.stopped (ap Err fault)) in
+          subst (λ ws. HaveEndedBy s k stop stages works ws report.faults.items report.report.items) (sym is-works)
+          (subst (λ end. HaveEndedBy s k end stages works (map work_of new) report.faults.items report.report.items) (sym (w.in-Err.ensures.stops (ap Err fault)))
+          (have-stopped s k stages old new works made.works made.new lasted stopped report.faults.items report.report.items
+          (subst (λ (ns : List (Node _)). AreFaultsOf ns report.faults.items) nodes faults) faulty)))))
     ]
 
 pub ended-requires-clause-fit : goal.ended-requires-clause-fit
@@ -82,8 +97,32 @@ works_in-works-requires-clause-room g c =
     let room = c.requires.room.works_room in
     omega (arith, left, stay, many, room)
 
+pub halted-outcome-requires-clause-fit : goal.halted-outcome-requires-clause-fit
+halted-outcome-requires-clause-fit g c =
+    let s = g.S.Source in
+    let k = g.K.Sink in
+    let made = c.nodes_over-nodes.ensures in
+    let old = c.nodes_over-nodes.result.items in
+    let new = c.run_stages-ran.new.nodes in
+    let lasted = subst (λ xs. AreLaterNodes s k xs new) c.as_mut_slice.ensures.value c.run_stages-ran.ensures.later in
+    let back = slice-back old new c.nodes_over-nodes.result.len lasted.count c.nodes_over-nodes.result.ok.0 in
+    ap (λ (ns : List (Node _)). length ns) (c.deref-in-Err.ensures.value ∙ back) ∙ lasted.count ∙ made.new.count
+
 pub returns-clause-gathers : goal.returns-clause-gathers
-returns-clause-gathers g c = elim c.match-ran.branch [
-  | in-Ok w ↦ subst (λ o. OnErr o (SomeGathers c.args.stages.now)) (sym w.outcome-is) tt
-  | in-Err w ↦ subst (λ o. OnErr o (SomeGathers c.args.stages.now)) (sym w.outcome-is) w.in-Err.ensures.gathers
-]
+returns-clause-gathers g c =
+    let s = g.S.Source in
+    let k = g.K.Sink in
+    let old = c.nodes_over-nodes.result.items in
+    let new = c.run_stages-ran.new.nodes in
+    let lasted = subst (λ xs. AreLaterNodes s k xs new) c.as_mut_slice.ensures.value c.run_stages-ran.ensures.later in
+    let back = slice-back old new c.nodes_over-nodes.result.len lasted.count c.nodes_over-nodes.result.ok.0 in
+    elim c.match-ran.branch [
+      | in-Ok w ↦ subst (λ o. OnErr o (SomeGathers c.args.stages.now)) (sym w.outcome-is) tt
+      | in-Err w ↦ subst (λ o. OnErr o (SomeGathers c.args.stages.now)) (sym w.outcome-is)
+          (on-err-so w.halted-outcome.result _ _ w.halted-outcome.ensures.none (λ none. by-halt w.in-Err.halt (λ memory. w.in-Err.ensures.gathers (ap Err memory))
+          (λ fault. elim (w.in-Err.ensures.known (ap Err fault)) [
+            | inl f ↦ absurd (some-unsound new (map (λ (n : Node _). n.fault) new) refl f.0 f.1 f.2 f.3
+                (subst (λ (ns : List (Node _)). (found : List (Option StageFault)) → AreFaultsOf ns found → AreSound found) (w.deref-in-Err.ensures.value ∙ back) (none fault) (map (λ (n : Node _). n.fault) new) refl))
+            | inr gathers ↦ gathers
+          ])))
+    ]

@@ -1,11 +1,9 @@
 use Rattle.std.proofs.Common.{[], ◌∷◌, get_or, slice_set, ap, sym, subst, ◌∙◌}
 use Rattle.network_core.specs.declared.node.Node.{Node}
-use Rattle.network_solo.specs.Trees.{IsRanTree}
 use Rattle.stage_kinds.specs.Held.{op_of}
-use Rattle.stage_runs.specs.Works.{as_works}
-use Rattle.stage_runs.specs.Parts.{IsLaterNode, IsLeafRun, IsNewLeaf, AreSameOrLater}
-use Rattle.stage_runs.proofs.Answered.{on-ok}
-use Rattle.stage_runs.proofs.Gathered.{here, stand-in-op, lent-later, lent-run}
+use Rattle.stage_runs.specs.Parts.{IsLaterNode, IsLeaf, IsNewLeaf, AreSameOrLater, Ran, Stopped}
+use Rattle.stage_runs.proofs.Answered.{both-ok, on-ok}
+use Rattle.stage_runs.proofs.Gathered.{here, stand-in-op, lent-later, lent-became}
 use Rattle.stage_runs.proofs.parts.run_leaf.Goals as goal
 
 pub run_alone-node-requires-clause-leaf : goal.run_alone-node-requires-clause-leaf
@@ -34,11 +32,22 @@ returns-clause-run g c =
     let nodes = c.args.nodes.now in
     let n = c.index-nodes-at.result in
     let now = c.run_alone-node.result.node in
-    let same = c.replace-node.ensures.value ∙ sym c.index-nodes-at.is in
-    on-ok c.refuse_unless.result _ _ (λ enough.
-    subst (λ x. IsLeafRun g.S.Source g.K.Sink (g.T.Scheduler.besides c.args.sizes.queue) c.args.at nodes (slice_set (slice_set nodes c.args.at x) c.args.at c.replace.new.dest)) (sym c.replace-node.ensures.after)
-    (subst (λ x. IsLeafRun g.S.Source g.K.Sink (g.T.Scheduler.besides c.args.sizes.queue) c.args.at nodes (slice_set (slice_set nodes c.args.at c.stand_in-empty.result) c.args.at x)) (sym c.replace.ensures.after)
-    (lent-run g.S.Source g.K.Sink nodes c.args.at c.requires.inside n c.index-nodes-at.is c.stand_in-empty.result c.stand_in-empty.ensures.leaf now (g.T.Scheduler.besides c.args.sizes.queue)
-    (subst (λ (x : Node _). IsRanTree (as_works g.S.Source g.K.Sink) ([] ∷ []) (x ∷ []) (now ∷ [])) same (c.run_alone-node.ensures.ran enough))
-    (subst (λ (x : Node _). g.T.Scheduler.besides c.args.sizes.queue ([] ∷ []) (x ∷ []) (now ∷ [])) same (c.run_alone-node.ensures.over enough))
-    (c.run_alone-node.ensures.enough enough)))) c.refuse_unless.ensures.enough
+    let besides = g.T.Scheduler.besides c.args.sizes.queue in
+    let became = Ran g.S.Source g.K.Sink besides ([] ∷ []) in
+    on-ok c.run_alone-node.result.ended _ _ (λ x.
+    subst (λ x. IsLeaf g.S.Source g.K.Sink became c.args.at nodes (slice_set (slice_set nodes c.args.at x) c.args.at c.replace.new.dest)) (sym c.replace-node.ensures.after)
+    (subst (λ x. IsLeaf g.S.Source g.K.Sink became c.args.at nodes (slice_set (slice_set nodes c.args.at c.stand_in-empty.result) c.args.at x)) (sym c.replace.ensures.after)
+    (lent-became g.S.Source g.K.Sink nodes c.args.at c.requires.inside n c.index-nodes-at.is c.stand_in-empty.result c.stand_in-empty.ensures.leaf now became
+    (subst (λ (x : Node _). became (x ∷ []) (now ∷ [])) (c.replace-node.ensures.value ∙ sym c.index-nodes-at.is) x.0) x.1)))
+    (both-ok c.run_alone-node.result.ended _ _ c.run_alone-node.ensures.ran c.run_alone-node.ensures.enough)
+
+pub returns-clause-stopped : goal.returns-clause-stopped
+returns-clause-stopped g c = λ halted.
+    let nodes = c.args.nodes.now in
+    let n = c.index-nodes-at.result in
+    let now = c.run_alone-node.result.node in
+    let became = Stopped g.S.Source g.K.Sink ([] ∷ []) in
+    subst (λ x. IsLeaf g.S.Source g.K.Sink became c.args.at nodes (slice_set (slice_set nodes c.args.at x) c.args.at c.replace.new.dest)) (sym c.replace-node.ensures.after)
+    (subst (λ x. IsLeaf g.S.Source g.K.Sink became c.args.at nodes (slice_set (slice_set nodes c.args.at c.stand_in-empty.result) c.args.at x)) (sym c.replace.ensures.after)
+    (lent-became g.S.Source g.K.Sink nodes c.args.at c.requires.inside n c.index-nodes-at.is c.stand_in-empty.result c.stand_in-empty.ensures.leaf now became
+    (subst (λ (x : Node _). became (x ∷ []) (now ∷ [])) (c.replace-node.ensures.value ∙ sym c.index-nodes-at.is) (c.run_alone-node.ensures.stopped halted)) (c.run_alone-node.ensures.enough_then halted)))

@@ -1,8 +1,9 @@
 use Rattle.std.proofs.Common.{◌≡◌, length, ap, sym, ◌∙◌, arith}
 use Rattle.network_theory.specs.Forest.{children}
 use Rattle.stage_parts.specs.Parts.{part_ins}
-use Rattle.stage_runs.proofs.Answered.{on-err, on-ok}
-use Rattle.stage_runs.proofs.Lending.{left-size, root-leaf, renewed-size, net-fresh, net-forest, part-later, part-short, rest-op, part-run, net-edges}
+use Rattle.stage_runs.specs.Parts.{Ran, Stopped}
+use Rattle.stage_runs.proofs.Answered.{both-ok, on-ok}
+use Rattle.stage_runs.proofs.Lending.{left-size, root-leaf, renewed-size, net-fresh, net-forest, part-later, part-short, rest-op, part-became, net-edges}
 use Rattle.stage_runs.proofs.Widths.{few-children}
 use Rattle.stage_runs.proofs.parts.run_part.Goals as goal
 
@@ -85,9 +86,17 @@ returns-clause-later g c =
 
 pub returns-clause-run : goal.returns-clause-run
 returns-clause-run g c =
-    on-ok c.refuse_unless.result _ _ (λ enough. part-run g.S.Source g.K.Sink g.T.Scheduler.fits c.args.plan.now c.args.room c.args.home c.args.root c.args.sizes.queue c.args.nodes.now c.requires.room c.requires.root c.requires.fresh c.as_slice-homes.ensures.value c.lend.ensures c.children.ensures c.renew_root.ensures c.run_net-net.ensures.later c.lend-2.ensures
-    (g.T.Scheduler.besides c.args.sizes.queue) c.run_net-net.ensures.ran (c.run_net-net.ensures.over c.args.sizes.queue (net-edges g.S.Source g.K.Sink g.T.Scheduler.fits c.args.plan.now c.args.room c.args.home c.args.root c.args.sizes.queue c.args.nodes.now c.requires.room c.requires.root c.requires.fresh c.as_slice-homes.ensures.value c.lend.ensures c.children.ensures c.renew_root.ensures)) (c.run_net-net.ensures.enough enough)) c.refuse_unless.ensures.enough
+    let edges = net-edges g.S.Source g.K.Sink g.T.Scheduler.fits c.args.plan.now c.args.room c.args.home c.args.root c.args.sizes.queue c.args.nodes.now c.requires.room c.requires.root c.requires.fresh c.as_slice-homes.ensures.value c.lend.ensures c.children.ensures c.renew_root.ensures in
+    on-ok c.run_net-net.result.ended _ _
+    (λ x. part-became g.S.Source g.K.Sink g.T.Scheduler.fits c.args.plan.now c.args.room c.args.home c.args.root c.args.sizes.queue c.args.nodes.now c.requires.room c.requires.root c.requires.fresh c.as_slice-homes.ensures.value c.lend.ensures c.children.ensures c.renew_root.ensures c.run_net-net.ensures.later c.lend-2.ensures
+    (λ xss. Ran g.S.Source g.K.Sink (g.T.Scheduler.besides c.args.sizes.queue) xss) (x.0 c.args.sizes.queue edges) x.1)
+    (both-ok c.run_net-net.result.ended _ _ c.run_net-net.ensures.ran c.run_net-net.ensures.enough)
 
 pub returns-clause-short : goal.returns-clause-short
-returns-clause-short g c =
-    on-err c.refuse_unless.result _ _ (λ short. part-short g.S.Source g.K.Sink g.T.Scheduler.fits c.args.plan.now c.args.room c.args.home c.args.root c.args.sizes.queue c.args.nodes.now c.requires.room c.requires.root c.requires.fresh c.as_slice-homes.ensures.value c.lend.ensures c.children.ensures c.renew_root.ensures c.run_net-net.ensures.later c.lend-2.ensures (c.run_net-net.ensures.short short)) c.refuse_unless.ensures.short
+returns-clause-short g c = λ halted.
+    part-short g.S.Source g.K.Sink g.T.Scheduler.fits c.args.plan.now c.args.room c.args.home c.args.root c.args.sizes.queue c.args.nodes.now c.requires.room c.requires.root c.requires.fresh c.as_slice-homes.ensures.value c.lend.ensures c.children.ensures c.renew_root.ensures c.run_net-net.ensures.later c.lend-2.ensures (c.run_net-net.ensures.short halted)
+
+pub returns-clause-stopped : goal.returns-clause-stopped
+returns-clause-stopped g c = λ halted.
+    part-became g.S.Source g.K.Sink g.T.Scheduler.fits c.args.plan.now c.args.room c.args.home c.args.root c.args.sizes.queue c.args.nodes.now c.requires.room c.requires.root c.requires.fresh c.as_slice-homes.ensures.value c.lend.ensures c.children.ensures c.renew_root.ensures c.run_net-net.ensures.later c.lend-2.ensures
+    (λ xss. Stopped g.S.Source g.K.Sink xss) (c.run_net-net.ensures.stopped halted) (c.run_net-net.ensures.enough_then halted)

@@ -1,12 +1,12 @@
-use Rattle.std.proofs.Common.{◌≡◌, ◌+◌, ◌<◌, length, refl, ap, sym, subst, ◌∙◌, arith}
+use Rattle.std.proofs.lemmas.Result.{err_from_is_err_and}
+use Rattle.std.proofs.Common.{Err, inr, ◌≡◌, ◌+◌, ◌<◌, length, refl, ap, sym, subst, ◌∙◌, arith}
 use Rattle.network_theory.specs.Opening.{IsFresh}
 use Rattle.network_core.specs.Shown.{shown}
 use Rattle.stage_runs.specs.Works.{as_works, ins_of}
 use Rattle.stage_runs.specs.Parts.{AreLaterNodes, AreRunBefore, AreTurned}
-use Rattle.stage_runs.proofs.Answered.{always-on-err}
 use Rattle.stage_runs.proofs.Forests.{children-are}
 use Rattle.stage_runs.proofs.Later.{same-later, step-later}
-use Rattle.stage_runs.proofs.Turns.{few-stages, ins-size, gathers-size, gathers-inside, homes-size, at-first, skipped, part-forest, part-fresh, part-inputs, gathers-one, collects, taken-turn, turned-on, turned-over}
+use Rattle.stage_runs.proofs.Turns.{few-stages, ins-size, gathers-size, gathers-inside, homes-size, at-first, skipped, part-forest, part-fresh, part-inputs, gathers-one, turn-stopped, collects, taken-turn, turned-on, turned-over}
 use Rattle.stage_runs.proofs.runs.run_gathering.Goals as goal
 use Rattle.stage_runs.proofs.runs.run_gathering.Goals.{then-index+in_ok-room+in_ok-run_part+in_ok-gather_at, else-index}
 
@@ -67,7 +67,7 @@ new-requires-clause-homes g c =
     homes-size stages plan.homes.items is.homes ∙ sym many
 
 pub returns-in_err-room-clause-gathers : goal.returns-in_err-room-clause-gathers
-returns-in_err-room-clause-gathers g c = always-on-err c.from_residual.result _ (gathers-one g.S.Source g.K.Sink c.args.stages.now c.requires.tree c.requires.new c.args.plan.now c.requires.gathers c.requires.ins c.requires.homes (g.T.Scheduler.besides c.args.sizes.queue) c.loop-at.at c.loop-at.invariant.later c.loop-at.invariant.done c.loop-at-test.true c.index.ensures c.if-index.true)
+returns-in_err-room-clause-gathers g c = λ halted. gathers-one g.S.Source g.K.Sink c.args.stages.now c.requires.tree c.requires.new c.args.plan.now c.requires.gathers c.requires.ins c.requires.homes (g.T.Scheduler.besides c.args.sizes.queue) c.loop-at.at c.loop-at.invariant.later c.loop-at.invariant.done c.loop-at-test.true c.index.ensures c.if-index.true
 
 pub run_part-requires-clause-room : goal.run_part-requires-clause-room
 run_part-requires-clause-room g c = c.in_ok-room.ensures
@@ -106,7 +106,12 @@ returns-in_err-run_part-clause-later g c =
     step-later s k c.args.nodes.now c.loop-at.nodes c.run_part.new.nodes c.loop-at.invariant.later c.run_part.ensures.later
 
 pub returns-in_err-run_part-clause-gathers : goal.returns-in_err-run_part-clause-gathers
-returns-in_err-run_part-clause-gathers g c = always-on-err c.from_residual-in_err-run_part.result _ (gathers-one g.S.Source g.K.Sink c.args.stages.now c.requires.tree c.requires.new c.args.plan.now c.requires.gathers c.requires.ins c.requires.homes (g.T.Scheduler.besides c.args.sizes.queue) c.loop-at.at c.loop-at.invariant.later c.loop-at.invariant.done c.loop-at-test.true c.index.ensures c.if-index.true)
+returns-in_err-run_part-clause-gathers g c = λ halted. gathers-one g.S.Source g.K.Sink c.args.stages.now c.requires.tree c.requires.new c.args.plan.now c.requires.gathers c.requires.ins c.requires.homes (g.T.Scheduler.besides c.args.sizes.queue) c.loop-at.at c.loop-at.invariant.later c.loop-at.invariant.done c.loop-at-test.true c.index.ensures c.if-index.true
+
+pub returns-in_err-run_part-clause-stopped : goal.returns-in_err-run_part-clause-stopped
+returns-in_err-run_part-clause-stopped g c = λ halted. turn-stopped g.S.Source g.K.Sink c.args.stages.now c.requires.tree c.requires.new c.args.plan.now c.requires.gathers c.requires.ins c.requires.homes (g.T.Scheduler.besides c.args.sizes.queue) c.loop-at.at c.loop-at.invariant.later c.loop-at.invariant.done c.loop-at-test.true c.index.ensures c.if-index.true (c.run_part.ensures.stopped (
+    let p = err_from_is_err_and c.from_residual-in_err-run_part.result c.from_residual-in_err-run_part.ensures.1 in
+    c.in_err-run_part.was ∙ ap Err (sym p.2) ∙ sym p.1 ∙ halted))
 
 pub gather_at-requires-clause-collects : goal.gather_at-requires-clause-collects
 gather_at-requires-clause-collects g c = collects g.S.Source g.K.Sink c.args.stages.now c.requires.tree c.requires.new c.args.plan.now c.requires.gathers c.requires.ins c.requires.homes (g.T.Scheduler.besides c.args.sizes.queue) c.loop-at.at c.loop-at.invariant.later c.loop-at.invariant.done c.loop-at-test.true c.index.ensures c.if-index.true c.in_ok-run_part.ensures.run
@@ -118,7 +123,7 @@ returns-in_err-gather_at-clause-later g c =
     step-later s k c.args.nodes.now c.run_part.new.nodes c.gather_at.new.nodes (step-later s k c.args.nodes.now c.loop-at.nodes c.run_part.new.nodes c.loop-at.invariant.later c.run_part.ensures.later) c.gather_at.ensures.later
 
 pub returns-in_err-gather_at-clause-gathers : goal.returns-in_err-gather_at-clause-gathers
-returns-in_err-gather_at-clause-gathers g c = always-on-err c.from_residual-in_err-gather_at.result _ (gathers-one g.S.Source g.K.Sink c.args.stages.now c.requires.tree c.requires.new c.args.plan.now c.requires.gathers c.requires.ins c.requires.homes (g.T.Scheduler.besides c.args.sizes.queue) c.loop-at.at c.loop-at.invariant.later c.loop-at.invariant.done c.loop-at-test.true c.index.ensures c.if-index.true)
+returns-in_err-gather_at-clause-gathers g c = λ halted. gathers-one g.S.Source g.K.Sink c.args.stages.now c.requires.tree c.requires.new c.args.plan.now c.requires.gathers c.requires.ins c.requires.homes (g.T.Scheduler.besides c.args.sizes.queue) c.loop-at.at c.loop-at.invariant.later c.loop-at.invariant.done c.loop-at-test.true c.index.ensures c.if-index.true
 
 pub loop-at-preserved : goal.loop-at-preserved
 loop-at-preserved g c =
@@ -152,3 +157,12 @@ pub returns-clause-turned : goal.returns-clause-turned
 returns-clause-turned g c =
     let at-end : c.loop-at.at ≡ length c.args.stages.now = (let a = c.loop-at.auto.at-end in let b = c.loop-at-test.false in omega (arith, a, b)) in
     subst (λ n. AreTurned g.S.Source g.K.Sink c.args.stages.now c.args.plan.now.homes.items c.args.nodes.now (g.T.Scheduler.besides c.args.sizes.queue) n c.loop-at.nodes) at-end c.loop-at.invariant.turned
+
+pub returns-in_err-room-clause-known : goal.returns-in_err-room-clause-known
+returns-in_err-room-clause-known g c = λ halted. inr (gathers-one g.S.Source g.K.Sink c.args.stages.now c.requires.tree c.requires.new c.args.plan.now c.requires.gathers c.requires.ins c.requires.homes (g.T.Scheduler.besides c.args.sizes.queue) c.loop-at.at c.loop-at.invariant.later c.loop-at.invariant.done c.loop-at-test.true c.index.ensures c.if-index.true)
+
+pub returns-in_err-run_part-clause-known : goal.returns-in_err-run_part-clause-known
+returns-in_err-run_part-clause-known g c = λ halted. inr (gathers-one g.S.Source g.K.Sink c.args.stages.now c.requires.tree c.requires.new c.args.plan.now c.requires.gathers c.requires.ins c.requires.homes (g.T.Scheduler.besides c.args.sizes.queue) c.loop-at.at c.loop-at.invariant.later c.loop-at.invariant.done c.loop-at-test.true c.index.ensures c.if-index.true)
+
+pub returns-in_err-gather_at-clause-known : goal.returns-in_err-gather_at-clause-known
+returns-in_err-gather_at-clause-known g c = λ halted. inr (gathers-one g.S.Source g.K.Sink c.args.stages.now c.requires.tree c.requires.new c.args.plan.now c.requires.gathers c.requires.ins c.requires.homes (g.T.Scheduler.besides c.args.sizes.queue) c.loop-at.at c.loop-at.invariant.later c.loop-at.invariant.done c.loop-at-test.true c.index.ensures c.if-index.true)

@@ -15,36 +15,37 @@ use Rattle.run_report.specs.declared.refusal.Refusal.TheVariants.{Device}
 use Rattle.run_engine.specs.Blame.{IsBlamed}
 use Rattle.run_engine.specs.Done.{AreDone}
 use Rattle.run_engine.specs.Jobs.{HaveCome, CameTo}
+use Rattle.run_engine.proofs.Stopping.{cause-by}
 use Rattle.run_engine.proofs.Blamed.{failed-first, failed-finish, failed-all}
 use Rattle.run_engine.proofs.Ran.{later-on, done-on}
 use Rattle.run_engine.proofs.Answers.{early-left, fault-cause, fault-early, unfinished-to-cause, unfinished-early, same-held, fit, is-run, unkept-cause, unkept-left}
 use Rattle.run_engine.proofs.job.Job.close.Goals as goal
 
 pub returns-in-Err-clause-err : goal.returns-in-Err-clause-err
-returns-in-Err-clause-err g c = λ first ran.
+returns-in-Err-clause-err g c = λ stop first ran.
     let s = g.S.Source in
     let k = g.K.Sink in
     let files = g.F.Files in
     let stages = c.args.stages.now in
     let faults = faults_of s.faults k.faults in
     let works = c.args.self.works.items in
-    let came = subst (HaveCome s k stages ran.before works) c.in-Done.is ran.came in
+    let came = subst (HaveCome s k stop stages ran.before works) c.in-Done.is ran.came in
     let found : refusal_for c.in-Done.ended.faults.items ≡ Some c.in-Err.refusal = subst (λ fs. refusal_for fs ≡ Some c.in-Err.refusal) c.as_slice.ensures.value c.in-Err.ensures.err in
-    fault-cause s k first stages ran.before works c.in-Done.ended.faults.items c.in-Done.ended.report.items came (files.faults c.args.files.now) (files.faults c.args.files.now) (files.faults c.release_works-in-Err.new.files)
+    fault-cause s k stop first stages ran.before works c.in-Done.ended.faults.items c.in-Done.ended.report.items came (files.faults c.args.files.now) (files.faults c.args.files.now) (files.faults c.release_works-in-Err.new.files)
     ran.ready.count ran.ready.come ran.ready.tell ran.ready.devices (omega arith) c.release_works-in-Err.ensures.counted c.in-Err.refusal found
 
 pub returns-in-Err-clause-left : goal.returns-in-Err-clause-left
-returns-in-Err-clause-left g c = λ m ran.
+returns-in-Err-clause-left g c = λ stop m ran.
     let s = g.S.Source in
     let k = g.K.Sink in
     let files = g.F.Files in
     let stages = c.args.stages.now in
     let faults = faults_of s.faults k.faults in
     let works = c.args.self.works.items in
-    let came = subst (HaveCome s k stages ran.before works) c.in-Done.is ran.came in
+    let came = subst (HaveCome s k stop stages ran.before works) c.in-Done.is ran.came in
     let found : refusal_for c.in-Done.ended.faults.items ≡ Some c.in-Err.refusal = subst (λ fs. refusal_for fs ≡ Some c.in-Err.refusal) c.as_slice.ensures.value c.in-Err.ensures.err in
     early-left c.in-Err.refusal (files.map c.args.files.now) (files.map c.release_works-in-Err.new.files) (run_of m stages)
-    (fault-early s k (Some m) stages ran.before works c.in-Done.ended.faults.items c.in-Done.ended.report.items came c.in-Err.refusal found) c.release_works-in-Err.ensures.map
+    (fault-early s k stop (Some m) stages ran.before works c.in-Done.ended.faults.items c.in-Done.ended.report.items came c.in-Err.refusal found) c.release_works-in-Err.ensures.map
 
 pub returns-in-Err-clause-refused : goal.returns-in-Err-clause-refused
 returns-in-Err-clause-refused g c = λ refusal came.
@@ -55,7 +56,7 @@ returns-in-Err-clause-refused g c = λ refusal came.
     (ap Err same, c.release_works-in-Err.ensures.map)
 
 pub returns-in-Err-outcome-clause-err : goal.returns-in-Err-outcome-clause-err
-returns-in-Err-outcome-clause-err g c = λ first ran.
+returns-in-Err-outcome-clause-err g c = λ stop first ran.
     let s = g.S.Source in
     let k = g.K.Sink in
     let files = g.F.Files in
@@ -63,16 +64,16 @@ returns-in-Err-outcome-clause-err g c = λ first ran.
     let faults = faults_of s.faults k.faults in
     let works = c.args.self.works.items in
     let done = c.finish-works.result.works.items in
-    let came = subst (HaveCome s k stages ran.before works) c.in-Done.is ran.came in
+    let came = subst (HaveCome s k stop stages ran.before works) c.in-Done.is ran.came in
     let none : refusal_for c.in-Done.ended.faults.items ≡ None = subst (λ fs. refusal_for fs ≡ None) c.as_slice.ensures.value c.in_default.ensures.ok in
     let sound = not-refused c.in-Done.ended.faults.items none in
     let unfinished = err-of (IsUnfinished faults works done) c.finish-works.result.outcome c.in-Err-outcome.refusal c.in-Err-outcome.is c.finish-works.ensures.err in
-    unfinished-to-cause k faults first stages works done (files.faults c.args.files.now) (files.faults c.args.files.now) (files.faults c.release_works-in-Err-outcome.new.files)
+    cause-by (Rose (files.faults c.args.files.now) (files.faults c.release_works-in-Err-outcome.new.files)) first stages stop c.in-Err-outcome.refusal (unfinished-to-cause k faults first stages works done (files.faults c.args.files.now) (files.faults c.args.files.now) (files.faults c.release_works-in-Err-outcome.new.files)
     (ran.later.count ∙ ran.ready.count) (fit s k first stages ran.before works ran.ready faults ran.later) ran.ready.come
-    c.in-Done.ended.report.items (λ m e. came.sound sound (opened_in m stages) (ran.ready.tell m e)) (omega arith) c.release_works-in-Err-outcome.ensures.counted c.in-Err-outcome.refusal unfinished
+    c.in-Done.ended.report.items (λ m e. came.sound sound (opened_in m stages) (ran.ready.tell m e)) (omega arith) c.release_works-in-Err-outcome.ensures.counted c.in-Err-outcome.refusal unfinished)
 
 pub returns-in-Err-outcome-clause-left : goal.returns-in-Err-outcome-clause-left
-returns-in-Err-outcome-clause-left g c = λ m ran.
+returns-in-Err-outcome-clause-left g c = λ stop m ran.
     let s = g.S.Source in
     let k = g.K.Sink in
     let files = g.F.Files in
@@ -107,12 +108,12 @@ keep_all-requires-clause-fit g c =
     let faults = faults_of s.faults k.faults in
     let works = c.args.self.works.items in
     let done = c.finish-works.result.works.items in
-    let first = c.requires.ran.0 in
-    let ran = c.requires.ran.1 in
+    let first = c.requires.ran.1 in
+    let ran = c.requires.ran.2 in
     fit s k first stages ran.before done ran.ready faults (later-on faults ran.before works done ran.later c.finish-works.ensures.later)
 
 pub returns-in-Err-keep_all-clause-err : goal.returns-in-Err-keep_all-clause-err
-returns-in-Err-keep_all-clause-err g c = λ first ran.
+returns-in-Err-keep_all-clause-err g c = λ stop first ran.
     let s = g.S.Source in
     let k = g.K.Sink in
     let files = g.F.Files in
@@ -122,17 +123,17 @@ returns-in-Err-keep_all-clause-err g c = λ first ran.
     let done = c.finish-works.result.works.items in
     let why = c.in-Err-keep_all.refusal in
     let rose = Rose (files.faults c.args.files.now) (files.faults c.keep_all.new.files) in
-    let came = subst (HaveCome s k stages ran.before works) c.in-Done.is ran.came in
+    let came = subst (HaveCome s k stop stages ran.before works) c.in-Done.is ran.came in
     let none : refusal_for c.in-Done.ended.faults.items ≡ None = subst (λ fs. refusal_for fs ≡ None) c.as_slice.ensures.value c.in_default.ensures.ok in
     let sound = not-refused c.in-Done.ended.faults.items none in
     let later = later-on faults ran.before works done ran.later c.finish-works.ensures.later in
     let counts = c.in-Done.ended.report.items in
     let ended : (opened : Opened) → AreTold s ran.before opened → AreDone k.bytes stages opened done counts = λ opened tell.
     done-on faults ran.before works done ran.later c.finish-works.ensures.later k.bytes stages opened counts (on-ok c.finish-works.result.outcome c.in_default-outcome.field-0 c.in_default-outcome.is c.finish-works.ensures.finished) c.finish-works.ensures.kept (came.sound sound opened tell) in
-    unkept-cause s k first stages ran.before done ran.ready faults later counts ended rose (files.map c.args.files.now) (files.map c.keep_all.new.files) why c.in-Err-keep_all.ensures.err
+    cause-by rose first stages stop why (unkept-cause s k first stages ran.before done ran.ready faults later counts ended rose (files.map c.args.files.now) (files.map c.keep_all.new.files) why c.in-Err-keep_all.ensures.err)
 
 pub returns-in-Err-keep_all-clause-left : goal.returns-in-Err-keep_all-clause-left
-returns-in-Err-keep_all-clause-left g c = λ m ran.
+returns-in-Err-keep_all-clause-left g c = λ stop m ran.
     let s = g.S.Source in
     let k = g.K.Sink in
     let files = g.F.Files in
@@ -143,7 +144,7 @@ returns-in-Err-keep_all-clause-left g c = λ m ran.
     let why = c.in-Err-keep_all.refusal in
     let old = files.map c.args.files.now in
     let new = files.map c.keep_all.new.files in
-    let came = subst (HaveCome s k stages ran.before works) c.in-Done.is ran.came in
+    let came = subst (HaveCome s k stop stages ran.before works) c.in-Done.is ran.came in
     let none : refusal_for c.in-Done.ended.faults.items ≡ None = subst (λ fs. refusal_for fs ≡ None) c.as_slice.ensures.value c.in_default.ensures.ok in
     let sound = not-refused c.in-Done.ended.faults.items none in
     let later = later-on faults ran.before works done ran.later c.finish-works.ensures.later in
@@ -170,7 +171,7 @@ returns-in-Err-keep_all-clause-lent g c =
     λ others h. c.keep_all.ensures.lent others (h ∙ ap (λ n. others + n) (sym (same-held faults works done c.finish-works.ensures.later)))
 
 pub returns-in-Ok-clause-ok : goal.returns-in-Ok-clause-ok
-returns-in-Ok-clause-ok g c = λ m ran.
+returns-in-Ok-clause-ok g c = λ stop m ran.
     let s = g.S.Source in
     let k = g.K.Sink in
     let files = g.F.Files in
@@ -178,7 +179,7 @@ returns-in-Ok-clause-ok g c = λ m ran.
     let faults = faults_of s.faults k.faults in
     let works = c.args.self.works.items in
     let done = c.finish-works.result.works.items in
-    let came = subst (HaveCome s k stages ran.before works) c.in-Done.is ran.came in
+    let came = subst (HaveCome s k stop stages ran.before works) c.in-Done.is ran.came in
     let none : refusal_for c.in-Done.ended.faults.items ≡ None = subst (λ fs. refusal_for fs ≡ None) c.as_slice.ensures.value c.in_default.ensures.ok in
     let sound = not-refused c.in-Done.ended.faults.items none in
     let later = later-on faults ran.before works done ran.later c.finish-works.ensures.later in
@@ -210,11 +211,12 @@ returns-in-Err-clause-blamed g c = λ i o same.
     let k = g.K.Sink in
     let stages = c.args.stages.now in
     let works = c.args.self.works.items in
-    let ran = c.requires.ran.1 in
-    let came = subst (HaveCome s k stages ran.before works) c.in-Done.is ran.came in
+    let stop = c.requires.ran.0 in
+    let ran = c.requires.ran.2 in
+    let came = subst (HaveCome s k stop stages ran.before works) c.in-Done.is ran.came in
     let found : refusal_for c.in-Done.ended.faults.items ≡ Some c.in-Err.refusal = subst (λ fs. refusal_for fs ≡ Some c.in-Err.refusal) c.as_slice.ensures.value c.in-Err.ensures.err in
     let is : c.in-Err.refusal ≡ Device (Stage i) o = cc in
-    let first = failed-first s k stages ran.before works c.in-Done.ended.faults.items c.in-Done.ended.report.items came ran.later i o (found ∙ ap (λ r. Some r) is) in
+    let first = failed-first s k stages stop ran.before works c.in-Done.ended.faults.items c.in-Done.ended.report.items came ran.later i o (found ∙ ap (λ r. Some r) is) in
     subst (λ step. IsBlamed (faults_of s.faults k.faults) (Rose (g.F.Files.faults c.args.files.now) (g.F.Files.faults c.release_works-in-Err.new.files)) works step i o) (sym c.in-Done.is) (inl first)
 
 pub returns-in-Err-outcome-clause-blamed : goal.returns-in-Err-outcome-clause-blamed
@@ -243,11 +245,11 @@ returns-in-Err-keep_all-clause-blamed g c = λ i o same.
     let faults = faults_of s.faults k.faults in
     let works = c.args.self.works.items in
     let done = c.finish-works.result.works.items in
-    let ran = c.requires.ran.1 in
+    let ran = c.requires.ran.2 in
     let none : refusal_for c.in-Done.ended.faults.items ≡ None = subst (λ fs. refusal_for fs ≡ None) c.as_slice.ensures.value c.in_default.ensures.ok in
     let sound = not-refused c.in-Done.ended.faults.items none in
     let rose = Rose (files.faults c.args.files.now) (files.faults c.keep_all.new.files) in
     let is : c.in-Err-keep_all.refusal ≡ Device (Stage i) o = cc in
-    let last = failed-all s k stages works done c.in-Done.ended.faults.items rose (files.map c.args.files.now) (files.map c.keep_all.new.files) sound (fit s k c.requires.ran.0 stages ran.before works ran.ready faults ran.later)
+    let last = failed-all s k stages works done c.in-Done.ended.faults.items rose (files.map c.args.files.now) (files.map c.keep_all.new.files) sound (fit s k c.requires.ran.1 stages ran.before works ran.ready faults ran.later)
     c.finish-works.ensures.later c.finish-works.ensures.kept i o (subst (IsUnkept k.bytes rose (files.map c.args.files.now) (files.map c.keep_all.new.files) stages done) is c.in-Err-keep_all.ensures.err) in
     subst (λ step. IsBlamed faults rose works step i o) (sym c.in-Done.is) (inr last)

@@ -5,7 +5,7 @@ use Rattle.stage_kinds.specs.Held.{faults_of}
 use Rattle.stage_runs.specs.Short.{SomeGathers}
 use Rattle.held_devices.specs.Holding.{all_held}
 use Rattle.run_outcome.proofs.Results.{ok-of}
-use Rattle.set_engine.specs.Evaluated.{HaveEnded}
+use Rattle.run_engine.specs.Stopping.{HaveEndedBy, ends_at}
 use Rattle.run_engine.specs.Jobs.{HaveCome, IsShort, IsWaiting, TakesTurns}
 use Rattle.run_engine.proofs.Answers.{same-held}
 use Rattle.run_engine.proofs.Inputs.{few-stages}
@@ -32,6 +32,7 @@ returns-in_err-ended-clause-ran g c = λ engine map ready.
     let s = g.S.Source in
     let k = g.K.Sink in
     let stages = c.args.stages.now in
+    let stop = ends_at engine (g.T.Scheduler.stop c.args.scheduler.now) in
     let faults = faults_of s.faults k.faults in
     let old = c.args.self.now.works.items in
     let later = subst (λ works. AreLater faults works.items c.evaluate-works.result.works.items) c.replace-works.ensures.value c.evaluate-works.ensures.later in
@@ -39,7 +40,7 @@ returns-in_err-ended-clause-ran g c = λ engine map ready.
       before = old;
       ready = ready.works;
       later = subst (λ works. AreLater faults old works.items) (sym c.replace-blank.ensures.after) later;
-      came = subst (HaveCome s k stages old c.replace-blank.new.dest.items) (sym c.replace-step.ensures.after) tt;
+      came = subst (HaveCome s k stop stages old c.replace-blank.new.dest.items) (sym c.replace-step.ensures.after) tt;
     }
 
 pub returns-in_err-ended-clause-held : goal.returns-in_err-ended-clause-held
@@ -68,19 +69,21 @@ returns-clause-ran g c = λ engine map ready.
     let s = g.S.Source in
     let k = g.K.Sink in
     let stages = c.args.stages.now in
+    let stop = ends_at engine (g.T.Scheduler.stop c.args.scheduler.now) in
     let faults = faults_of s.faults k.faults in
     let old = c.args.self.now.works.items in
     let done = c.in_ok-ended.ended in
     let new = c.evaluate-works.result.works.items in
     let later = subst (λ works. AreLater faults works.items new) c.replace-works.ensures.value c.evaluate-works.ensures.later in
-    let ended = subst (λ works. IfOk c.evaluate-works.result.outcome (λ e. HaveEnded s k stages works.items new e.faults.items e.report.items)) c.replace-works.ensures.value c.evaluate-works.ensures.ended in
-    let came : HaveEnded s k stages old new done.faults.items done.report.items = ok-of (λ e. HaveEnded s k stages old new e.faults.items e.report.items) c.evaluate-works.result.outcome done (search rules) ended in
+    let waits = subst (IsWaiting s k g.T.Scheduler.fits engine stages) (sym c.replace-step.ensures.value) ready.waits in
+    let ended = subst (λ works. IfOk c.evaluate-works.result.outcome (λ e. HaveEndedBy s k stop stages works.items new e.faults.items e.report.items)) c.replace-works.ensures.value (c.evaluate-works.ensures.ended engine waits) in
+    let came : HaveEndedBy s k stop stages old new done.faults.items done.report.items = ok-of (λ e. HaveEndedBy s k stop stages old new e.faults.items e.report.items) c.evaluate-works.result.outcome done (search rules) ended in
     record {
       before = old;
       ready = ready.works;
       later = subst (λ works. AreLater faults old works.items) (sym c.replace-blank.ensures.after) later;
-      came = subst (λ works. HaveCome s k stages old works.items c.replace.new.dest) (sym c.replace-blank.ensures.after)
-          (subst (HaveCome s k stages old new) (sym c.replace.ensures.after) came);
+      came = subst (λ works. HaveCome s k stop stages old works.items c.replace.new.dest) (sym c.replace-blank.ensures.after)
+          (subst (HaveCome s k stop stages old new) (sym c.replace.ensures.after) came);
     }
 
 pub returns-clause-held : goal.returns-clause-held

@@ -1,0 +1,7 @@
+use Rattle.std.proofs.Common.{ℕ, subst}
+use Rattle.network_solo.specs.Runs.{IsRanOver}
+use Rattle.network_solo.proofs.scheduler.OneThreadScheduler.run.Goals as goal
+
+pub returns-clause-besides : goal.returns-clause-besides
+returns-clause-besides g c = λ came capacity fits.
+    subst (λ (k : ℕ). IsRanOver g.W.Work c.args.ins k c.args.nodes c.run_tree.result) fits.1 (c.run_tree.ensures.over came)
