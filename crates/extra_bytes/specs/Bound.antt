@@ -1,0 +1,44 @@
+-- Fields whose names have places among the extra names.
+use Rattle.std.specs.Prelude.{◌≡◌, ℕ, ◌==◌, ◌&&◌, Bool, List, [], ◌∷◌, length, is_none, Option, Some, None, if◌then◌else◌, ⊤}
+use Rattle.std.specs.Option.{unwrap_or}
+use Rattle.cloud_points.specs.ExtraNames.{place_in, added}
+use Rattle.cloud_points.specs.declared.extra.ExtraField.{ExtraField}
+use Rattle.stage_names.specs.declared.faults.PipeFault.{PipeFault}
+use Rattle.stage_names.specs.declared.faults.PipeFault.TheVariants.{TooManyDims}
+use Rattle.stage_names.specs.declared.faults.PipeErr.{PipeErr}
+use Rattle.stage_names.specs.declared.faults.PipeErr.TheVariants.{Fault, Memory}
+
+-- a field with the place that its name has, or that it gets
+abbrev pub bound_field : List (List ℕ) → ExtraField → ExtraField
+bound_field names f = record f { place = unwrap_or (place_in f.name (added f.name names)) 0 }
+
+-- a name would be the ninth
+abbrev pub is_ninth : List ℕ → List (List ℕ) → Bool
+is_ninth name names = is_none (place_in name names) && (length names == 8)
+
+abbrev pub field_fault : ℕ → List (List ℕ) → ExtraField → Option PipeFault
+field_fault i names f = if is_ninth f.name names then Some (TooManyDims i) else None
+
+-- fields one after the other
+abbrev pub bound_fields : List (List ℕ) → List ExtraField → List ExtraField
+bound_fields names [] = []
+bound_fields names (f ∷ fs) = bound_field names f ∷ bound_fields (added f.name names) fs
+
+-- the names with theirs
+abbrev pub names_with : List (List ℕ) → List ExtraField → List (List ℕ)
+names_with names [] = names
+names_with names (f ∷ fs) = names_with (added f.name names) fs
+
+abbrev pub fault_or : Option PipeFault → Option PipeFault → Option PipeFault
+fault_or (Some fault) later = Some fault
+fault_or None later = later
+
+-- the first fault
+abbrev pub fields_fault : ℕ → List (List ℕ) → List ExtraField → Option PipeFault
+fields_fault i names [] = None
+fields_fault i names (f ∷ fs) = fault_or (field_fault i names f) (fields_fault i (added f.name names) fs)
+
+-- an error is this fault, or want of memory
+abbrev pub IsFaultOf : Option PipeFault → PipeErr → Type 0
+IsFaultOf o (Fault fault) = o ≡ Some fault
+IsFaultOf o Memory = ⊤

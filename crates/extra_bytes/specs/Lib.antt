@@ -1,0 +1,6 @@
+pub mod Values
+pub mod Descriptors
+pub mod Laws
+pub mod Written
+pub mod Rows
+pub mod Bound

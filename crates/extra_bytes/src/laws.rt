@@ -1,0 +1,17 @@
+//! Laws of extra dimensions.
+
+ghost use Rattle.extra_bytes.specs.Laws.{ExactIsRead, FineTakesAll, NearestIsRead};
+ghost use Rattle.extra_bytes.specs.Written.{WrittenAreRead};
+
+/// The laws that what was written into a field is read: the value of the nearest raw number, which is the value itself where
+/// it is a whole number of steps from the field's offset, as it always is for 64 bits with a sign and steps of a nanounit.
+pub fn values_return()
+    ensures nearest { NearestIsRead }
+    ensures exact { ExactIsRead }
+    ensures fine { FineTakesAll }
+{}
+
+/// The law that fields whose descriptors were written are read from these, in their order and but for their places.
+pub fn written_are_read()
+    ensures { WrittenAreRead }
+{}
