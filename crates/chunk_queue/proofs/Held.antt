@@ -1,13 +1,13 @@
 -- The items of a queue's entries: one more at the end, one less at the front.
-use Rattle.std.proofs.Common.{◌≡◌, ℕ, ◌+◌, ◌<◌, true, false, List, [], ◌∷◌, ◌++◌, length, drop, Some, None, Ok, Err, refl, ap, subst, sym, ◌∙◌, arith, length-append}
-use Rattle.std.specs.Prelude.{slice_get, Result, IsOk, OnOk}
+use Rattle.std.proofs.Common.{◌≡◌, ℕ, ◌+◌, ◌<◌, true, List, [], ◌∷◌, ◌++◌, length, Ok, Err, refl, ap, subst, sym, ◌∙◌, arith, length-append}
+use Rattle.std.specs.Prelude.{Result, IsOk, OnOk}
 use Rattle.circular_buffer.specs.Buffer.{Buffer, buffer}
 use Rattle.cloud_points.specs.declared.point.Point.{Point}
 use Rattle.cloud_points.specs.declared.item.Item.{Item}
 use Rattle.chunk_queue.specs.declared.tag.SlottedItem.{SlottedItem}
 use Rattle.chunk_queue.specs.declared.tag.ItemKind.{ItemKind}
 use Rattle.chunk_queue.specs.declared.tag.ItemKind.TheVariants.{Points, EndView, End}
-use Rattle.chunk_queue.specs.Slots.{kind_body, tag_item, entry_item, brings_points, filled, held_items, HasPoints, AllHavePoints, IsSlotted, IsPopped}
+use Rattle.chunk_queue.specs.Slots.{kind_body, tag_item, entry_item, brings_points, filled, held_items, HasPoints, AllHavePoints, IsSlotted}
 
 pub on_ok : {T E : Type 0} (r : Result T E) (P : Type 0) → IsOk r → OnOk r P → P
 on_ok (Ok x) P h p = p
@@ -58,40 +58,3 @@ put-slotted entries free left most e old points ok fills some count = record {
   room = let l = length-append entries.items (e ∷ []) in let o : length (e ∷ []) ≡ 1 = refl in let r = ok.room in omega (arith, l, o, r, count);
   points = subst AllHavePoints (sym (put-held entries.items e old points fills)) (all-last (held_items entries.items) (tag_item e.tag points) ok.points (has_points e.tag.kind points some));
 }
-
--- the first entry is taken out, and its slot is free
-pub popped-slotted : (items : List SlottedItem) (capacity free left most : ℕ) (e : SlottedItem) → IsSlotted (buffer items capacity) free most → Some e ≡ slice_get items 0 → left ≡ free + 1
-    → IsSlotted (buffer (drop 1 items) capacity) left most
-popped-slotted [] capacity free left most e ok first count = cc
-popped-slotted (x ∷ items) capacity free left most e ok first count = record {
-  slots = let s = ok.slots in omega (arith, s, count);
-  room = let r = ok.room in omega (arith, r, count);
-  points = ok.points.1;
-}
-
-pub popped-held : (entries : List SlottedItem) → held_items (drop 1 entries) ≡ drop 1 (held_items entries)
-popped-held [] = refl
-popped-held (e ∷ entries) = refl
-
--- what a pop in parts answers
-pub popped-none : (entries : List SlottedItem) (points : List Point) → None ≡ slice_get entries 0 → IsPopped (held_items entries) None points points
-popped-none [] points h = (refl, refl)
-popped-none (e ∷ entries) points h = cc
-
-pub kept-old : (kind : ItemKind) (old now points : List Point) → now ≡ filled kind old points → brings_points kind ≡ false → now ≡ old
-kept-old Points old now points h e = cc
-kept-old EndView old now points h e = h
-kept-old (End cut) old now points h e = h
-
-pub popped-some : (entries : List SlottedItem) (e : SlottedItem) (old now : List Point) → AllHavePoints (held_items entries) → Some e ≡ slice_get entries 0
-    → now ≡ filled e.tag.kind old e.slot.value.items → IsPopped (held_items entries) (Some e.tag) old now
-popped-some [] e old now a h f = cc
-popped-some (x ∷ entries) e old now a h f =
-    let is : e ≡ x = cc in
-    let points = e.slot.value.items in
-    let same : kind_body e.tag.kind now ≡ kind_body e.tag.kind points = body-filled e.tag.kind old points now f in
-    let first_is : entry_item x ≡ tag_item e.tag now = ap entry_item (sym is) ∙ ap (λ b. record { no = e.tag.no; body = b }) (sym same) in (
-      ap Some first_is,
-      kept-old e.tag.kind old now points f,
-      brought e.tag.kind now (subst HasPoints (ap (λ (i : Item). i.body) first_is) a.0),
-    )

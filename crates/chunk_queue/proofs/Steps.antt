@@ -7,7 +7,7 @@ use Rattle.crossbeam_queue.specs.Fifo.{Pushes, Pops, Forks, Merges, Learns}
 use Rattle.crossbeam_queue.proofs.Lists.{at_set, at_snoc}
 use Rattle.cloud_points.specs.Queue.{IsQueue, up_to_limit, has_end}
 use Rattle.chunk_queue.specs.declared.known.Known.{Known}
-use Rattle.chunk_queue.specs.Known.{known, Fits, IsKept, Sent, Got, HeldBySender, HeldByTaker, HeldByBoth}
+use Rattle.chunk_queue.specs.Known.{known, Fits, IsKept, Sent, Got, HeldBySender, HeldByTaker}
 use Rattle.chunk_queue.proofs.Keeps.{IsNumbered-last, EndsOnlyLast-last}
 
 module _ {T : Type 0} where
@@ -97,12 +97,6 @@ module _ {T : Type 0} (number : T → ℕ) (ends : T → Bool) where
   looks-got pass v may items views h at =
       let mine = h.6 pass v at in
       (h.3, subst (λ (l : List T). IsQueue number ends h.3 l items v.room) (sym (mine.1 may).1) (subst (IsQueue number ends h.3 h.4 items) (sym (mine.1 may).2) h.5))
-
-  pub looks-both : (pass : ℕ) (v : Known T) → v.sends ≡ true → v.gets ≡ true → Learns (IsKept number ends) pass v (HeldByBoth number ends v)
-  looks-both pass v s g items views h at =
-      let mine = h.6 pass v at in
-      subst (λ (l : List T). IsQueue number ends l v.got items v.room) (sym (mine.0 s).1)
-      (subst (λ (l : List T). IsQueue number ends h.3 l items v.room) (sym (mine.1 g).1) (subst (IsQueue number ends h.3 h.4 items) (sym (mine.1 g).2) h.5))
 
   -- the one pass of a new queue becomes a producer's and a consumer's, which know how much there is room for
   pub splits : (n pass : ℕ) (v : Known T) → v ≡ start → Forks (IsKept number ends) pass v (known true false n [] []) (known false true n [] [])

@@ -3,7 +3,8 @@ use Rattle.std.proofs.Common.{◌≡◌, drop-cons, ℕ, zero, suc, ◌+◌, Lis
 use Rattle.cloud_points.specs.ExtraNames.{added}
 use Rattle.cloud_points.specs.declared.extra.ExtraField.{ExtraField}
 use Rattle.std.proofs.lemmas.List.{append_assoc}
-use Rattle.extra_bytes.specs.Bound.{bound_field, bound_fields, field_fault, fields_fault, fault_or, names_with}
+use Rattle.extra_bytes.specs.Bound.{bound_field, bound_fields, field_fault, fields_fault, names_with}
+use Rattle.stage_names.specs.Faults.{or_else}
 
 -- from field k on, with these names and behind these fields, comes what comes of all
 pub record Going (i : ℕ) (names : List (List ℕ)) (found : List ExtraField) (k : ℕ) (now : List (List ℕ)) (done : List ExtraField) : Type 0 where
@@ -28,7 +29,7 @@ going_on {i} {names} {found} {k} {now} {done} h f bound next after inside here n
   names_are = ap (λ n. names_with n rest) next_is ∙ sym (ap (names_with now) split) ∙ h.names_are;
   fields_are = ap (λ d. d ++ bound_fields next rest) after_is ∙ append_assoc done (bound ∷ []) (bound_fields next rest) ∙ ap (λ b. done ++ b ∷ bound_fields next rest) bound_is
       ∙ ap (λ n. done ++ bound_field now f ∷ bound_fields n rest) next_is ∙ sym (ap (λ fs. done ++ bound_fields now fs) split) ∙ h.fields_are;
-  fault_is = ap (λ n. fields_fault i n rest) next_is ∙ sym (ap (λ o. fault_or o (fields_fault i (added f.name now) rest)) sound) ∙ sym (ap (fields_fault i now) split) ∙ h.fault_is;
+  fault_is = ap (λ n. fields_fault i n rest) next_is ∙ sym (ap (λ o. or_else o (fields_fault i (added f.name now) rest)) sound) ∙ sym (ap (fields_fault i now) split) ∙ h.fault_is;
   so_far = next_is ∙ ap (added f.name) h.so_far ∙ sym (names_next names found k f inside here);
 }
   where

@@ -6,8 +6,8 @@ use Rattle.std.proofs.lemmas.Int.{ints, to_z-of_z}
 use Rattle.std.proofs.lemmas.Bool.Decides.{nat_tests}
 use Rattle.std.proofs.lemmas.Option.{none-some, same_Some}
 use Rattle.std.proofs.lemmas.List.{length-take-le}
-use Rattle.exact_numbers.specs.Rounding.{half_away, IsHalfAway}
-use Rattle.exact_numbers.proofs.OneRounding.{is_half_away}
+use Rattle.exact_numbers.specs.Rounding.{half_away}
+use Rattle.point_formats.proofs.Counting.{steps_return}
 use Rattle.byte_numbers.specs.Bytes.{number_at}
 use Rattle.byte_numbers.proofs.Written.{number_read}
 use Rattle.cloud_points.specs.Points.{is_between}
@@ -93,9 +93,6 @@ nearest_is_read f nano before after lies e = by_raw (is_raw f.kind (raw_of f nan
 
 -- ---- whole numbers of steps
 
-no_distance : (m : ℤ) → unsigned_abs (m -ℤ m) ≡ 0
-no_distance m = omega (arith, ints)
-
 taken_back : (m o : ℤ) → (m +ℤ o) -ℤ o ≡ m
 taken_back m o = omega (arith, ints)
 
@@ -104,12 +101,6 @@ its_size s h = omega (arith, ints, h)
 
 some_size : (s : ℤ) → pos 1 ≤ℤ s → 0 < unsigned_abs s
 some_size s h = omega (arith, ints, h)
-
-is_exact : (n : ℤ) (step : ℕ) → 0 < step → IsHalfAway (n *ℤ pos step) step n
-is_exact n step some = let d = no_distance (n *ℤ pos step) in record { half = omega (arith, d); away = λ e. absurd (omega (arith, d, e, some)) }
-
-steps_return : (n : ℤ) (step : ℕ) → 0 < step → half_away (n *ℤ pos step) step ≡ n
-steps_return n step some = sym (is_half_away (n *ℤ pos step) step n some (is_exact n step some))
 
 steps_found : (f : ExtraField) (steps : ℤ) → raw_of f (value_of f steps) ≡ steps
 steps_found f steps =

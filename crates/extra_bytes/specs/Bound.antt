@@ -1,12 +1,11 @@
 -- Fields whose names have places among the extra names.
-use Rattle.std.specs.Prelude.{◌≡◌, ℕ, ◌==◌, ◌&&◌, Bool, List, [], ◌∷◌, length, is_none, Option, Some, None, if◌then◌else◌, ⊤}
+use Rattle.std.specs.Prelude.{◌≡◌, ℕ, ◌==◌, ◌&&◌, Bool, List, [], ◌∷◌, length, is_none, Option, Some, None, if◌then◌else◌}
 use Rattle.std.specs.Option.{unwrap_or}
 use Rattle.cloud_points.specs.ExtraNames.{place_in, added}
 use Rattle.cloud_points.specs.declared.extra.ExtraField.{ExtraField}
 use Rattle.stage_names.specs.declared.faults.PipeFault.{PipeFault}
 use Rattle.stage_names.specs.declared.faults.PipeFault.TheVariants.{TooManyDims}
-use Rattle.stage_names.specs.declared.faults.PipeErr.{PipeErr}
-use Rattle.stage_names.specs.declared.faults.PipeErr.TheVariants.{Fault, Memory}
+use Rattle.stage_names.specs.Faults.{or_else}
 
 -- a field with the place that its name has, or that it gets
 abbrev pub bound_field : List (List ℕ) → ExtraField → ExtraField
@@ -29,16 +28,7 @@ abbrev pub names_with : List (List ℕ) → List ExtraField → List (List ℕ)
 names_with names [] = names
 names_with names (f ∷ fs) = names_with (added f.name names) fs
 
-abbrev pub fault_or : Option PipeFault → Option PipeFault → Option PipeFault
-fault_or (Some fault) later = Some fault
-fault_or None later = later
-
 -- the first fault
 abbrev pub fields_fault : ℕ → List (List ℕ) → List ExtraField → Option PipeFault
 fields_fault i names [] = None
-fields_fault i names (f ∷ fs) = fault_or (field_fault i names f) (fields_fault i (added f.name names) fs)
-
--- an error is this fault, or want of memory
-abbrev pub IsFaultOf : Option PipeFault → PipeErr → Type 0
-IsFaultOf o (Fault fault) = o ≡ Some fault
-IsFaultOf o Memory = ⊤
+fields_fault i names (f ∷ fs) = or_else (field_fault i names f) (fields_fault i (added f.name names) fs)

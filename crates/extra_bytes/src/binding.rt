@@ -2,7 +2,8 @@
 
 ghost use Rattle.std.specs.Prelude.{◌≡◌, ◌⊎◌, ℕ, take, None, IfOk, OnOk, IfErr, OnErr};
 ghost use Rattle.cloud_points.specs.ExtraNames.{added};
-ghost use Rattle.extra_bytes.specs.Bound.{bound_field, field_fault, bound_fields, names_with, fields_fault, IsFaultOf};
+ghost use Rattle.extra_bytes.specs.Bound.{bound_field, field_fault, bound_fields, names_with, fields_fault};
+ghost use Rattle.stage_names.specs.Faults.{IsFaultOf};
 
 use cloud_points::{AddFault, ExtraField, ExtraNames, FieldList};
 use stage_names::{PipeErr, PipeFault};

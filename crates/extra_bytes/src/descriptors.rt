@@ -44,10 +44,7 @@ fn size_in(bytes: &[u8]) -> Option<usize>
         0 => Some(bytes[3] as usize),
         9 => Some(4),
         10 => Some(8),
-        number => match kind_numbered(number) {
-            Some(kind) => Some(kind.size()),
-            None => None,
-        },
+        number => kind_numbered(number).map(|kind| kind.size()),
     }
 }
 

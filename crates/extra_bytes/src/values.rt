@@ -1,11 +1,12 @@
 //! Reads the values of extra dimensions.
 
-ghost use Rattle.std.specs.Prelude.{◌≡◌, ◌+◌, ◌^◌, ◌<◌, ◌≤◌, unsigned_abs, length, true, Some, None, IfOk, OnErr};
+ghost use Rattle.std.specs.Prelude.{◌≡◌, ◌+◌, ◌*◌, ◌*ℤ◌, ◌^◌, ◌<◌, ◌≤◌, unsigned_abs, length, true, Some, None, IfOk, OnErr};
 ghost use Rattle.cloud_points.specs.ExtraFields.{kind_size};
 ghost use Rattle.extra_bytes.specs.Values.{LiesIn, raw_at, value_of, is_held, extra_read};
 
 use byte_numbers::{i8_at, i16_at, i32_at, u8_at, u16_at, u32_at, u64_at};
 use cloud_points::{ExtraField, ExtraKind, OutOfRange};
+use decimal_coords::Scale;
 
 /// The greatest size of a value, in nanounits.
 const MOST_NANO: i128 = 4_000_000_000_000_000_000;
@@ -29,13 +30,23 @@ fn raw_at(kind: ExtraKind, at: usize, bytes: &[u8]) -> i128
     }
 }
 
+/// So many steps of a scale, in nanounits.
+#[inline]
+fn stepped(scale: Scale, raw: i128) -> i128
+    requires { unsigned_abs raw < 2 ^ 64 }
+    ensures value { result ≡ raw *ℤ scale.nano }
+    ensures small { unsigned_abs result ≤ 2 ^ 64 * 10 ^ 9 }
+{
+    raw * scale.nano() as i128
+}
+
 /// The value of a raw number in nanounits.
 #[inline]
 fn value_of(f: &ExtraField, raw: i128) -> i128
     requires { unsigned_abs raw < 2 ^ 64 }
     ensures { result ≡ value_of f.now raw }
 {
-    raw * f.scale.nano() as i128 + f.offset as i128
+    stepped(f.scale, raw) + f.offset as i128
 }
 
 /// Whether a point holds so many nanounits in an extra dimension.

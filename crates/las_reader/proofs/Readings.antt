@@ -50,13 +50,6 @@ reads_more header given most wanted n told now now_after f0 f1 f2 r0 r1 r2 befor
   whole = λ file e. let has = records file (was.same ∙ e) in omega (arith, has.count, was.whole file e);
 }
 
--- there are as many as may be
-pub reads_all : (header : Header) (given most : ℕ) (told now : Option (List ℕ)) (f0 f1 r0 r1 : ℕ) (points : List Point) (size : ℕ) → most ≤ size → Reads header given most told now f0 f1 r0 r1 points size
-    → (file : List ℕ) → told ≡ Some file → HasPoints header file given most points
-reads_all header given most told now f0 f1 r0 r1 points size all was file e =
-    let is : size ≡ whole_from header file given most = omega (arith, was.within, was.whole file e) in
-    was.points_are file e ∙ ap (λ k. points_from (point_of header) header.record_length given k (drop header.points_at file)) is
-
 -- fewer whole records than were asked for are the last
 pub reads_last : (header : Header) (given most wanted n : ℕ) (told now : Option (List ℕ)) (f0 f1 r0 r1 : ℕ) (before points : List Point) (size : ℕ) (buffer : List ℕ)
     → size + wanted ≤ most → n < wanted

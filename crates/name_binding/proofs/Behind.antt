@@ -8,7 +8,7 @@ use Rattle.expr_eval.specs.declared.assignment.Assignment.{Assignment}
 use Rattle.option_texts.specs.declared.ferries.NamedFerry.{NamedFerry}
 use Rattle.stage_names.specs.declared.faults.PipeErr.{PipeErr}
 use Rattle.stage_names.specs.declared.faults.PipeFault.{PipeFault}
-use Rattle.stage_options.specs.Faults.{or_else, IsFaultOf}
+use Rattle.stage_names.specs.Faults.{or_else, IsFaultOf}
 use Rattle.name_binding.specs.Ferries.{with_target, with_targets, AreBehindSome, ferry_refused, ferries_refused, ferry_bound, ferries_bound}
 
 pub one_more : (names : List (List ℕ)) (fs : List NamedFerry) (i : ℕ) (f : NamedFerry) → i < length fs → get_or fs i f ≡ f

@@ -12,7 +12,7 @@ use Rattle.limits_text.specs.declared.shapes.NamedRange.{NamedRange}
 use Rattle.option_texts.specs.declared.columns.NamedColumn.{NamedColumn}
 use Rattle.stage_names.specs.declared.faults.PipeFault.{PipeFault}
 use Rattle.stage_names.specs.declared.faults.PipeFault.TheVariants.{DimUnknown}
-use Rattle.stage_options.specs.Faults.{or_else}
+use Rattle.stage_names.specs.Faults.{or_else}
 use Rattle.stage_options.specs.Ferries.{ferries_in}
 use Rattle.name_binding.specs.Ferries.{names_behind, ferries_refused, ferries_bound}
 use Rattle.name_binding.specs.Refusals.{refused}

@@ -11,7 +11,7 @@ use Rattle.expr_eval.specs.declared.assignment.Assignment.{Assignment}
 use Rattle.option_texts.specs.declared.ferries.NamedFerry.{NamedFerry}
 use Rattle.stage_names.specs.declared.faults.PipeFault.{PipeFault}
 use Rattle.stage_names.specs.declared.faults.PipeFault.TheVariants.{DimUnknown, TooManyDims}
-use Rattle.stage_options.specs.Faults.{or_else}
+use Rattle.stage_names.specs.Faults.{or_else}
 use Rattle.name_binding.specs.Refusals.{refused}
 use Rattle.stage_options.specs.declared.options.Options.{Options}
 use Rattle.stage_options.specs.Ferries.{ferries_in}

@@ -10,7 +10,7 @@ ghost use Rattle.stage_options.specs.Ferries.{ferries_in};
 ghost use Rattle.name_binding.specs.Refusals.{refused};
 ghost use Rattle.stage_options.specs.Where.{only_of};
 ghost use Rattle.stage_names.specs.declared.faults.PipeFault.TheVariants.{DimUnknown};
-ghost use Rattle.stage_options.specs.Faults.{IsFaultOf};
+ghost use Rattle.stage_names.specs.Faults.{IsFaultOf};
 
 use crate::ferries::{bind_dim, bind_ferries, refusal, with_targets};
 use cloud_points::{Dim, ExtraNames, Layout, dim_of};

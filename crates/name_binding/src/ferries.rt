@@ -5,7 +5,7 @@ ghost use Rattle.cloud_points.specs.ExtraNames.{dim_in};
 ghost use Rattle.cloud_points.specs.Layouts.{holds};
 ghost use Rattle.cloud_points.specs.declared.dims.Dim.{Dim as Dimension};
 ghost use Rattle.expr_eval.specs.Bindings.{bound_dim, dim_of as dim_named};
-ghost use Rattle.stage_options.specs.Faults.{IsFaultOf};
+ghost use Rattle.stage_names.specs.Faults.{IsFaultOf};
 ghost use Rattle.name_binding.specs.Ferries.{with_target, with_targets, AreBehindSome, target_refused, ferry_refused, ferries_refused, ferry_bound, ferries_bound, ferried, is_target_of};
 ghost use Rattle.name_binding.specs.Refusals.{refusal_of, refused};
 

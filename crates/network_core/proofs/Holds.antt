@@ -33,17 +33,6 @@ holds-none g f h w before taken none held = record {
   holds = subst (λ ps. g.holds w ps ≡ true) (sym (append-nil before)) held;
 }
 
--- a work that holds all that its node took
-pub holds-all : {W S : Type 0} (g : Ghosts W S) (f h : Option StageFault) (w : W) (before taken : List Point) → f ≡ None → g.holds w (before ++ taken) ≡ true → HoldsBesides g f h w before taken
-holds-all g f h w before taken sound held = record {
-  part = taken;
-  rest = [];
-  whole = sym (append-nil taken);
-  all = λ _. refl;
-  still = λ ne. absurd (ne sound);
-  holds = held;
-}
-
 -- where it has no fault, that is all that it took
 pub whole-of : {W S : Type 0} (g : Ghosts W S) (f h : Option StageFault) (w : W) (taken : List Point) (held : HoldsBesides g f h w [] taken) → h ≡ None → held.part ≡ taken
 whole-of g f h w taken held sound = sym (held.whole ∙ ap (λ xs. held.part ++ xs) (held.all sound) ∙ append-nil held.part)

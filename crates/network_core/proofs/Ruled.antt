@@ -1,7 +1,7 @@
 -- A turn over the ends of queues between threads.
 use Rattle.std.proofs.Common.{◌≡◌, ℕ, ◌+◌, ◌<◌, Bool, true, false, List, [], ◌∷◌, ◌++◌, length, drop, Option, Some, None, refl, ap, subst, sym, ◌∙◌, ◌⊎◌, inl, inr, append-nil, arith, length-append, cond}
 use Rattle.std.specs.Prelude.{◌||◌, nat_lt, is_some}
-use Rattle.std.proofs.lemmas.Bool.{ltb-true, lt-ltb, le-ltb}
+use Rattle.std.proofs.lemmas.Bool.{ltb-true, lt-ltb}
 use Rattle.cloud_points.specs.declared.point.Point.{Point}
 use Rattle.cloud_points.specs.declared.item.Item as code
 use Rattle.cloud_points.specs.declared.faults.StageFault.{StageFault}
@@ -10,7 +10,7 @@ use Rattle.cloud_points.specs.Bodies.{seen, bodies}
 use Rattle.cloud_points.specs.Marks.{Item, all_marks, is_end}
 use Rattle.cloud_points.specs.Meaning.{KeepsCutting}
 use Rattle.cloud_points.specs.Queue.{up_to_limit}
-use Rattle.chunk_queue.specs.Ends.{InSeen, OutSeen, in_seen, out_seen, ended, sends, takes, HadRoom, WasFull, WasEmpty, WasFirst}
+use Rattle.chunk_queue.specs.Ends.{InSeen, OutSeen, in_seen, out_seen, ended, sends, takes, HadRoom}
 use Rattle.network_theory.specs.Carried.{only_input}
 use Rattle.network_theory.specs.History.{all_item_points}
 use Rattle.network_theory.specs.Net as net
@@ -57,17 +57,6 @@ same-in old new e = e ∙ ap (in_seen old.queue old.capacity) (sym (append-nil o
 same-out : (old new : OutSeen) → new ≡ old → new ≡ out_seen old.queue old.capacity (old.sent ++ sent old new)
 same-out old new e = e ∙ ap (out_seen old.queue old.capacity) (sym (append-nil old.sent) ∙ ap (λ xs. old.sent ++ xs) (sym (sent-none old new e)))
 
--- an end that takes, by what the turn was
-pub took-one : (old new : InSeen) (i : code.Item) → new ≡ takes old i → WasFirst old i → Takes old new net.Took
-took-one old new i e f = record {
-  grows = e ∙ ap (λ xs. in_seen old.queue old.capacity (old.got ++ xs)) (sym (taken-one old new i e));
-  first = λ _. (i, taken-one old new i e, f);
-  empty = λ t. cc;
-}
-
-pub took-nothing : (old new : InSeen) → new ≡ old → WasEmpty old → Takes old new (net.Idle net.Empty)
-took-nothing old new e w = record { grows = same-in old new e; first = λ t. cc; empty = λ _. w }
-
 pub not_read : (t : Turned) (inn : InSeen) → is_read t ≡ false → Takes inn inn (turned t)
 not_read Took inn h = cc
 not_read Gave inn h = record { grows = same-in inn inn refl; first = λ t. cc; empty = λ t. cc }
@@ -84,9 +73,6 @@ gave-one old new i e h = record {
   full = λ t. cc;
 }
 
-pub gave-nothing : (old new : OutSeen) → new ≡ old → WasFull old → Sends old new (net.Idle net.Full)
-gave-nothing old new e w = record { grows = same-out old new e; room = λ t. cc; full = λ _. w }
-
 pub not_given : (t : Turned) (out : OutSeen) → is_gift t ≡ false → Sends out out (turned t)
 not_given Took out h = record { grows = same-out out out refl; room = λ t. cc; full = λ t. cc }
 not_given Gave out h = cc
@@ -101,15 +87,8 @@ module _ {S : Type 0} (n new : net.Node S Point StageFault) (reads : Bool) (cap 
       → left new rest (outs ++ bodies (sent old out)) Gave ≡ net.with_hand false cap ch n rest outs (Some (seen i.body))
   gave_ruled old out i may e f = rw (lt-ltb (length outs) cap (may.room refl), e, sent-one old out i f) refl
 
-  pub full_ruled : (old out : OutSeen) (i : Item Point) → MayHave reads (net.Idle net.Full) cap rest outs → new ≡ n → out ≡ old
-      → left new rest (outs ++ bodies (sent old out)) (Idle Full) ≡ net.with_hand false cap ch n rest outs (Some i)
-  full_ruled old out i may e f = let full = may.full refl in rw (e, sent-none old out f, append-nil outs, le-ltb (length outs) cap (omega (arith, full))) refl
-
   pub took_ruled : (old inn : InSeen) (i : code.Item) → new ≡ net.taken ch n (seen i.body) → inn ≡ takes old i → left new rest outs Took ≡ net.takes ch n (bodies (taken old inn) ++ rest) outs
   took_ruled old inn i e f = rw (e, taken-one old inn i f) refl
-
-  pub empty_ruled : (old inn : InSeen) → MayHave reads (net.Idle net.Empty) cap rest outs → new ≡ n → inn ≡ old → left new rest outs (Idle Empty) ≡ net.takes ch n (bodies (taken old inn) ++ rest) outs
-  empty_ruled old inn may e f = rw (e, taken-none old inn f, may.empty refl) refl
 
 -- a turn that left an end as it was
 module _ {S : Type 0} (root : Bool) (cap : ℕ) (ch : net.Choice S Point StageFault) (n new : net.Node S Point StageFault) (rest outs : List (Item Point)) where

@@ -1,5 +1,5 @@
 -- One node between two of its states, turn by turn.
-use Rattle.std.proofs.Common.{◌≡◌, ℕ, ◌+◌, ◌-◌, ◌*◌, ◌<◌, ◌≤◌, Bool, true, false, cond, ◌⊎◌, inl, inr, List, [], ◌∷◌, ◌++◌, length, refl, ap, subst, sym, ◌∙◌, append-nil, append_assoc, arith, Option, None}
+use Rattle.std.proofs.Common.{◌≡◌, ℕ, ◌+◌, ◌-◌, ◌*◌, ◌<◌, ◌≤◌, Bool, true, false, cond, ◌⊎◌, inl, inr, List, [], ◌∷◌, ◌++◌, length, refl, ap, subst, sym, ◌∙◌, append-nil, arith, Option, None}
 use Rattle.std.specs.Prelude.{◌==◌}
 use Rattle.cloud_points.specs.Meaning.{KeepsCutting}
 use Rattle.cloud_points.specs.Marks.{Mark, Item, marks, all_marks, is_end}
@@ -7,7 +7,7 @@ use Rattle.network_theory.specs.Net.{Node, Choice, Quiet, Outcome, turn, taken, 
 use Rattle.network_theory.specs.Sound.{IsNode}
 use Rattle.network_theory.specs.History.{mark_points, item_points, all_item_points}
 use Rattle.network_theory.specs.Carried.{from_input, rest_of, joined, only_input}
-use Rattle.network_theory.specs.Between.{Between, QuietBetween}
+use Rattle.network_theory.specs.Between.{QuietBetween}
 use Rattle.network_theory.proofs.Carries.{carried-nothing, carried-on, at_input, from-same, inputs-stay, tape-took}
 use Rattle.network_theory.proofs.CarriedTurn.{carried-same, none-taken, Carries, turn-carries}
 use Rattle.network_theory.proofs.Keeps.{turn-moved}
@@ -18,28 +18,11 @@ use Rattle.network_theory.proofs.Brought.{mark_points-append, points-of_item}
 use Rattle.network_theory.proofs.Due.{Lowers, turn-lowers}
 
 module _ {S P F : Type 0} where
-  pub between-nothing : (n : Node S P F) → Between n n (λ _. [])
-  between-nothing n = record { work = refl; leaf = refl; inputs = refl; took = []; reads = λ r. refl }
-
-  pub between-on : (l m n : Node S P F) (a c : ℕ → List (Mark P)) → Between l m a → Between m n c → Between l n (λ k. a k ++ c k)
-  between-on l m n a c h g = record {
-    work = g.work ∙ h.work;
-    leaf = g.leaf ∙ h.leaf;
-    inputs = g.inputs ∙ h.inputs;
-    took = h.took ++ g.took;
-    reads = λ r. from-same (joined (λ k. a k ++ c k) r) (joined a (joined c r)) _ _ (λ k. append_assoc (a k) (c k) (r k))
-        ∙ h.reads (joined c r) ∙ ap (λ x. h.took ++ x) (g.reads r) ∙ sym (append_assoc h.took g.took _);
-  }
-
   pub quiet-nothing : (n : Node S P F) → QuietBetween n n (λ _. []) []
   quiet-nothing n = record { carried = carried-nothing n; closing = λ ok. ok }
 
   pub quiet-on : (l m n : Node S P F) (a c : ℕ → List (Mark P)) (b d : List (Mark P)) → QuietBetween l m a b → QuietBetween m n c d → QuietBetween l n (λ k. a k ++ c k) (b ++ d)
   quiet-on l m n a c b d h g = record { carried = carried-on l m n a c b d h.carried g.carried; closing = λ ok. g.closing (h.closing ok) }
-
-  -- the same with equal flows
-  pub between-same : (old new : Node S P F) (a a' : ℕ → List (Mark P)) → a ≡ a' → Between old new a → Between old new a'
-  between-same old new a a' e h = subst (Between old new) e h
 
   pub quiet-same : (old new : Node S P F) (a a' : ℕ → List (Mark P)) (b b' : List (Mark P)) → a ≡ a' → b ≡ b' → QuietBetween old new a b → QuietBetween old new a' b'
   quiet-same old new a a' b b' e f h = subst (λ (p : (ℕ → List (Mark P)) × List (Mark P)). QuietBetween old new p.0 p.1) (λ i. (e i, f i)) h

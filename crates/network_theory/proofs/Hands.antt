@@ -65,10 +65,6 @@ sent-made Quiet n = refl
 sent-made (Failed f s) n = refl
 sent-made (Short s) n = refl
 
-none_gave : {P : Type 0} (hand : Option (Item P)) (k : ℕ) → hand ≡ None → gave Gave hand k ≡ []
-none_gave None k h = refl
-none_gave (Some i) k h = cc
-
 module _ {S P F : Type 0} (root : Bool) (cap : ℕ) (n : Node S P F) (before after : List (Item P)) where
   -- a turn that neither gives nor takes
   rests : (m : Node S P F) (t : Turned) → m.sent ≡ n.sent → m.done ≡ n.done → gave t n.hand n.sent ≡ [] → ((ns : List ℕ) (number : ℕ) → numbers_above root t ns number ≡ ns) → ((xs : List (ℕ × Item P)) → took t xs ≡ []) → ((ns : List ℕ) → numbers_left t ns ≡ ns) → Hands root cap n before after (record { node = m; input = before; out = after; turned = t })

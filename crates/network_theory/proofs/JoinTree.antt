@@ -5,7 +5,6 @@ use Rattle.network_theory.specs.Net.{Net, Node, remains, last_of, inputs_of, flo
 use Rattle.network_theory.specs.Shape.{Each, IsTree, ins_of}
 use Rattle.network_theory.specs.Carried.{Carried, from_input, rest_of, joined}
 use Rattle.network_theory.specs.History.{brings}
-use Rattle.network_theory.specs.Between.{Between}
 use Rattle.network_theory.proofs.Rest.{inputs-same}
 
 -- what came over the edge of the child at this place
@@ -64,9 +63,6 @@ module _ {S P F : Type 0} (net : Net S P F) (new : ℕ → Node S P F) (b : ℕ 
   -- so each node reads what its inputs bring in the opening net
   pub all-brought : (k : ℕ) → rest_of (net.node k) (joined (of_child b (net.node k).ins) (λ _. [])) ≡ brings net k
   all-brought k = tape k ∙ here k k (children k k (given-flow k) (omega arith) (net.node k).ins (tree.below k))
-
-  pub took-brought : (k : ℕ) (h : Between (net.node k) (new k) (of_child b (net.node k).ins)) → h.took ≡ brings net k
-  took-brought k h = sym (append-nil h.took) ∙ ap (λ x. h.took ++ x) (sym (nothing-more k)) ∙ sym (h.reads (λ _. [])) ∙ all-brought k
 
   -- so each node ends as the opening net's does
   pub all-end : (k : ℕ) → last_of (new k) [] ≡ rest net k

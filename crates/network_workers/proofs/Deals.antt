@@ -1,5 +1,5 @@
 -- The nodes of a tree are dealt one after the other, the last one first.
-use Rattle.std.proofs.Common.{◌≡◌, ℕ, zero, suc, ◌-◌, ◌^◌, ◌<◌, ◌≤◌, true, List, [], ◌∷◌, ◌++◌, length, Option, Some, None, refl, ap, subst, sym, ◌∙◌, append_assoc, append-nil, arith, map, replicate, length-append}
+use Rattle.std.proofs.Common.{◌≡◌, ℕ, zero, suc, ◌-◌, ◌<◌, ◌≤◌, true, List, [], ◌∷◌, ◌++◌, length, Option, Some, None, refl, ap, subst, sym, ◌∙◌, append_assoc, append-nil, arith, map, replicate, length-append}
 use Rattle.std.specs.Prelude.{◌%◌, is_some, slice_get, slice_index_or, slice_set, vec_len, option_to_list, IsSome}
 use Rattle.std.specs.Option.{option_flatten}
 use Rattle.std.proofs.lemmas.Nat.{mod_below}
@@ -165,9 +165,6 @@ module _ {W : Type 0} (all : List (Node W)) (ins : List (List ℕ)) (above : Lis
           omega (arith, at, many, n, e, a, b, few),
         )
 
-    pub few-left : length all ≤ 64 → left inns < 2 ^ 32
-    few-left few = let a = h.left in omega (arith, a, inns_count, few)
-
   -- all nodes are dealt
   module _ (nodes : List (Node W)) (outs : List (Option OutSeen)) (inns : List (Option InSeen)) (deals : List (Deal W)) (none : nodes ≡ []) (h : IsDealing all ins above below workers nodes outs inns deals) where
     all-behind : h.behind ≡ all
@@ -177,13 +174,6 @@ module _ {W : Type 0} (all : List (Node W)) (ins : List (List ℕ)) (above : Lis
     all-dealt =
         h.hands ∙ ap (λ (xs : List (Node W)). dealt workers (length xs) (places (length xs) h.behind ins (present above) (present below))) none
         ∙ ap (λ xs. dealt workers 0 (places 0 xs ins (present above) (present below))) all-behind
-
-    pub all-sent : outs ≡ []
-    all-sent = empty-list outs (let c = h.count in let n = ap (λ (xs : List (Node W)). length xs) none in omega (arith, c, n))
-      where
-        empty-list : (xs : List (Option OutSeen)) → length xs ≡ 0 → xs ≡ []
-        empty-list [] e = refl
-        empty-list (x ∷ xs) e = absurd (omega (arith, e))
 
 -- the end that was the last of a list
 pub last-out : {X : Type 0} (xs ys : List (Option X)) (popped : Option (Option X)) (out : Option X) → xs ≡ ys ++ option_to_list popped → IsSome popped → out ≡ option_flatten popped → xs ≡ ys ++ out ∷ []
@@ -222,9 +212,6 @@ module _ {W : Type 0} (all : List (Node W)) (ins : List (List ℕ)) (held : ℕ)
 
     pub next-seat : (d : Deal W) → HasSeat (slice_index_or deals (place % workers) d)
     next-seat d = subst (λ i. HasSeat (slice_index_or deals (i % workers) d)) (sym at) (has-seat all ins above below workers forest room.ends.outs_are below-count nodes node outs out inns deals state room.some.1 few d)
-
-    pub next-few : left inns < 2 ^ 32
-    next-few = few-left all ins above below workers forest room.ends.outs_are below-count nodes node outs out inns deals state few
 
     pub next-dealt : (inns' : List (Option InSeen)) (deals' : List (Deal W))
         → hands_of deals' ≡ slice_set (hands_of deals) (place % workers) (with_place (record { stage = place; node = node; out = out; ins = ends_at inns kids }) (slice_index_or (hands_of deals) (place % workers) empty_hand))

@@ -121,12 +121,6 @@ got-grew (Some a) (Some b) h = in-got a b h
 got-grew None (Some b) h = absurd h
 got-grew (Some a) None h = absurd h
 
-pub end-some : (a b : Option InSeen) → EndGrew a b → is_some b ≡ is_some a
-end-some None None h = refl
-end-some (Some a) (Some b) h = refl
-end-some None (Some b) h = absurd h
-end-some (Some a) None h = absurd h
-
 -- the place of an end
 and-both : (a b : Bool) → a && b ≡ true → (a ≡ true) × (b ≡ true)
 and-both true true h = (refl, refl)

@@ -5,11 +5,9 @@ use Rattle.std.proofs.lemmas.Bool.Decides.{eqb_tells}
 use Rattle.std.proofs.lemmas.Option.{slice_get_within, slice_get-get_or}
 use Rattle.circular_buffer.proofs.Places.{slice_get-set_same, slice_get-set_other}
 use Rattle.network_core.specs.declared.stop.Stop.{Stop}
-use Rattle.network_core.specs.declared.stop.Stop.TheVariants.{Last, First}
 use Rattle.network_workers.specs.declared.seats.Seat.{Seat}
 use Rattle.network_workers.specs.declared.seats.Deal.{Deal}
-use Rattle.network_workers.specs.Seats.{DealsDone}
-use Rattle.network_workers.specs.Stopping.{seat_stops, stops_in, deal_stops, stops_among, Somewhere, Nowhere, AtMostOnce, TurnsTaken, EndedInTime, DealsOver, OtherSeatsStay}
+use Rattle.network_workers.specs.Stopping.{seat_stops, stops_in, deal_stops, stops_among, Somewhere, Nowhere, AtMostOnce, TurnsTaken, EndedInTime, OtherSeatsStay}
 
 module _ {P : Type 0} where
   pub none-one : (is : P → Bool) → Nowhere is → AtMostOnce is
@@ -96,29 +94,6 @@ module _ {W : Type 0} (stop : Stop) where
         | inl h ↦ h.1
         | inr h ↦ absurd (true≢false (sym a ∙ other p h.1 ∙ none p))
       ]
-
-  -- turns on all deals end where all nodes are done, and where they end at a place
-  pub over-done : (deals : List (Deal W)) → DealsDone deals → DealsOver stop deals
-  over-done deals done = go stop
-    where
-      go : (s : Stop) → DealsOver s deals
-      go Last = done
-      go First = inl done
-
-  pub over-some : (deals : List (Deal W)) → Somewhere (stops_among stop deals) → DealsOver stop deals
-  over-some deals some = go stop some
-    where
-      never : (d : Option (Deal W)) (k : ℕ) → deal_stops Last d k ≡ false
-      never None k = refl
-      never (Some d) k = by (slice_get d.seats.items k)
-        where
-          by : (s : Option (Seat W)) → seat_stops Last s ≡ false
-          by None = refl
-          by (Some s) = refl
-
-      go : (s : Stop) → Somewhere (stops_among s deals) → DealsOver s deals
-      go Last there = absurd (true≢false (sym there.1 ∙ never (slice_get deals there.0.0) there.0.1))
-      go First there = inr there
 
 -- whether turns end at a place of a deal, and so of all deals
 module _ {W : Type 0} (stop : Stop) (deals : List (Deal W)) (i : ℕ) (d : Deal W) (inside : i < length deals) where

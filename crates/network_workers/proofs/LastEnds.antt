@@ -3,7 +3,7 @@ use Rattle.std.proofs.Common.{◌≡◌, ◌≢◌, ℕ, zero, suc, ◌+◌, ◌
 use Rattle.std.specs.Prelude.{◌==◌}
 use Rattle.std.proofs.lemmas.Bool.{eq-eqb}
 use Rattle.std.proofs.lemmas.Bool.Decides.{eqb_tells}
-use Rattle.std.proofs.lemmas.List.{length-set, length-take-le, get_or-take, get_or-set_other, get_or_default, take_all, take-take, drop_all}
+use Rattle.std.proofs.lemmas.List.{length-set, length-take-le, get_or-take, get_or-set_other, get_or_default, take-take}
 use Rattle.chunk_queue.specs.Ends.{InSeen, OutSeen}
 use Rattle.network_theory.specs.Forest.{one_if, count_in}
 use Rattle.network_workers.specs.declared.seats.SeatIn.{SeatIn}
@@ -61,13 +61,6 @@ pub record AreSettled (outs : List (Option OutSeen)) (cs : List ℕ) (first : �
   pub settled : (k : ℕ) (e : SeatIn) → left ≤ k → k < length cs → IsSettled (get_or outs (get_or cs k 0) None) (get_or ins (first + k) e).end
 
 module _ (outs : List (Option OutSeen)) (cs : List ℕ) (first : ℕ) (ins : List SeatIn) (size : first + length cs ≡ length ins) where
-  pub settled-start : AreSettled outs cs first ins (length cs) ins outs
-  settled-start = record {
-    ins_are = sym (take_all (first + length cs) ins (omega (arith, size)));
-    outs_are = ap (without outs) (sym (drop_all (length cs) cs (omega arith)));
-    settled = λ k e a b. absurd (omega (arith, a, b));
-  }
-
   module _ (left k : ℕ) (ins_left : List SeatIn) (outs_left : List (Option OutSeen)) (once : AreOnce cs) (h : AreSettled outs cs first ins left ins_left outs_left) (next : left ≡ suc k) (inside : k < length cs) where
     count : length ins_left ≡ first + left
     count = ap length h.ins_are ∙ length-take-le (first + left) ins (omega (arith, size, next, inside))
@@ -106,11 +99,3 @@ module _ (outs : List (Option OutSeen)) (cs : List ℕ) (first : ℕ) (ins : Lis
         by_place j e b (inl same) = subst (λ i. IsSettled (get_or outs (get_or cs i 0) None) (get_or ins (first + i) e).end) same
             (subst (λ x. IsSettled x (get_or ins (first + k) e).end) out-is (subst (λ (x : SeatIn). IsSettled (get_or outs_left (get_or cs k 0) None) x.end) (in-is e) (s e)))
         by_place j e b (inr past) = h.settled j e past b
-
-  pub settled-all : (ins_left : List SeatIn) (outs_left : List (Option OutSeen)) → AreSettled outs cs first ins 0 ins_left outs_left
-      → EdgesFrom IsSettled outs cs first ins × (ins_left ≡ take first ins) × (outs_left ≡ without outs cs)
-  settled-all ins_left outs_left h = (
-    (λ k e l. h.settled k e (omega arith) l),
-    h.ins_are ∙ ap (λ n. take n ins) {x = first + 0} {y = first} (omega arith),
-    h.outs_are,
-  )

@@ -35,9 +35,6 @@ pub record AreOpening (count : ℕ) (outs : List (Option OutSeen)) (inns : List 
   pub inns_are : inns ≡ map Some (present inns)
   pub opened : AreOpened count (present outs) (present inns)
 
-pub opening-nothing : AreOpening 0 [] []
-opening-nothing = record { outs_are = refl; inns_are = refl; opened = record { count = (refl, refl); same = λ k out inn e f. cc; nothing = λ k out inn e f. cc } }
-
 opened-on : (count : ℕ) (outs : List OutSeen) (inns : List InSeen) (out : OutSeen) (inn : InSeen) → AreOpened count outs inns → out.queue ≡ inn.queue → (out.sent ≡ []) × (inn.got ≡ []) → AreOpened (count + 1) (outs ++ out ∷ []) (inns ++ inn ∷ [])
 opened-on count outs inns out inn h same nothing = record {
   count = (

@@ -44,9 +44,6 @@ module _ {W S : Type 0} (g : Ghosts W S) where
   pub paid-nothing : (first : ℕ) (ins : List SeatIn) (xs : List (Seat W)) → SeatsPaid g first first ins ins xs xs
   paid-nothing first ins xs below = omega arith
 
-  pub paid-on : (first mid last : ℕ) (ins ins' ins'' : List SeatIn) (xs ys zs : List (Seat W)) → SeatsPaid g first mid ins ins' xs ys → SeatsPaid g mid last ins' ins'' ys zs → SeatsPaid g first last ins ins'' xs zs
-  paid-on first mid last ins ins' ins'' xs ys zs h k below = let a = h below in let b = k below in omega (arith, a, b)
-
   pub deals_paid-nothing : (first : ℕ) (xs : List (Deal W)) → DealsPaid g first first xs xs
   deals_paid-nothing first xs below = omega arith
 

@@ -2,7 +2,7 @@
 use Rattle.std.proofs.Common.{◌≡◌, ℕ, zero, suc, ◌+◌, ◌<◌, ◌≤◌, Bool, true, false, List, [], ◌∷◌, ◌++◌, length, Option, Some, None, refl, ap, subst, sym, ◌∙◌, append_assoc, arith, map, take, length-append}
 use Rattle.std.specs.Prelude.{◌==◌, is_some, slice_get, slice_index_or, slice_set}
 use Rattle.std.proofs.lemmas.Bool.{eq-eqb, eqb-true}
-use Rattle.std.proofs.lemmas.List.{get_or-set_other, length-take-le, take_all, take_more}
+use Rattle.std.proofs.lemmas.List.{get_or-set_other, length-take-le, take_more}
 use Rattle.chunk_queue.specs.Ends.{InSeen}
 use Rattle.network_theory.specs.Forest.{children, one_if, count_in, count_all}
 use Rattle.network_theory.specs.Shape.{Each}
@@ -61,13 +61,6 @@ none-after : (xs : List (Option InSeen)) (c : ℕ) (e : InSeen) → end_at xs c 
 none-after [] c e h = cc
 none-after (x ∷ xs) zero e h = omega arith
 none-after (x ∷ xs) (suc c) e h = let m = none-after xs c e h in omega (arith, m)
-
-pub there-inside : (xs : List (Option InSeen)) (c : ℕ) → is_some (end_at xs c) ≡ true → c < length xs
-there-inside xs c h = by_end (end_at xs c) refl h
-  where
-    by_end : (x : Option InSeen) → end_at xs c ≡ x → is_some x ≡ true → c < length xs
-    by_end (Some e) p h = none-after xs c e p
-    by_end None p h = cc
 
 -- the ends above several nodes
 add-append : {X : Type 0} (x : Option X) (xs ys : List X) → add_some x (xs ++ ys) ≡ add_some x xs ++ ys
@@ -161,9 +154,6 @@ module _ (seat : ℕ) (before : List (Option InSeen)) (had : List SeatIn) (cs : 
     front-length : length (take k cs) ≡ k
     front-length = length-take-le k cs (omega (arith, inside))
 
-    pub giving-few : (n : ℕ) → left before < n → k < n
-    giving-few n l = let a = h.left in let b = front-length in omega (arith, a, b, l)
-
     pub giving-next : (inns' : List (Option InSeen)) (ins' : List SeatIn) (e : InSeen) → end_at inns child ≡ Some e → inns' ≡ slice_set inns child None → ins' ≡ ins ++ record { seat = seat; input = k; end = e } ∷ []
         → IsGiving seat before had (take (k + 1) cs) inns' ins'
     giving-next inns' ins' e here p q =
@@ -181,10 +171,6 @@ module _ (seat : ℕ) (before : List (Option InSeen)) (had : List SeatIn) (cs : 
       let c = length-entries seat 0 (ends_at before (take k cs)) in
       let d = ends_at-length before (take k cs) (front-there k) in
       let e = h.left in omega (arith, a, b, c, d, e)
-
-  -- all were given
-  pub giving-all : (k : ℕ) (inns : List (Option InSeen)) (ins : List SeatIn) → k ≡ length cs → IsGiving seat before had (take k cs) inns ins → IsGiving seat before had cs inns ins
-  giving-all k inns ins e h = subst (λ f. IsGiving seat before had f inns ins) (take_all k cs (omega (arith, e))) h
 
 -- one end at least is there
 pub some-left : (xs : List (Option InSeen)) (c : ℕ) (e : InSeen) → end_at xs c ≡ Some e → 0 < left xs

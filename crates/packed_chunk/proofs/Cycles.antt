@@ -1,5 +1,5 @@
 -- Points that move along a cycle of places.
-use Rattle.std.proofs.Common.{◌≡◌, ℕ, zero, suc, ◌+◌, ◌<◌, ◌⊎◌, inl, inr, List, [], ◌∷◌, length, get_or, set, cond, eqb, ⊎_elim, refl, ap, sym, ◌∙◌, arith}
+use Rattle.std.proofs.Common.{◌≡◌, ℕ, zero, suc, ◌+◌, ◌<◌, ◌⊎◌, inl, inr, List, [], ◌∷◌, length, get_or, set, cond, eqb, ⊎_elim, ap, sym, ◌∙◌, arith}
 use Rattle.std.proofs.lemmas.Bool.{cases_eq}
 use Rattle.std.proofs.lemmas.Bool.Decides.{nat_tests}
 use Rattle.std.proofs.lemmas.List.{length-set, get_or-set_same, get_or-set_other}
@@ -53,27 +53,6 @@ pub record Carries (n free : ℕ) (old now : List ℕ) (points after : List Poin
   pub stays : (k : ℕ) → k < n → (k ≡ free → ⊥) → Unsettled now k → get_or after k zero_point ≡ get_or points k zero_point
 
 module _ (n start : ℕ) (old : List ℕ) (places : ArePlaces n old) where
-  -- it begins at a place that is not settled
-  pub walks_first : start < n → Unsettled old start → Walks n start start old old
-  walks_first inside left = record {
-    each = places.each;
-    start_in = inside;
-    free_in = inside;
-    kept = λ k l. inr refl;
-    source = refl;
-    left = left;
-    onward = λ k l u. inr (λ q. u (places.once (get_or old k 0) k (places.low k l) l q));
-    before = λ k l q. inl refl;
-    gone = inl refl;
-  }
-
-  pub carries_first : (points : List Point) → length points ≡ n → Carries n start old old points points
-  carries_first points many = record {
-    many = many;
-    come = λ k l off q. ap (λ z. get_or points z zero_point) (sym q);
-    stays = λ k l off u. refl;
-  }
-
   module _ (free : ℕ) (now : List ℕ) (w : Walks n start free old now) where
     abbrev next : List ℕ
     next = set now free free

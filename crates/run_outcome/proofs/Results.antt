@@ -9,10 +9,6 @@ pub if-ok2 : {R E : Type 0} (o : Result R E) {P Q Z : R → Type 0} → IfOk o P
 if-ok2 (Ok r) p q f = f r p q
 if-ok2 (Err e) p q f = tt
 
-pub if-ok3 : {R E : Type 0} (o : Result R E) {P Q W Z : R → Type 0} → IfOk o P → IfOk o Q → IfOk o W → ((r : R) → P r → Q r → W r → Z r) → IfOk o Z
-if-ok3 (Ok r) p q w f = f r p q w
-if-ok3 (Err e) p q w f = tt
-
 pub if-err : {R E : Type 0} (o : Result R E) {P Q : E → Type 0} → IfErr o P → ((e : E) → P e → Q e) → IfErr o Q
 if-err (Ok r) p f = tt
 if-err (Err e) p f = f e p

@@ -335,10 +335,3 @@ pub files-are : (o : Options) (setting : Setting) (given : Flow Point) → files
 files-are (WritersLas o) setting given = files-by (is_numbered o.filename) o.filename _ given
 files-are (WritersText o) setting given = files-by (is_numbered o.filename) o.filename _ given
 files-are o setting given = refl
-
--- a reader has no fault on what it would take
-pub reader-sound : (o : Options) (setting : Setting) (flow : Flow Point) → is_reading (role_of o) ≡ true → rows.fault_on (row_of o setting) flow ≡ None
-reader-sound (ReadersLas o) setting flow reads = refl
-reader-sound (WritersLas o) setting flow reads = absurd (true≢false (sym reads ∙ writer-inner (is_numbered o.filename) o.filename))
-reader-sound (WritersText o) setting flow reads = absurd (true≢false (sym reads ∙ writer-inner (is_numbered o.filename) o.filename))
-reader-sound o setting flow reads = absurd (true≢false (sym reads))

@@ -1,6 +1,5 @@
 pub mod Codes
 pub mod Expressions
-pub mod Faults
 pub mod Ferries
 pub mod Kinds
 pub mod Roles

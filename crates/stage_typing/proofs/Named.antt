@@ -10,7 +10,7 @@ use Rattle.stage_names.specs.declared.faults.PipeFault.TheVariants.{OptionUnknow
 use Rattle.stage_options.specs.Rules.{Allowed, Rule, required, source, target, rules_of, fits}
 use Rattle.stage_typing.specs.Typed.{is_named}
 use Rattle.stage_options.specs.Values.{is_source, is_target}
-use Rattle.stage_options.specs.Faults.{or_else}
+use Rattle.stage_names.specs.Faults.{or_else}
 use Rattle.stage_typing.specs.OptionFaults.{first_unknown, first_missing, first_wrong, fault_by, first_fault}
 
 second_none : (a b : Option PipeFault) → or_else a b ≡ None → b ≡ None

@@ -4,7 +4,7 @@ use Rattle.std.proofs.lemmas.List.{append_assoc}
 use Rattle.pipeline_json.specs.Shown.{stage_view, stages_view}
 use Rattle.pipeline_json.specs.declared.stage.RawStage.{RawStage}
 use Rattle.stage_typing.proofs.Elements.{drop_next}
-use Rattle.stage_options.specs.Faults.{or_else}
+use Rattle.stage_names.specs.Faults.{or_else}
 use Rattle.stage_options.specs.declared.stage.StageSpec.{StageSpec}
 use Rattle.stage_typing.specs.TypedTree.{stage_fault, spec_of, specs_of, options_fault}
 

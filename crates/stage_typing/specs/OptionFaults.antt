@@ -8,7 +8,7 @@ use Rattle.pipeline_json.specs.Lists.{is_empty}
 use Rattle.stage_names.specs.declared.kinds.KindName.{KindName}
 use Rattle.stage_names.specs.declared.faults.PipeFault.{PipeFault}
 use Rattle.stage_names.specs.declared.faults.PipeFault.TheVariants.{OptionUnknown, OptionMissing, OptionValue}
-use Rattle.stage_options.specs.Faults.{or_else}
+use Rattle.stage_names.specs.Faults.{or_else}
 use Rattle.stage_options.specs.Values.{value_of}
 use Rattle.stage_options.specs.Rules.{Allowed, Presence, always, one_of, along_with, apart_from, Rule, rules_of, fits}
 

@@ -8,7 +8,7 @@ use Rattle.pipeline_json.specs.Stages.{Stage}
 use Rattle.stage_options.specs.declared.options.Options.{Options}
 use Rattle.stage_options.specs.declared.stage.StageSpec.{StageSpec}
 use Rattle.stage_typing.specs.OptionFaults.{first_fault}
-use Rattle.stage_options.specs.Faults.{or_else}
+use Rattle.stage_names.specs.Faults.{or_else}
 use Rattle.stage_typing.specs.Outputs.{same_output}
 use Rattle.stage_typing.specs.Typed.{typed_of}
 

@@ -4,7 +4,7 @@ ghost use Rattle.std.specs.Prelude.{◌≡◌, ◌≤◌, length, Ok, None, IfOk
 ghost use Rattle.pipeline_json.specs.Shown.{stage_view, stages_view};
 ghost use Rattle.pipeline_json.specs.Trees.{IsTree};
 ghost use Rattle.pipeline_json.specs.TreeShown.{tree_view};
-ghost use Rattle.stage_options.specs.Faults.{IsFaultOf};
+ghost use Rattle.stage_names.specs.Faults.{IsFaultOf};
 ghost use Rattle.stage_options.specs.Kinds.{HaveOwnOptions};
 ghost use Rattle.stage_options.specs.Shapes.{shapes};
 ghost use Rattle.stage_options.specs.TreeShown.{specs_view};

@@ -5,7 +5,7 @@ ghost use Rattle.std.specs.Option.{unwrap_or};
 ghost use Rattle.serde_json.specs.View.{members_view};
 ghost use Rattle.stage_typing.specs.Typed.{typed_of, is_named, range_options, crop_options, assign_options, ferry_options, expression_options, decimation_options, head_options, returns_options, sort_options, tail_options, groupby_options, splitter_options, voxeldownsize_options, las_writer_options, text_options_in};
 ghost use Rattle.stage_typing.specs.OptionFaults.{first_fault};
-ghost use Rattle.stage_options.specs.Faults.{IsFaultOf};
+ghost use Rattle.stage_names.specs.Faults.{IsFaultOf};
 ghost use Rattle.stage_options.specs.Values.{is_source, is_target};
 ghost use Rattle.stage_options.specs.declared.options.Options.TheVariants as typed_as;
 

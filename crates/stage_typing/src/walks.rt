@@ -8,7 +8,7 @@ ghost use Rattle.serde_json.specs.View.{members_view};
 ghost use Rattle.stage_options.specs.Rules.{is_within, is_between, has_size, is_either, fits};
 ghost use Rattle.stage_options.specs.Values.{value_of};
 ghost use Rattle.stage_typing.specs.OptionFaults.{names_of, lesser, least, is_known, first_unknown, stands, is_missing, first_missing, is_wrong, holds_one, is_barred, first_wrong, fault_by};
-ghost use Rattle.stage_options.specs.Faults.{IsFaultOf};
+ghost use Rattle.stage_names.specs.Faults.{IsFaultOf};
 ghost use Rattle.stage_options.specs.Seen.{allowed_view, rule_view, rules_view, given_view};
 
 use option_texts::{groups_of, is_columns, is_forward};

@@ -14,7 +14,6 @@ use Rattle.stage_meanings.specs.Steps.{Steps, unless, given, reached, stopped}
 use Rattle.stage_meanings.proofs.Spots.{after_within, one_then, same_spot}
 use Rattle.stream_filters.specs.Masks.{is_odd, marked, mask_of, IsMaskOf}
 use Rattle.stream_filters.proofs.Moving.{cons-last}
-use Rattle.std.proofs.lemmas.List.{at_drop_more}
 use Rattle.std.proofs.lemmas.Bool.Decides.{nat_tests}
 use mir.Val.{bool_byte}
 use Rattle.cloud_points.specs.declared.point.Point.{Point}
@@ -53,10 +52,6 @@ module _ {P : Type 0} (test : P → Bool) where
       let most_below : 2 ^ at ≤ 2 ^ 63 = pow-le-pow_right {n = 2} (omega arith) {i = at} {j = 63} (omega arith) in
       let h : mask_of test (drop (length ps - at) ps) < 2 ^ at = (let Q : ℕ → Type 0 = λ n. mask_of test (drop (length ps - at) ps) < 2 ^ n in subst Q few (mask_small (drop (length ps - at) ps))) in
       omega (arith, h, most_below)
-
-  -- with the point before
-  pub mask_more : (ps : List P) (k : ℕ) (d : P) → k < length ps → mask_of test (drop k ps) ≡ 2 * mask_of test (drop (k + 1) ps) + cond (test (get_or ps k d)) 1 0
-  mask_more ps k d inside = at_drop_more (mask_of test) ps k d inside
 
   pub tests_are_masks : {R : Type 0} (rule : Rule P R) → ((place : ℕ) (p : P) → judged rule place p ≡ Ok (keeps (test p) p)) → (ps : List P) → IsMaskOf rule (mask_of test ps) ps
   tests_are_masks rule sound [] = tt

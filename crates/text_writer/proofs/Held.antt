@@ -13,11 +13,6 @@ use Rattle.text_writer.specs.TextOutput.{header_line, text_line, text_output, ho
 pub text-append : (f : TextForm) (a b : List Point) → text_output f (a ++ b) ≡ text_output f a ++ flat_map (text_line f) b
 text-append f a b = ap (λ z. header_line f ++ z) (flat_map-append (text_line f) a b) ∙ sym (append_assoc (header_line f) (flat_map (text_line f) a) (flat_map (text_line f) b))
 
--- a sink that tells its bytes tells the text that it holds
-pub held_text : (o : Option (List ℕ)) (f : TextForm) (ps : List Point) → holds_text o f ps ≡ true → IsAsTold o (Some (text_output f ps))
-held_text None f ps h = λ x e. cc
-held_text (Some bytes) f ps h = λ x e. ap (λ z. Some z) (sym ((bytes_eq-Decides bytes (text_output f ps)).0 h)) ∙ e
-
 -- one that tells the text holds it
 pub holds_told : (o : Option (List ℕ)) (f : TextForm) (ps : List Point) → IsAsTold o (Some (text_output f ps)) → holds_text o f ps ≡ true
 holds_told None f ps h = refl

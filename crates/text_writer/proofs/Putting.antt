@@ -3,7 +3,6 @@ use Rattle.std.proofs.Common.{◌≡◌, ℕ, ◌+◌, ◌*◌, ◌-◌, ◌<◌
 use Rattle.std.proofs.lemmas.List.{take-append-le, take_min, take_all, drop_all, take-append-drop}
 use Rattle.std.proofs.lemmas.Grind.{flat_map-append}
 use Rattle.std.proofs.Math.Seq.{take-append-add, take-add}
-use Rattle.std.proofs.Math.Nat.{mul-le-mul_right}
 use Rattle.std.specs.List.{flat_map}
 use Rattle.cloud_points.specs.declared.point.Point.{Point}
 use Rattle.file_devices.specs.Content.{Appends, AppendsPart}
@@ -49,10 +48,6 @@ line_written form points count at start d old buffer more some order short size 
       written = is ∙ ap (λ ys. text_line form (get_or points (count - 1) d) ++ ys) (was.written ∙ ap (λ n. flat_map (text_line form) (drop n points)) (sym next))
           ∙ sym (more_in_front (text_line form) points (count - 1) d before);
     }
-
--- fewer points than have room have room
-pub have_room : (n most size room : ℕ) → n ≤ most → most * size ≤ room → n * size ≤ room
-have_room n most size room few all = let less : n * size ≤ most * size = mul-le-mul_right size few in omega (arith, less)
 
 -- the lines of the first points were put
 pub record Putting (form : TextForm) (points : List Point) (count size_before size : ℕ) (sink_before sink : Option (List ℕ)) (faults_before faults : ℕ) : Type 0 where

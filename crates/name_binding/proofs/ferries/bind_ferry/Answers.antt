@@ -2,7 +2,7 @@ use Rattle.std.proofs.Common.{subst}
 use Rattle.cloud_points.specs.ExtraNames.{dim_in}
 use Rattle.cloud_points.specs.Layouts.{holds}
 use Rattle.expr_eval.specs.Bindings.{bound_dim}
-use Rattle.stage_options.specs.Faults.{IsFaultOf}
+use Rattle.stage_names.specs.Faults.{IsFaultOf}
 use Rattle.name_binding.specs.Ferries.{target_refused}
 use Rattle.name_binding.specs.Refusals.{refused}
 use Rattle.name_binding.proofs.Behind.{second_fault}

@@ -1,7 +1,7 @@
 use Rattle.std.proofs.Common.{◌≡◌, Err, sym, subst, ◌∙◌, rules}
 use Rattle.cloud_points.specs.Layouts.{holds}
 use Rattle.name_binding.specs.Binding.{where_refused}
-use Rattle.stage_options.specs.Faults.{or_else, IsFaultOf}
+use Rattle.stage_names.specs.Faults.{or_else, IsFaultOf}
 use Rattle.stage_options.specs.Where.{only_of}
 use Rattle.name_binding.proofs.Others.{filter_names}
 use Rattle.name_binding.proofs.binding.Binder.stage.Goals as goal
