@@ -1,14 +1,18 @@
--- The columns that a text lists are few, and have one digit each.
+-- The columns and fields that a text lists are few, and have one digit each.
 use Rattle.std.proofs.Common.{◌≡◌, ℕ, suc, ◌-◌, ◌≤◌, nat_le, Bool, true, false, List, [], ◌∷◌, length, Option, Some, None, IfSome, All, if◌then◌else◌, option_and_then, option_map, refl, sym, ap, subst, arith, leb-true}
 use Rattle.std.proofs.lemmas.Option.{none-some, same_Some}
 use Rattle.std.proofs.lemmas.List.Elements.{All-cons, All-nil}
 use Rattle.std.proofs.lemmas.Bool.{and_parts}
 use Rattle.std.specs.Char.{is_ascii_digit}
 use Rattle.std.specs.List.{before_first, after_first}
+use Rattle.cloud_points.specs.declared.extra.ExtraKind.{ExtraKind}
 use Rattle.option_texts.specs.declared.columns.NamedColumn.{NamedColumn}
+use Rattle.option_texts.specs.declared.extra_dims.NamedField.{NamedField}
 use Rattle.option_texts.specs.Parts.{parts_of, each_read, trimmed}
 use Rattle.text_bytes.specs.Bytes.{is_name}
 use Rattle.option_texts.specs.Columns.{digit_of, column_with, column_of, columns_of, AreColumns, has_colon, is_colon}
+use Rattle.option_texts.specs.Ferries.{has_equals, is_equals}
+use Rattle.option_texts.specs.NamedFields.{kind_called, field_with, field_typed, field_asked, are_different, AreFields}
 
 both_read : {X : Type 0} (o : Option X) (r : Option (List X)) (xs : List X) → option_and_then (λ x. option_map (λ ys. x ∷ ys) r) o ≡ Some xs
     → (x : X) × (ys : List X) × (o ≡ Some x) × (r ≡ Some ys) × (x ∷ ys ≡ xs)
@@ -65,3 +69,46 @@ are_columns text columns e = by_count (nat_le (length (parts_of text)) 64) refl 
         let (count, near) = each_all column_of (λ c. IfSome c.places (λ n. n ≤ 9)) near_column (parts_of text) columns e in
         record { few = subst (λ n. n ≤ 64) (sym count) (leb-true (length (parts_of text)) 64 is); near = near }
     by_count false is e = absurd (none-some columns e)
+
+-- ---- fields of extra dimensions
+
+abbrev IsField : NamedField → Type 0
+IsField f = (is_name f.name ≡ true) × (f.places ≤ 9)
+
+field_named : (name : List ℕ) (kind : ExtraKind) (places : ℕ) (is : Bool) (f : NamedField) → is_name name ≡ is
+    → (if is then Some (record { name = name; kind = kind; places = places }) else None) ≡ Some f → places ≤ 9 → IsField f
+field_named name kind places true f named e near = subst IsField (same_Some (record { name = name; kind = kind; places = places }) f e) (named, near)
+field_named name kind places false f named e near = absurd (none-some f e)
+
+is_field : (name : List ℕ) (kind : Option ExtraKind) (places : ℕ) (f : NamedField) → field_with name kind places ≡ Some f → places ≤ 9 → IsField f
+is_field name None places f e near = absurd (none-some f e)
+is_field name (Some kind) places f e near = field_named name kind places (is_name name) f refl e near
+
+typed_field : (name text : List ℕ) (f : NamedField) → field_typed name text ≡ Some f → IsField f
+typed_field name text f e = by_colon (has_colon text) e
+  where
+    by_digit : (o : Option ℕ) (kind : Option ExtraKind) → ((d : ℕ) → o ≡ Some d → d ≤ 9) → option_and_then (field_with name kind) o ≡ Some f → IsField f
+    by_digit None kind small e = absurd (none-some f e)
+    by_digit (Some d) kind small e = is_field name kind d f e (small d refl)
+
+    by_colon : (has : Bool) → (if has then option_and_then (field_with name (kind_called (trimmed (before_first is_colon text)))) (digit_of (trimmed (after_first is_colon text))) else field_with name (kind_called (trimmed text)) 0) ≡ Some f
+        → IsField f
+    by_colon true e = by_digit (digit_of (trimmed (after_first is_colon text))) (kind_called (trimmed (before_first is_colon text))) (digit_is_small (trimmed (after_first is_colon text))) e
+    by_colon false e = is_field name (kind_called (trimmed text)) 0 f e (omega arith)
+
+asked_field : (part : List ℕ) (f : NamedField) → field_asked part ≡ Some f → IsField f
+asked_field part f e = by_equals (has_equals part) e
+  where
+    by_equals : (has : Bool) → (if has then field_typed (trimmed (before_first is_equals part)) (after_first is_equals part) else None) ≡ Some f → IsField f
+    by_equals true e = typed_field (trimmed (before_first is_equals part)) (after_first is_equals part) f e
+    by_equals false e = absurd (none-some f e)
+
+pub are_fields : (parts : List (List ℕ)) (fields : List NamedField) → nat_le (length parts) 8 ≡ true → each_read field_asked parts ≡ Some fields → are_different fields ≡ true → AreFields fields
+are_fields parts fields few e different =
+    let (count, named) = each_all field_asked (λ f. is_name f.name ≡ true) (λ part f is. (asked_field part f is).0) parts fields e in
+    record {
+      few = subst (λ n. n ≤ 8) (sym count) (leb-true (length parts) 8 few);
+      named = named;
+      near = (each_all field_asked (λ f. f.places ≤ 9) (λ part f is. (asked_field part f is).1) parts fields e).1;
+      different = different;
+    }

@@ -3,3 +3,5 @@ pub mod Columns
 pub mod Forward
 pub mod Ferries
 pub mod Groups
+pub mod NamedFields
+pub mod ExtraDims

@@ -6,7 +6,7 @@ ghost use Rattle.option_texts.specs.Columns.{digit_of, column_with, column_of, c
 ghost use Rattle.option_texts.specs.Parts.{parts_of};
 ghost use Rattle.option_texts.specs.declared.columns.NamedColumn.{NamedColumn as ColumnSeen};
 
-use crate::parts::{ListPart, has_few_parts, read_all, trimmed};
+use crate::parts::{ListPart, MOST_PARTS, has_few_parts, read_all, trimmed};
 use file_devices::Name;
 use std::alloc::{AllocError, Global};
 use std::marker::Model;
@@ -73,7 +73,7 @@ struct Cell<'a> {
 }
 
 /// The digit that a text is.
-fn read_digit(text: &str) -> Option<u32>
+pub(crate) fn read_digit(text: &str) -> Option<u32>
     ensures { result ≡ digit_of text.now }
 {
     match text.as_bytes() {
@@ -128,7 +128,7 @@ fn are_columns(text: &str) -> bool
 pub fn is_columns(text: &str) -> bool
     ensures { result ≡ is_some (columns_of text.now) }
 {
-    has_few_parts(text) && are_columns(text)
+    has_few_parts(text, MOST_PARTS) && are_columns(text)
 }
 
 impl ListPart for NamedColumn {
@@ -147,7 +147,7 @@ impl ListPart for NamedColumn {
 pub fn columns_of(alloc: Global, text: &str) -> Result<Option<NamedColumns>, AllocError>
     ensures { IfOk result (λ columns. columns ≡ columns_of text.now) }
 {
-    if !has_few_parts(text) {
+    if !has_few_parts(text, MOST_PARTS) {
         return Ok(None);
     }
     match read_all(alloc, text)? {

@@ -3,7 +3,7 @@
 ghost use Rattle.std.specs.Prelude.{◌≡◌, [], Some, None, MatchOption, IfOk};
 ghost use Rattle.option_texts.specs.Ferries.{ferry_with, ferry_of, ferries_of};
 
-use crate::parts::{ListPart, has_few_parts, read_all, trimmed};
+use crate::parts::{ListPart, MOST_PARTS, has_few_parts, read_all, trimmed};
 use file_devices::Name;
 use std::alloc::{AllocError, Global};
 use std::marker::Model;
@@ -102,7 +102,7 @@ impl ListPart for NamedFerry {
 pub fn ferries_of(alloc: Global, text: &str) -> Result<Option<NamedFerries>, AllocError>
     ensures { IfOk result (λ ferries. ferries ≡ ferries_of text.now) }
 {
-    if !has_few_parts(text) {
+    if !has_few_parts(text, MOST_PARTS) {
         return Ok(None);
     }
     match read_all(alloc, text)? {

@@ -5,8 +5,8 @@ ghost use Rattle.option_texts.specs.Parts.{trimmed, parts_of, each_read};
 
 use std::alloc::{AllocError, Global};
 
-/// The most parts of a list whose parts are counted.
-const MOST_PARTS: usize = 64;
+/// The most parts of a list of columns or ferries.
+pub(crate) const MOST_PARTS: usize = 64;
 
 /// What may stand between the tokens of a list.
 const SPACES: [char; 4] = [' ', '\t', '\n', '\r'];
@@ -18,11 +18,11 @@ pub(crate) fn trimmed(text: &str) -> &str
     text.trim_start_matches(SPACES).trim_end_matches(SPACES)
 }
 
-/// Whether a text has at most 64 parts.
-pub(crate) fn has_few_parts(text: &str) -> bool
-    ensures { result ≡ nat_le (length (parts_of text.now)) 64 }
+/// Whether a text has at most so many parts.
+pub(crate) fn has_few_parts(text: &str, most: usize) -> bool
+    ensures { result ≡ nat_le (length (parts_of text.now)) most }
 {
-    text.split(',').count() <= MOST_PARTS
+    text.split(',').count() <= most
 }
 
 /// What a part of a list stands for.

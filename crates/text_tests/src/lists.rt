@@ -1,7 +1,9 @@
 //! Texts of options that are lists.
 
+use cloud_points::ExtraKind;
 use option_texts::{
-    Groups, NamedColumn, columns_of, ferries_of, forward_of, groups_of, is_columns, is_forward,
+    ExtraDims, Groups, NamedColumn, NamedField, columns_of, extra_dims_of, ferries_of, forward_of,
+    groups_of, is_columns, is_forward,
 };
 use std::alloc::{AllocError, Global};
 
@@ -53,6 +55,34 @@ const FERRIES: [(&str, &str); 14] = [
     ("X=>A,", "refused"),
     ("X Y=>A", "refused"),
     ("", "refused"),
+];
+
+/// Texts, and the fields that they are read as, each with a bar behind it; `all` for all dimensions.
+const EXTRA_DIMS: [(&str, &str); 18] = [
+    ("all", "all"),
+    (" all ", "all"),
+    ("ALL", "refused"),
+    ("Height=int16:1", "Height=int16:1|"),
+    (" a = uint8 , _b=int64 : 9 ", "a=uint8:0|_b=int64:9|"),
+    ("A=uint32,a=int8", "refused"),
+    (
+        "a=uint8,b=int8,c=uint16,d=int16,e=uint32,f=int32,g=uint64,h=int64",
+        "a=uint8:0|b=int8:0|c=uint16:0|d=int16:0|e=uint32:0|f=int32:0|g=uint64:0|h=int64:0|",
+    ),
+    (
+        "a=int8,b=int8,c=int8,d=int8,e=int8,f=int8,g=int8,h=int8,i=int8",
+        "refused",
+    ),
+    ("Height=int16:", "refused"),
+    ("Height=int16:10", "refused"),
+    ("Height=int", "refused"),
+    ("Height", "refused"),
+    ("=int8", "refused"),
+    ("", "refused"),
+    ("all,Height=int8", "refused"),
+    ("X=float", "refused"),
+    ("X=int8:1:2", "refused"),
+    ("X=int8", "X=int8:0|"),
 ];
 
 /// Texts, and whether the first, the last, those between and single returns are named; None where the text is refused.
@@ -118,6 +148,45 @@ fn shown_ferries(alloc: Global, text: &str) -> Result<String, AllocError> {
     Ok(shown)
 }
 
+/// The name of a kind.
+fn shown_kind(kind: ExtraKind) -> &'static str {
+    match kind {
+        ExtraKind::U8 => "uint8",
+        ExtraKind::I8 => "int8",
+        ExtraKind::U16 => "uint16",
+        ExtraKind::I16 => "int16",
+        ExtraKind::U32 => "uint32",
+        ExtraKind::I32 => "int32",
+        ExtraKind::U64 => "uint64",
+        ExtraKind::I64 => "int64",
+    }
+}
+
+/// Adds a field, with a bar behind it.
+fn show_field(field: &NamedField, shown: &mut String) -> Result<(), AllocError> {
+    shown.push_str(field.name.as_str())?;
+    shown.push('=')?;
+    shown.push_str(shown_kind(field.kind))?;
+    shown.push(':')?;
+    shown.push(char::from_digit(field.places, 10).unwrap_or('?'))?;
+    shown.push('|')
+}
+
+/// The extra dimensions of a text, each with a bar behind it.
+fn shown_extra_dims(alloc: Global, text: &str) -> Result<String, AllocError> {
+    let mut shown = String::new(alloc);
+    match extra_dims_of(alloc, text)? {
+        None => shown.push_str("refused")?,
+        Some(ExtraDims::All) => shown.push_str("all")?,
+        Some(ExtraDims::Fields(fields)) => {
+            for field in fields.as_slice() {
+                show_field(field, &mut shown)?;
+            }
+        }
+    }
+    Ok(shown)
+}
+
 fn shown_groups(groups: Groups) -> [bool; 4] {
     [groups.first, groups.last, groups.intermediate, groups.only]
 }
@@ -126,6 +195,15 @@ fn shown_groups(groups: Groups) -> [bool; 4] {
 fn ferries_are_read(rt: HostRuntime) -> Result<(), AllocError> {
     for (text, expected) in FERRIES {
         let shown = shown_ferries(rt.alloc(), text)?;
+        assert!(rt; shown.as_str() == expected);
+    }
+    Ok(())
+}
+
+#[test]
+fn extra_dims_are_read(rt: HostRuntime) -> Result<(), AllocError> {
+    for (text, expected) in EXTRA_DIMS {
+        let shown = shown_extra_dims(rt.alloc(), text)?;
         assert!(rt; shown.as_str() == expected);
     }
     Ok(())
