@@ -12,4 +12,5 @@ pub mod Bodies
 pub mod Makes
 pub mod Queue
 pub mod ExtraNames
+pub mod Extents
 pub mod ExtraFields

@@ -1,9 +1,9 @@
--- A meaning over one variant of a larger state.
+-- A meaning over one variant of a larger state. Over any other variant the points go on as they are, and nothing changes.
 use Rattle.std.proofs.Common.{◌≡◌, ◌≢◌, ◌≤◌, Bool, false, List, [], ◌∷◌, ◌++◌, length, Option, Some, None, refl, ap, ◌∙◌, arith}
 use Rattle.cloud_points.specs.Meaning.{Meaning, KeepsCutting}
 
 abbrev pub emit_at : {S P F : Type 0} → Meaning S P F → Option S → List P → List P
-emit_at m None a = []
+emit_at m None a = a
 emit_at m (Some s) a = m.emit s a
 
 abbrev pub after_at : {S T P F : Type 0} → Meaning S P F → (S → T) → T → Option S → List P → T
@@ -58,7 +58,7 @@ module _ {S T P F : Type 0} (m : Meaning S P F) (law : KeepsCutting m) (project 
   stops_fault a b (Some s) h = law.stops_fault s a b h
 
   holds_back : (p : P) (o : Option S) → fault_at m o (p ∷ []) ≢ None → emit_at m o (p ∷ []) ≡ []
-  holds_back p None h = refl
+  holds_back p None h = absurd (h refl)
   holds_back p (Some s) h = law.holds_back s p h
 
   rests : (t : T) (o : Option S) → project t ≡ o → after_at m inject t o [] ≡ t

@@ -21,6 +21,6 @@ pub use flow::flow_laws;
 pub use item::{Body, Item};
 pub use layout::Layout;
 pub use names::{AddFault, ExtraNames, dim_of, name_of, standard_dim};
-pub use point::Point;
+pub use point::{MOST_NANO, Point};
 pub use spread::{MOST_POINTS, Spread, put_points};
 pub use work::Work;

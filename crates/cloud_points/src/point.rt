@@ -13,8 +13,8 @@ use ieee_words::word_order;
 /// One unit in nanounits.
 const NANO: i128 = 1_000_000_000;
 
-/// More than any dimension of whole numbers holds, in nanounits.
-const MOST_NANO: i128 = 4_000_000_000_000_000_000;
+/// The greatest size of a coordinate or an extra value, in nanounits. No dimension of whole numbers holds more.
+pub const MOST_NANO: i128 = 4_000_000_000_000_000_000;
 
 /// A point: what an ASPRS LAS point data record holds, and eight extra values, in the units of `Dim`.
 ///

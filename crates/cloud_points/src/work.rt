@@ -1,7 +1,8 @@
 //! What a stage does with points.
 
-ghost use Rattle.std.specs.Prelude.{◌≡◌, ◌≢◌, ℕ, ◌+◌, ◌<◌, ◌≤◌, Bool, true, false, List, [], ◌++◌, Option, None, is_some};
+ghost use Rattle.std.specs.Prelude.{◌≡◌, ◌≢◌, ℕ, ◌+◌, ◌<◌, ◌≤◌, max, Bool, true, false, List, [], ◌++◌, Option, None, is_some};
 ghost use Rattle.arrayvec.specs.ArrayVec.{array_vec_len};
+ghost use Rattle.cloud_points.specs.Extents.{Extent};
 ghost use Rattle.cloud_points.specs.Meaning.{Meaning, KeepsCutting};
 
 use crate::faults::{Make, StageFault};
@@ -52,6 +53,12 @@ pub trait Work {
 
     ghost views_left: { Self → ℕ };
 
+    /// The points in what a leaf reads, where that is told.
+    ghost extent: { Self → Option Extent };
+
+    /// How many points a leaf has read beyond those that it gave.
+    ghost ahead: { Self → ℕ };
+
     /// Whether its sink holds what these points come to, where it has one that tells its bytes; true of any other work.
     /// It stands beside the state, because a sink may stop telling.
     ghost holds: { Self → List Point → Bool };
@@ -87,6 +94,8 @@ pub trait Work {
         ensures tells { tells self.old ≡ true → is_device (made_fault result) ≡ false
             → gives_end result ≡ false → tells self.new ≡ true }
 
+        ensures extent { extent self.new ≡ extent self.old }
+        ensures ahead { ahead self.new + array_vec_len into.new ≤ max chunk (ahead self.old) }
         ensures fewer_points { points_left self.new + array_vec_len into.new ≤ points_left self.old }
         ensures fewer_views { views_left self.new + views_in (made result into.new.items)
             ≤ views_left self.old }

@@ -5,11 +5,8 @@ ghost use Rattle.cloud_points.specs.ExtraFields.{kind_size};
 ghost use Rattle.extra_bytes.specs.Values.{LiesIn, raw_at, value_of, is_held, extra_read};
 
 use byte_numbers::{i8_at, i16_at, i32_at, u8_at, u16_at, u32_at, u64_at};
-use cloud_points::{ExtraField, ExtraKind, OutOfRange};
+use cloud_points::{ExtraField, ExtraKind, MOST_NANO, OutOfRange};
 use decimal_coords::Scale;
-
-/// The greatest size of a value, in nanounits.
-const MOST_NANO: i128 = 4_000_000_000_000_000_000;
 
 /// The raw number of a kind at a place.
 #[inline]

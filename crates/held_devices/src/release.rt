@@ -1,9 +1,11 @@
 //! What a run holds is given back.
 
-ghost use Rattle.std.specs.Prelude.{◌≡◌, ◌≤◌, ◌+◌, ℕ, slice_get, Some};
+ghost use Rattle.std.specs.Prelude.{◌≡◌, ◌≤◌, ◌+◌, ℕ, slice_get, sum_by, option_map, Some};
 ghost use Rattle.file_devices.specs.Counts.{saturating};
+ghost use Rattle.file_devices.specs.Told.{IsAsTold};
 ghost use Rattle.stage_kinds.specs.declared.stage_work.StageWork as work_type;
 ghost use Rattle.stage_kinds.specs.Held.{op_of, faults_of};
+ghost use Rattle.stage_kinds.specs.Leads.{reached_of};
 ghost use Rattle.held_devices.specs.Holding.{there, all_there, all_held};
 
 use file_devices::Files;
@@ -34,6 +36,8 @@ pub fn release_work<F: Files>(files: &mut F, work: StageWork<F::In, F::Out>)
     ensures later { F.faults files.old ≤ F.faults files.new }
     ensures counted { saturating (F.faults files.old) (faults_of F.In.faults F.Out.faults work)
         ≤ F.faults files.new }
+    ensures read { IsAsTold (F.read_to files.new)
+        (option_map (λ n. n + reached_of F.In.reached work) (F.read_to files.old)) }
 {
     match work.release() {
         Held::Nothing => {}
@@ -50,6 +54,8 @@ pub fn release_works<F: Files>(files: &mut F, works: Vec<StageWork<F::In, F::Out
     ensures later { F.faults files.old ≤ F.faults files.new }
     ensures counted { (i : ℕ) (w : work_type.StageWork F.In F.Out) → slice_get works.items i ≡ Some w
         → saturating (F.faults files.old) (faults_of F.In.faults F.Out.faults w) ≤ F.faults files.new }
+    ensures read { IsAsTold (F.read_to files.new)
+        (option_map (λ n. n + sum_by (reached_of F.In.reached) works.items) (F.read_to files.old)) }
 {
     let mut works = works;
     while let Some(work) = works.pop() {

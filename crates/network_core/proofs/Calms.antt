@@ -31,6 +31,9 @@ calm-self g n = record {
   stays = λ h. refl;
   cause = λ f d. no_device n.fault f d;
   named = unnamed (g.op n.work) n.fault;
+  chunk = refl;
+  extent = λ e. refl;
+  spare = λ h. h;
 }
 
 -- counts that rose over a part rose over the whole
@@ -80,6 +83,9 @@ calm-on g l m n a b = record {
   stays = λ h. b.stays (ap is_some (a.stays h) ∙ h) ∙ a.stays h;
   cause = λ f d. by_fault (is_some m.fault) refl f d;
   named = λ f. named_by (is_some m.fault) refl f;
+  chunk = b.chunk ∙ a.chunk;
+  extent = λ e. b.extent (a.leaf ∙ e) ∙ a.extent e;
+  spare = λ h. b.spare (a.spare h);
 }
   where
     by_fault : (x : Bool) → is_some m.fault ≡ x → is_some l.fault ≡ false → is_device n.fault ≡ true → Rose (g.faults l.work) (g.faults n.work)

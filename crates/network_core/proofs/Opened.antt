@@ -50,7 +50,7 @@ some_at [] k h = absurd (omega arith)
 some_at (x ∷ xs) zero h = (x, refl)
 some_at (x ∷ xs) (suc k) h = some_at xs k (omega arith)
 
-none-beyond : (xss : List (List ℕ)) (k : ℕ) → length xss ≤ k → children xss k ≡ []
+pub none-beyond : (xss : List (List ℕ)) (k : ℕ) → length xss ≤ k → children xss k ≡ []
 none-beyond [] k h = refl
 none-beyond (xs ∷ xss) zero h = absurd (omega arith)
 none-beyond (xs ∷ xss) (suc k) h = none-beyond xss k (omega arith)

@@ -1,15 +1,20 @@
 -- Events of a turn, and what holds where none came.
-use Rattle.std.specs.Prelude.{◌≡◌, ℕ, ◌≤◌, List, None, true, false, is_some}
+use Rattle.std.specs.Prelude.{◌≡◌, ℕ, ◌+◌, ◌≤◌, List, None, true, false, is_some}
 use Rattle.cloud_points.specs.declared.work.Work.{Ghosts}
 use Rattle.file_devices.specs.Counts.{Rose}
 use Rattle.cloud_points.specs.Events.{is_device, ran_short, IsOf}
+use Rattle.network_theory.specs.Flight.{hand_points}
 use Rattle.network_theory.specs.Net.{holds_end, IsAllowed, IsQuiet}
 use Rattle.network_core.specs.declared.node.Node.{Node}
 use Rattle.network_core.specs.Hands.{seen_hand}
 use Rattle.network_core.specs.Shown.{shown, choice}
 
+-- of a leaf, the points in its hand and those that it read beyond are together at most a chunk
+abbrev pub IsSpare : {W S : Type 0} (g : Ghosts W S) → Node W → Type 0
+IsSpare g n = g.leaf n.work ≡ true → hand_points (seen_hand n.hand n.spread.items) + g.ahead n.work ≤ n.chunk
+
 -- counts of faults do not fall, want of memory stays noted, a leaf stays one, a work keeps its device's operation, a node its inputs
--- and its first fault, and a new fault of a device has its cause and names that operation
+-- and its first fault, a new fault of a device has its cause and names that operation, and what a leaf reads stays the same
 pub record Calm {W S : Type 0} (g : Ghosts W S) (old new : Node W) : Type 0 where
   pub faults : g.faults old.work ≤ g.faults new.work
   pub short : g.short old.work ≡ true → g.short new.work ≡ true
@@ -19,6 +24,9 @@ pub record Calm {W S : Type 0} (g : Ghosts W S) (old new : Node W) : Type 0 wher
   pub stays : is_some old.fault ≡ true → new.fault ≡ old.fault
   pub cause : is_some old.fault ≡ false → is_device new.fault ≡ true → Rose (g.faults old.work) (g.faults new.work)
   pub named : is_some old.fault ≡ false → IsOf (g.op old.work) new.fault
+  pub chunk : new.chunk ≡ old.chunk
+  pub extent : g.leaf old.work ≡ true → g.extent new.work ≡ g.extent old.work
+  pub spare : IsSpare g old → IsSpare g new
 
 -- no device's fault stands at the node, and no want of memory was noted in between
 pub record NoEvent {W S : Type 0} (g : Ghosts W S) (old new : Node W) : Type 0 where

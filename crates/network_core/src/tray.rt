@@ -1,6 +1,6 @@
 //! The points that a node has in its hand.
 
-ghost use Rattle.std.specs.Prelude.{◌≡◌, ◌<◌, ◌≤◌, ◌+◌, ◌++◌, List, [], true, false, None, drop, length, is_some};
+ghost use Rattle.std.specs.Prelude.{◌≡◌, ◌<◌, ◌≤◌, ◌+◌, ◌++◌, List, [], true, false, None, drop, length, is_some, max};
 ghost use Rattle.arrayvec.specs.ArrayVec.{array_vec_len};
 ghost use Rattle.circular_buffer.specs.Buffer.{buffer};
 ghost use Rattle.file_devices.specs.Counts.{Rose};
@@ -81,6 +81,8 @@ impl Tray {
             → gives_end result ≡ true → W.told_fault work.new ≡ None }
         ensures tells { W.tells work.old ≡ true → is_device (made_fault result) ≡ false
             → gives_end result ≡ false → W.tells work.new ≡ true }
+        ensures extent { W.extent work.new ≡ W.extent work.old }
+        ensures ahead { W.ahead work.new + array_vec_len self.new ≤ max chunk (W.ahead work.old) }
         ensures fewer_points { W.points_left work.new + array_vec_len self.new ≤ W.points_left work.old }
         ensures fewer_views { W.views_left work.new + views_in (made result self.new.items)
             ≤ W.views_left work.old }

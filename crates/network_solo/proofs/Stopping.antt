@@ -10,6 +10,7 @@ use Rattle.cloud_points.specs.Events.{first_fault}
 use Rattle.cloud_points.specs.Marks.{Mark, At, View_end, End}
 use Rattle.cloud_points.specs.Meaning.{Meaning, KeepsCutting}
 use Rattle.network_theory.specs.Net as net
+use Rattle.network_theory.specs.Ahead.{IsClean, AreClean}
 use Rattle.network_theory.specs.Forest.{children}
 use Rattle.network_theory.specs.Machine.{Machine, next, after_all, at_last, one_end}
 use Rattle.network_theory.specs.Opening.{IsSpent, IsOpening}
@@ -24,7 +25,7 @@ use Rattle.network_core.specs.Shown.{shown, turned}
 use Rattle.network_core.specs.Nets.{net_of, root_of, capacity_of, choice_at, ObeysAt, SameShape, shown_or, IsNewNet}
 use Rattle.network_core.proofs.Opened.{some_at}
 use Rattle.network_solo.specs.Runs.{HadTurns, IsRunToEnd}
-use Rattle.network_solo.specs.Stopping.{stops_at, CameToEnd, NoneFaulty, IsOver, IsClean, AreClean, CameInTime, HadInTime, FaultsToCome, IsStoppedTree}
+use Rattle.network_solo.specs.Stopping.{stops_at, CameToEnd, NoneFaulty, IsOver, CameInTime, HadInTime, FaultsToCome, IsStoppedTree}
 use Rattle.network_solo.proofs.Endings.{fault-comes}
 use Rattle.network_solo.proofs.Ran.{node-is, all-told}
 use Rattle.network_solo.proofs.Turning.{no-turns, no-schedule, one-more, more-schedule, spent_of, is-spent, had-work}

@@ -6,6 +6,7 @@ use Rattle.cloud_points.specs.declared.work.Work.{Ghosts}
 use Rattle.cloud_points.specs.Flows.{Flow}
 use Rattle.cloud_points.specs.Meaning.{KeepsCutting}
 use Rattle.network_theory.specs.Net as net
+use Rattle.network_theory.specs.Ahead.{AreClean}
 use Rattle.network_theory.specs.Opening.{IsSpent}
 use Rattle.network_core.specs.declared.node.Node.{Node}
 use Rattle.network_core.specs.declared.net.Net.{Net}
@@ -21,15 +22,6 @@ use Rattle.network_solo.specs.Trees.{Streams, NoneCame, LeavesTell, input_at, fa
 abbrev pub stops_at : Stop → Option StageFault → Bool
 stops_at Last fault = false
 stops_at First fault = is_some fault
-
--- no node up to the root has a fault
-abbrev pub IsClean : {S : Type 0} → net.Net S Point StageFault → ℕ → Type 0
-IsClean n root = (k : ℕ) → k ≤ root → is_some (n.node k).machine.fault ≡ false
-
--- before each of these turns no node had a fault
-abbrev pub AreClean : {S : Type 0} → net.Net S Point StageFault → ℕ → ℕ → List (ℕ × net.Choice S Point StageFault) → Type 0
-AreClean n root cap [] = ⊤
-AreClean n root cap (t ∷ ts) = IsClean n root × AreClean (net.step n root cap t.0 t.1) root cap ts
 
 -- one of these nodes has a fault
 abbrev pub SomeFault : {W S : Type 0} (g : Ghosts W S) → List (Node W) → Type 0

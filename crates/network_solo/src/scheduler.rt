@@ -5,6 +5,7 @@ ghost use Rattle.network_theory.specs.Forest.{IsForest};
 ghost use Rattle.network_core.specs.declared.node.Node.{Node as NodeValue};
 ghost use Rattle.network_core.specs.declared.stop.Stop.{Stop as EndsAt};
 ghost use Rattle.network_core.specs.declared.stop.Stop.TheVariants.{First};
+ghost use Rattle.network_solo.specs.Ahead.{IsReadAhead};
 ghost use Rattle.network_solo.specs.Runs.{IsRanOver};
 ghost use Rattle.network_solo.specs.Stopping.{CameToEnd, IsStoppedTree};
 ghost use Rattle.network_solo.specs.Trees.{AreFresh, IsRanTree};
@@ -57,7 +58,9 @@ pub trait Scheduler<W: Work> {
         ensures ran { CameToEnd W.Work (Self.stop self.now) result → IsRanTree W.Work ins nodes result }
         ensures besides { CameToEnd W.Work (Self.stop self.now) result → (capacity : ℕ)
             → Self.fits (length nodes) capacity edges → Self.besides capacity ins nodes result }
-        ensures stopped { Self.stop self.now ≡ First → IsStoppedTree W.Work ins nodes result };
+        ensures stopped { Self.stop self.now ≡ First → IsStoppedTree W.Work ins nodes result }
+        ensures ahead { Self.stop self.now ≡ First → (capacity : ℕ)
+            → Self.fits (length nodes) capacity edges → IsReadAhead W.Work ins capacity nodes result };
 
     /// Gives back what no nodes took turns over.
     fn let_go(edges: Self::Edges)
@@ -75,6 +78,7 @@ impl<W: Work> Scheduler<W> for OneThread {
     ghost use Rattle.std.specs.Prelude.{◌≡◌, ◌<◌, ◌≤◌, ◌+◌, ◌-◌, ℕ, length, ⊤};
     ghost use Rattle.network_theory.specs.Forest.{IsForest};
     ghost use Rattle.network_core.specs.declared.stop.Stop.TheVariants.{First};
+    ghost use Rattle.network_solo.specs.Ahead.{IsReadAhead};
     ghost use Rattle.network_solo.specs.Runs.{IsRanOver};
     ghost use Rattle.network_solo.specs.Stopping.{CameToEnd, IsStoppedTree};
     ghost use Rattle.network_solo.specs.Trees.{AreFresh, IsRanTree};
@@ -110,6 +114,9 @@ impl<W: Work> Scheduler<W> for OneThread {
             → (length edges.edges.items + 1 ≡ length nodes) × (edges.capacity ≡ capacity)
             → IsRanOver W.Work ins capacity nodes result }
         ensures stopped { self.now.stop ≡ First → IsStoppedTree W.Work ins nodes result }
+        ensures ahead { self.now.stop ≡ First → (capacity : ℕ)
+            → (length edges.edges.items + 1 ≡ length nodes) × (edges.capacity ≡ capacity)
+            → IsReadAhead W.Work ins capacity nodes result }
     {
         run_tree(nodes, ins, edges, self.stop)
     }

@@ -22,7 +22,8 @@ impl<W> Model for Solo<W> {
 
 impl<W: Work> Solo<W> {
     ghost use Rattle.std.specs.Prelude.{◌≡◌};
-    ghost use Rattle.network_core.specs.Nets.{ins_of, nodes_of, IsNewNet};
+    ghost use Rattle.network_core.specs.Nets.{ins_of, nodes_of, capacity_of, IsNewNet};
+    ghost use Rattle.network_solo.specs.Ahead.{IsReadAhead};
     ghost use Rattle.network_solo.specs.Runs.{HadCounted, IsRunToEnd, IsWithinDue, EndsInRest};
     ghost use Rattle.network_solo.specs.Stopping.{NoneFaulty, IsOver, HadInTime, FaultsToCome, IsStoppedTree};
     ghost use Rattle.network_solo.specs.Trees.{IsRanTree};
@@ -68,6 +69,8 @@ impl<W: Work> Solo<W> {
         ensures bounded { IsWithinDue W.Work self.old steps.old steps.new }
         ensures faults { FaultsToCome W.Work self.old self.new }
         ensures stopped { IsStoppedTree W.Work (ins_of self.old) (nodes_of self.old) (nodes_of self.new) }
+        ensures ahead { IsReadAhead W.Work (ins_of self.old) (capacity_of self.old) (nodes_of self.old)
+            (nodes_of self.new) }
         ensures ran { NoneFaulty W.Work (nodes_of self.new)
             → IsRanTree W.Work (ins_of self.old) (nodes_of self.old) (nodes_of self.new) }
     {

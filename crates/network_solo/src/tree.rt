@@ -4,6 +4,7 @@ ghost use Rattle.std.specs.Prelude.{◌≡◌, ◌<◌, ◌+◌, ◌-◌, ◌^�
 ghost use Rattle.network_theory.specs.Forest.{IsForest};
 ghost use Rattle.network_core.specs.Nets.{ins_of, nodes_of, capacity_of, IsNewNet};
 ghost use Rattle.network_core.specs.declared.stop.Stop.TheVariants.{First};
+ghost use Rattle.network_solo.specs.Ahead.{IsReadAhead};
 ghost use Rattle.network_solo.specs.Runs.{IsRanOver};
 ghost use Rattle.network_solo.specs.Stopping.{CameToEnd, IsStoppedTree};
 ghost use Rattle.network_solo.specs.Trees.{AreFresh, IsRanTree};
@@ -25,6 +26,8 @@ fn ran<W: Work, L: Ledger>(net: Net<W>, stop: Stop, blank: Blank) -> Net<W>
     ensures over { CameToEnd W.Work stop (nodes_of result)
         → IsRanOver W.Work (ins_of net) (capacity_of net) (nodes_of net) (nodes_of result) }
     ensures stopped { stop ≡ First → IsStoppedTree W.Work (ins_of net) (nodes_of net) (nodes_of result) }
+    ensures ahead { stop ≡ First
+        → IsReadAhead W.Work (ins_of net) (capacity_of net) (nodes_of net) (nodes_of result) }
 {
     let mut steps = Steps::<L>::new(blank);
     let mut solo = Solo::new(net);
@@ -57,6 +60,7 @@ pub fn run_tree<W: Work>(
     ensures ran { CameToEnd W.Work stop result → IsRanTree W.Work ins nodes result }
     ensures over { CameToEnd W.Work stop result → IsRanOver W.Work ins queues.capacity nodes result }
     ensures stopped { stop ≡ First → IsStoppedTree W.Work ins nodes result }
+    ensures ahead { stop ≡ First → IsReadAhead W.Work ins queues.capacity nodes result }
 {
     let net = Net::over(nodes, ins, queues);
     ran::<W, Brand>(net, stop, Blank::new(1)).into_nodes()

@@ -40,7 +40,7 @@ module _ {S P F : Type 0} (root : Bool) (cap : ℕ) (ch : Choice S P F) (n : Nod
   by_hand (Some i) = either FromInput root _ _ (λ _. refl) (λ _. either FromInput (nat_lt (length out) cap) _ _ (λ _. refl) (λ _. refl))
   by_hand None = either FromInput n.done _ _ (λ _. refl) (λ _. either FromInput n.ending _ _ (λ _. refl) (λ _. either FromInput n.leaf _ _ (λ _. refl) (λ _. takes-input input refl)))
 
-  from_input : FromInput (turn root cap ch n input out)
+  pub from_input : FromInput (turn root cap ch n input out)
   from_input = by_hand n.hand
 
 none_before : {A : Type 0} (xs ys : List A) → xs ++ ys ≡ ys → xs ≡ []

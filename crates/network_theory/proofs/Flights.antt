@@ -30,15 +30,15 @@ pub record StaysFit {S P F : Type 0} (c cap : ℕ) (before after : List (Item P)
   pub out : Each (Fits c) after → Each (Fits c) o.out
   pub room : length after ≤ cap → length o.out ≤ cap
 
-hand_of-points : {P : Type 0} (ps : List P) → hand_points (item_of ps) ≡ length ps
+pub hand_of-points : {P : Type 0} (ps : List P) → hand_points (item_of ps) ≡ length ps
 hand_of-points [] = refl
 hand_of-points (p ∷ ps) = refl
 
-hand_of-view : (P : Type 0) (b : Bool) → hand_points (cond {A = Option (Item P)} b (Some End_view) None) ≡ 0
+pub hand_of-view : (P : Type 0) (b : Bool) → hand_points (cond {A = Option (Item P)} b (Some End_view) None) ≡ 0
 hand_of-view P true = refl
 hand_of-view P false = refl
 
-hand_of-end : (P : Type 0) (b c : Bool) → hand_points (cond {A = Option (Item P)} b (Some End_view) (Some (End_all c))) ≡ 0
+pub hand_of-end : (P : Type 0) (b c : Bool) → hand_points (cond {A = Option (Item P)} b (Some End_view) (Some (End_all c))) ≡ 0
 hand_of-end P true c = refl
 hand_of-end P false c = refl
 
@@ -149,7 +149,7 @@ total-most : (f : ℕ → ℕ) (c n : ℕ) → ((k : ℕ) → f k ≤ c) → tot
 total-most f c zero h = omega arith
 total-most f c (suc n) h = let i = total-most f c n h in let s = h n in omega (arith, i, s)
 
-points-most : {P : Type 0} (c : ℕ) (es : List (Item P)) → Each (Fits c) es → points_on es ≤ length es * c
+pub points-most : {P : Type 0} (c : ℕ) (es : List (Item P)) → Each (Fits c) es → points_on es ≤ length es * c
 points-most c [] h = omega arith
 points-most c (i ∷ is) h = let t = points-most c is h.1 in let f = h.0 in omega (arith, t, f)
 

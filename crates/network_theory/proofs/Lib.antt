@@ -5,6 +5,8 @@ pub mod Rest
 pub mod Due
 pub mod Openings
 pub mod Flights
+pub mod Ahead
+pub mod Counting
 pub mod Hands
 pub mod Histories
 pub mod Finals

@@ -34,7 +34,7 @@ count_views-marks (Points ps) = no_views ps
 count_views-marks End_view = refl
 count_views-marks (End_all c) = refl
 
-count_points-marks : {P : Type 0} (i : Item P) → count_points (marks i) ≡ points_in i
+pub count_points-marks : {P : Type 0} (i : Item P) → count_points (marks i) ≡ points_in i
 count_points-marks (Points ps) = all_points ps
 count_points-marks End_view = refl
 count_points-marks (End_all c) = refl

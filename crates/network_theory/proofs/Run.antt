@@ -14,30 +14,31 @@ use Rattle.network_theory.proofs.Rest.{last-step}
 pub record Same {S P F : Type 0} (n m : Node S P F) : Type 0 where
   pub ins : m.ins ≡ n.ins
   pub work : m.work ≡ n.work
+  pub leaf : m.leaf ≡ n.leaf
 
 module _ {S P F : Type 0} (n : Node S P F) where
   same : Same n n
-  same = record { ins = refl; work = refl }
+  same = record { ins = refl; work = refl; leaf = refl }
 
   taken-same : (ch : Choice S P F) (it : Item P) → Same n (taken ch n it)
   taken-same ch (Points ps) = either (Same n) (is_some n.machine.fault) _ _ (λ _. same) (λ _. by_choice ch)
     where
       by_choice : (c : Choice S P F) → Same n (taken_points c n ps)
-      by_choice Quiet = record { ins = refl; work = refl }
-      by_choice (Failed f s) = record { ins = refl; work = refl }
-      by_choice (Short s) = record { ins = refl; work = refl }
+      by_choice Quiet = record { ins = refl; work = refl; leaf = refl }
+      by_choice (Failed f s) = record { ins = refl; work = refl; leaf = refl }
+      by_choice (Short s) = record { ins = refl; work = refl; leaf = refl }
       by_choice (Makes i f s told tf pl vl) = same
   taken-same ch End_view = either (Same n) (is_some n.machine.fault) _ _ (λ _. same) (λ _. by_choice ch)
     where
       by_choice : (c : Choice S P F) → Same n (taken_view c n)
-      by_choice Quiet = record { ins = refl; work = refl }
-      by_choice (Short s) = record { ins = refl; work = refl }
+      by_choice Quiet = record { ins = refl; work = refl; leaf = refl }
+      by_choice (Short s) = record { ins = refl; work = refl; leaf = refl }
       by_choice (Failed f s) = same
       by_choice (Makes i f s told tf pl vl) = same
-  taken-same ch (End_all cut) = either (Same n) (n.machine.ended + 1 == n.machine.inputs) _ _ (λ _. record { ins = refl; work = refl }) (λ _. record { ins = refl; work = refl })
+  taken-same ch (End_all cut) = either (Same n) (n.machine.ended + 1 == n.machine.inputs) _ _ (λ _. record { ins = refl; work = refl; leaf = refl }) (λ _. record { ins = refl; work = refl; leaf = refl })
 
   makes-same : (ch : Choice S P F) → Same n (makes ch n)
-  makes-same (Makes i f s told tf pl vl) = record { ins = refl; work = refl }
+  makes-same (Makes i f s told tf pl vl) = record { ins = refl; work = refl; leaf = refl }
   makes-same Quiet = same
   makes-same (Failed f s) = same
   makes-same (Short s) = same
@@ -47,8 +48,8 @@ module _ {S P F : Type 0} (n : Node S P F) where
   takes-same ch (i ∷ is) out = taken-same ch i
 
   by_hand : (root : Bool) (cap : ℕ) (ch : Choice S P F) (is out : List (Item P)) (h : Option (Item P)) → Same n (with_hand root cap ch n is out h).node
-  by_hand root cap ch is out (Some i) = either (λ (o : Outcome S P F). Same n o.node) root _ _ (λ _. record { ins = refl; work = refl }) (λ _. either (λ (o : Outcome S P F). Same n o.node) (nat_lt (length out) cap) _ _ (λ _. record { ins = refl; work = refl }) (λ _. same))
-  by_hand root cap ch is out None = either (λ (o : Outcome S P F). Same n o.node) n.done _ _ (λ _. same) (λ _. either (λ (o : Outcome S P F). Same n o.node) n.ending _ _ (λ _. record { ins = refl; work = refl }) (λ _. either (λ (o : Outcome S P F). Same n o.node) n.leaf _ _ (λ _. makes-same ch) (λ _. takes-same ch is out)))
+  by_hand root cap ch is out (Some i) = either (λ (o : Outcome S P F). Same n o.node) root _ _ (λ _. record { ins = refl; work = refl; leaf = refl }) (λ _. either (λ (o : Outcome S P F). Same n o.node) (nat_lt (length out) cap) _ _ (λ _. record { ins = refl; work = refl; leaf = refl }) (λ _. same))
+  by_hand root cap ch is out None = either (λ (o : Outcome S P F). Same n o.node) n.done _ _ (λ _. same) (λ _. either (λ (o : Outcome S P F). Same n o.node) n.ending _ _ (λ _. record { ins = refl; work = refl; leaf = refl }) (λ _. either (λ (o : Outcome S P F). Same n o.node) n.leaf _ _ (λ _. makes-same ch) (λ _. takes-same ch is out)))
 
   pub turn-same : (root : Bool) (cap : ℕ) (ch : Choice S P F) (is out : List (Item P)) → Same n (turn root cap ch n is out).node
   turn-same root cap ch is out = by_hand root cap ch is out n.hand

@@ -7,18 +7,18 @@ use Rattle.network_theory.specs.Net.{Net, Outcome, open_ins, current_edge, with_
 use Rattle.network_theory.specs.Shape.{Each, IsTree, ins_of}
 use Rattle.network_theory.specs.Due.{total, IsBelow, node_owes, edge_owes, due}
 
-total-same : (f g : ℕ → ℕ) (n : ℕ) → ((k : ℕ) → k < n → f k ≡ g k) → total f n ≡ total g n
+pub total-same : (f g : ℕ → ℕ) (n : ℕ) → ((k : ℕ) → k < n → f k ≡ g k) → total f n ≡ total g n
 total-same f g zero h = refl
 total-same f g (suc n) h = let a = total-same f g n (λ k b. h k (omega arith)) in let b = h n (omega arith) in omega (arith, a, b)
 
-total-at : (f g : ℕ → ℕ) (i n : ℕ) → i < n → ((k : ℕ) → k ≢ i → f k ≡ g k) → total f n + g i ≡ total g n + f i
+pub total-at : (f g : ℕ → ℕ) (i n : ℕ) → i < n → ((k : ℕ) → k ≢ i → f k ≡ g k) → total f n + g i ≡ total g n + f i
 total-at f g i zero h s = absurd (omega arith)
 total-at f g i (suc n) h s = elim (eqb_tells n i) [
   | inl p ↦ (let a = total-same f g n (λ k b. s k (λ e. let q = p.1 in omega arith)) in let b = ap f p.1 in let c = ap g p.1 in omega (arith, a, b, c))
   | inr p ↦ (let m : i < n = (let q = p.1 in omega arith) in let a = total-at f g i n m s in let b = s n p.1 in omega (arith, a, b))
 ]
 
-total-two : (f g : ℕ → ℕ) (i c n : ℕ) → i < n → c < n → c ≢ i → ((k : ℕ) → k ≢ i → k ≢ c → f k ≡ g k) → total f n + (g i + g c) ≡ total g n + (f i + f c)
+pub total-two : (f g : ℕ → ℕ) (i c n : ℕ) → i < n → c < n → c ≢ i → ((k : ℕ) → k ≢ i → k ≢ c → f k ≡ g k) → total f n + (g i + g c) ≡ total g n + (f i + f c)
 total-two f g i c n hi hc ne s =
     let h : ℕ → ℕ = λ k. cond (k == i) (g k) (f k) in
     let hi-is : h i ≡ g i = rw (eq-eqb i i refl) in
@@ -28,10 +28,10 @@ total-two f g i c n hi hc ne s =
     let b = total-at h g c n hc (λ k z. elim (eqb_tells k i) [ inl p ↦ rw p.0 | inr p ↦ other k p.1 ∙ s k p.1 z ]) in
     omega (arith, a, b, hi-is, hc-is)
 
-ne-eqb : (a b : ℕ) → a ≢ b → (a == b) ≡ false
+pub ne-eqb : (a b : ℕ) → a ≢ b → (a == b) ≡ false
 ne-eqb a b h = elim (eqb_tells a b) [ inl p ↦ absurd (h p.1) | inr p ↦ p.0 ]
 
-Each-drop : {A : Type 0} (P : A → Type 0) (n : ℕ) (xs : List A) → Each P xs → Each P (drop n xs)
+pub Each-drop : {A : Type 0} (P : A → Type 0) (n : ℕ) (xs : List A) → Each P xs → Each P (drop n xs)
 Each-drop P zero xs h = h
 Each-drop P (suc n) [] h = h
 Each-drop P (suc n) (x ∷ xs) h = Each-drop P n xs h.1

@@ -9,7 +9,8 @@ use Rattle.network_theory.specs.Shape.{ins_of}
 use Rattle.network_theory.specs.Sound.{IsSound}
 use Rattle.network_theory.specs.Opening.{IsOpening}
 use Rattle.network_theory.specs.Due.{IsBelow, due, total}
-use Rattle.network_theory.specs.Flight.{in_flight}
+use Rattle.network_theory.specs.Flight.{hand_points, in_flight}
+use Rattle.network_theory.specs.Ahead.{told_at, sum_under, EndedAt}
 use Rattle.network_theory.specs.History.{number_of, ends_all, held, given_by, taken_from, mark_points, points_taken_by, brings}
 use Rattle.cloud_points.specs.Flows.{Flow}
 use Rattle.network_theory.specs.Streaming.{IsStreaming, StreamsAt}
@@ -34,6 +35,14 @@ RestStays S P F = (net : Net S P F) (root cap : ℕ) (ts : List (ℕ × Choice S
 abbrev pub FlightIsBounded : Type 0 → Type 0 → Type 0 → Type 0
 FlightIsBounded S P F = (net : Net S P F) (root cap chunk : ℕ) (ts : List (ℕ × Choice S P F)) → IsOpening net root → KeepsLaws net → ((k : ℕ) → (net.node k).chunk ≤ chunk) → IsAllowedRun net root cap ts →
     in_flight (run_schedule net root cap ts) root ≤ (root * cap + (root + 1)) * chunk
+
+-- where turns ended at a fault of a node, the leaves under it gave at most as many points as come before that of the fault, those of full
+-- queues and one chunk for each node, and one chunk more; so it is with what they read beyond, if that and what is in the hand fit a chunk
+abbrev pub LeavesReadAhead : Type 0 → Type 0 → Type 0 → Type 0
+LeavesReadAhead S P F = (net : Net S P F) (root cap chunk i : ℕ) (under : ℕ → Bool) (ts : List (ℕ × Choice S P F)) (seen : S → ℕ) (number : F → ℕ) (f : F) (spare : ℕ → ℕ) →
+    IsOpening net root → IsSchedule root ts → KeepsLaws net → ((k : ℕ) → (net.node k).chunk ≤ chunk) → IsAllowedRun net root cap ts → IsQuietRun net root cap ts → EndedAt net root cap i under ts seen number f →
+    ((k : ℕ) → hand_points ((run_schedule net root cap ts).node k).hand + spare k ≤ chunk) →
+    sum_under under (told_at net) (root + 1) + sum_under under spare (root + 1) ≤ sum_under under (told_at (run_schedule net root cap ts)) (root + 1) + number f + (root * cap + (root + 2)) * chunk
 
 -- while a node is not done, some node's turn does work, whatever its event
 abbrev pub SomeNodeMoves : Type 0 → Type 0 → Type 0 → Type 0

@@ -9,6 +9,7 @@ pub mod History
 pub mod Due
 pub mod Depth
 pub mod Flight
+pub mod Ahead
 pub mod Laws
 pub mod Carried
 pub mod Streaming

@@ -6,7 +6,7 @@ ghost use Rattle.cloud_points.specs.declared.faults.StageFault.{StageFault};
 ghost use Rattle.network_theory.specs.Depth.{depth};
 ghost use Rattle.network_theory.specs.Due.{IsBelow};
 ghost use Rattle.network_theory.specs.Forest.{IsForest, children};
-ghost use Rattle.network_theory.specs.Laws.{QueuesKeepOrder, RestStays, FlightIsBounded, SomeNodeMoves};
+ghost use Rattle.network_theory.specs.Laws.{QueuesKeepOrder, RestStays, FlightIsBounded, LeavesReadAhead, SomeNodeMoves};
 ghost use Rattle.network_theory.specs.Laws.{DueFalls, OpeningOwes, SchedulesAgree, NetsStaySound};
 ghost use Rattle.network_theory.specs.Laws.{PointsComeInOrder, TurnsCarry, FlowsAreStreamed};
 ghost use Rattle.network_theory.specs.Shape.{IsTree};
@@ -33,6 +33,12 @@ pub fn points_come_in_order<W: Work>(_work: &W)
 /// node.
 pub fn flight_is_bounded<W: Work>(_work: &W)
     ensures { FlightIsBounded W.State Point StageFault }
+{}
+
+/// Where turns without an event ended at a fault of a node, the leaves under it gave no more points than come
+/// before the fault, those in flight, and one chunk, as long as each node under it gives on as many as it takes.
+pub fn leaves_read_ahead<W: Work>(_work: &W)
+    ensures { LeavesReadAhead W.State Point StageFault }
 {}
 
 /// While a node is not done, some node's turn does work, whatever its event.

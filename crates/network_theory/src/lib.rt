@@ -5,7 +5,7 @@
 mod laws;
 
 pub use laws::{
-    due_falls, flight_is_bounded, flows_are_streamed, forests_are_trees, nets_stay_sound,
-    opening_owes, points_come_in_order, queues_keep_order, rest_stays, schedules_agree,
-    some_node_moves, trees_have_depths, turns_carry,
+    due_falls, flight_is_bounded, flows_are_streamed, forests_are_trees, leaves_read_ahead,
+    nets_stay_sound, opening_owes, points_come_in_order, queues_keep_order, rest_stays,
+    schedules_agree, some_node_moves, trees_have_depths, turns_carry,
 };

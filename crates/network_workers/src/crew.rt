@@ -22,6 +22,7 @@ impl<W: Work, F: Fn(NodeList<W>, InsList, WorkerRoom<W>) -> NodeList<W>> Schedul
     ghost use Rattle.std.specs.Prelude.{◌≡◌, ◌<◌, ◌≤◌, ◌-◌, ℕ, length};
     ghost use Rattle.network_theory.specs.Forest.{IsForest};
     ghost use Rattle.network_core.specs.declared.stop.Stop.TheVariants.{First, Last};
+    ghost use Rattle.network_solo.specs.Ahead.{IsReadAhead};
     ghost use Rattle.network_solo.specs.Stopping.{CameToEnd, IsStoppedTree};
     ghost use Rattle.network_solo.specs.Trees.{AreFresh, IsRanTree};
     ghost use Rattle.network_workers.specs.Crews.{Runs};
@@ -62,6 +63,8 @@ impl<W: Work, F: Fn(NodeList<W>, InsList, WorkerRoom<W>) -> NodeList<W>> Schedul
         ensures besides { CameToEnd W.Work Last result → (capacity : ℕ)
             → IsRoomFor (length nodes) capacity edges → AreCarried W.Work ins nodes result }
         ensures stopped { Last ≡ First → IsStoppedTree W.Work ins nodes result }
+        ensures ahead { Last ≡ First → (capacity : ℕ)
+            → IsRoomFor (length nodes) capacity edges → IsReadAhead W.Work ins capacity nodes result }
     {
         (self.run)(nodes, ins, edges)
     }

@@ -40,7 +40,7 @@ use Rattle.run_report.specs.declared.refusal.Refusal.TheVariants as of
 use Rattle.run_report.specs.declared.refusal.Place.TheVariants as at
 use Rattle.answer_model.specs.Rows.{Setting}
 use Rattle.answer_model.specs.Values.{Opened, Output, options_at, role_at, row_at, setting_at, stage_fault, stage_value, least_fault, written, written_at, output_at, outputs_at}
-use Rattle.answer_model.specs.Runs.{Run, AreRead, holds, run_of, opened_in}
+use Rattle.answer_model.specs.Runs.{Run, AreRead, run_of, opened_in}
 use Rattle.answer_model.proofs.Least.{least-at}
 use Rattle.stage_forms.specs.Starts.{form_for, kept_for, op_for, writes_as, HaveDevices, AreTold}
 use Rattle.stage_forms.proofs.Works.{each-row, writes-form}

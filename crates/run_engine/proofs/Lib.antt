@@ -5,6 +5,7 @@ pub mod Ran
 pub mod Puts
 pub mod Answers
 pub mod Waiting
+pub mod Ahead
 pub mod Blamed
 pub mod Each
 pub mod Stopping

@@ -9,6 +9,7 @@ use Rattle.stage_options.specs.declared.stage.StageSpec.{StageSpec}
 use Rattle.run_report.specs.declared.refusal.Refusal.{Refusal}
 use Rattle.run_report.specs.declared.refusal.Refusal.TheVariants.{Memory}
 use Rattle.run_outcome.specs.Outcomes.{refusal_for}
+use Rattle.stage_runs.specs.Ahead.{AreReadAhead}
 use Rattle.stage_runs.specs.Rooms.{IsStageRoom}
 use Rattle.run_engine.specs.declared.job.Job.{Job}
 use Rattle.run_engine.specs.declared.job.Step.{Step}
@@ -75,3 +76,8 @@ module _ {S K E : Type 0} (s : source.Ghosts S) (k : sink.Ghosts K) where
     pub ready : AreReady s k map stages before
     pub later : AreLater (faults_of s.faults k.faults) before job.works.items
     pub came : HaveCome stop stages before job.works.items job.step
+
+  -- stages that ended at the first fault, over queues and chunks of this shape: their readers have read no further than so
+  abbrev pub HaveReadBy : Engine → List StageSpec → List (StageWork S K) → List (StageWork S K) → Step S K E → Type 0
+  HaveReadBy (Queues shape) stages old new (Done ended) = AreReadAhead s stages shape.queue shape.chunk old new ended.faults.items
+  HaveReadBy engine stages old new step = ⊤

@@ -1,8 +1,9 @@
 //! The run of a tree, step by step.
 
-ghost use Rattle.std.specs.Prelude.{◌≡◌, ◌≤◌, ◌+◌, ℕ, length, Option, Some, None, Err, IsOkAnd, IfOk, IfErr, OnOk, OnErr};
+ghost use Rattle.std.specs.Prelude.{◌≡◌, ◌≤◌, ◌+◌, ℕ, length, sum_by, option_map, Option, Some, None, Err, IsOkAnd, IfOk, IfErr, OnOk, OnErr};
 ghost use Rattle.file_devices.specs.Counts.{Rose};
 ghost use Rattle.file_devices.specs.Named.{Names};
+ghost use Rattle.file_devices.specs.Told.{IsAsTold};
 ghost use Rattle.pipeline_json.specs.Trees.{IsTree};
 ghost use Rattle.file_devices.specs.declared.devices.Op.{Op};
 ghost use Rattle.run_report.specs.declared.refusal.Place as place;
@@ -10,15 +11,20 @@ ghost use Rattle.run_report.specs.declared.refusal.Refusal as refused;
 ghost use Rattle.stage_options.specs.Kinds.{HaveOwnOptions};
 ghost use Rattle.stage_options.specs.Shapes.{shapes};
 ghost use Rattle.stage_kinds.specs.Held.{faults_of};
+ghost use Rattle.stage_kinds.specs.Leads.{reached_of};
 ghost use Rattle.answer_model.specs.Runs.{run_of};
 ghost use Rattle.stage_forms.specs.Starts.{AreAtStart};
 ghost use Rattle.stage_runs.specs.Short.{SomeGathers};
 ghost use Rattle.held_devices.specs.Holding.{all_held};
 ghost use Rattle.network_core.specs.declared.stop.Stop.{Stop};
+ghost use Rattle.network_core.specs.declared.stop.Stop.TheVariants.{First};
 ghost use Rattle.run_outcome.specs.Cause.{IsRun, IsLeft};
 ghost use Rattle.run_engine.specs.declared.engine.Engine.{Engine as Chosen};
 ghost use Rattle.run_engine.specs.Blame.{IsBlamed};
-ghost use Rattle.run_engine.specs.Jobs.{TakesTurns, IsReady, IsWaiting, IsShort, CameTo, HasRun};
+ghost use Rattle.run_engine.specs.Jobs.{TakesTurns, IsReady, IsWaiting, IsShort, CameTo, HasRun, HaveReadBy};
+ghost use Rattle.run_engine.specs.declared.engine.Engine.TheVariants.{Queues};
+ghost use Rattle.run_engine.specs.declared.shape.Shape.{Shape};
+ghost use Rattle.stage_runs.specs.Ahead.{AreReadAhead};
 ghost use Rattle.stage_forms.specs.Later.{AreLater};
 ghost use Rattle.run_engine.specs.Stopping.{HaveEndedBy, IsCauseBy, ends_at};
 
@@ -78,6 +84,9 @@ fn evaluate<S: Source, K: FileSink, T: Scheduler<StageWork<S, K>>>(
         → IfOk result.outcome (λ ended. HaveEndedBy S.Source K.Sink (ends_at engine (T.stop scheduler.now))
         stages.now works.items result.works.items ended.faults.items ended.report.items) }
     ensures gathers { OnErr result.outcome (TakesTurns step → SomeGathers stages.now) }
+    ensures ahead { (shape : Shape) → IsWaiting S.Source K.Sink T.fits (Queues shape) stages.now step
+        → IfOk result.outcome (λ ended. T.stop scheduler.now ≡ First → AreReadAhead S.Source stages.now
+        shape.queue shape.chunk works.items result.works.items ended.faults.items) }
 {
     match step {
         Step::Turns(room) => turn_works(alloc, scheduler, works, stages, room),
@@ -90,7 +99,8 @@ fn evaluate<S: Source, K: FileSink, T: Scheduler<StageWork<S, K>>>(
 impl<S: Source, K: FileSink, E> Job<S, K, E> {
     /// Lets the points go through the stages, as the scheduler has it that it was prepared for: on the thread of the caller, or on
     /// several. Each stage comes to its end, and what that is `close` tells. Refuses only where memory is wanting; where the stages take
-    /// turns, and none needs whole views, all memory is there already.
+    /// turns, and none needs whole views, all memory is there already. Where turns end at the first fault, its readers have read no further
+    /// than a bound by the number of the faulty point, if all stages give on each point.
     pub fn run<T: Scheduler<StageWork<S, K>, Edges = E>>(
         &mut self,
         alloc: Global,
@@ -109,6 +119,10 @@ impl<S: Source, K: FileSink, E> Job<S, K, E> {
         ensures enough { OnOk result (IsShort self.new.step → ⊥) }
         ensures short { OnErr result (IsShort self.new.step) }
         ensures gathers { OnErr result (TakesTurns self.old.step → SomeGathers stages.now) }
+        ensures ahead { T.stop scheduler.now ≡ First → (engine : Chosen)
+            → IsWaiting S.Source K.Sink T.fits engine stages.now self.old.step
+            → HaveReadBy S.Source K.Sink engine stages.now self.old.works.items self.new.works.items
+            self.new.step }
     {
         let works = replace(&mut self.works, Vec::new(alloc));
         let step = replace(&mut self.step, Step::Short);
@@ -130,6 +144,8 @@ impl<S: Source, K: FileSink, E> Job<S, K, E> {
     /// keeps nothing. Else `Data` comes only where the files had that fault as the run was prepared, `Device` only where the device failed,
     /// `Memory` where there was none. The device of a stage is named for what the stages did in their turns only where that of no earlier
     /// stage failed, and for the end of its file only where no stage has a fault.
+    ///
+    /// Where stages have faults, how far the readers got is added to what the files tell of that.
     ///
     /// After a refusal the files are as before; only where the keeping of a file failed or found no memory, or the file of a view couldn't
     /// be written, are those before it kept, and one that couldn't be kept may be. Files that don't tell what they have don't tell it after
@@ -153,6 +169,9 @@ impl<S: Source, K: FileSink, E> Job<S, K, E> {
             → IsLeft refusal (F.map files.old) (F.map files.new) (run_of m stages.now)) }
         ensures refused { (refusal : refused.Refusal) → CameTo refusal self.step
             → (result ≡ Err refusal) × (F.map files.new ≡ F.map files.old) }
+        ensures read { (refusal : refused.Refusal) → CameTo refusal self.step
+            → IsAsTold (F.read_to files.new) (option_map
+            (λ n. n + sum_by (reached_of S.reached) self.works.items) (F.read_to files.old)) }
         ensures blamed { (i : ℕ) (o : Op) → result ≡ Err (refused.Refusal.Device (place.Place.Stage i) o)
             → IsBlamed (faults_of S.faults K.faults) (Rose (F.faults files.old) (F.faults files.new))
             self.works.items self.step i o }

@@ -1,6 +1,6 @@
 //! A run is prepared.
 
-ghost use Rattle.std.specs.Prelude.{◌≡◌, ◌≤◌, ◌+◌, IfOk, IfErr, OnErr};
+ghost use Rattle.std.specs.Prelude.{◌≡◌, ◌≤◌, ◌+◌, IfOk, IfErr, OnOk, OnErr};
 ghost use Rattle.file_devices.specs.Counts.{Rose};
 ghost use Rattle.pipeline_json.specs.Trees.{IsTree};
 ghost use Rattle.stage_options.specs.Shapes.{shapes};
@@ -58,6 +58,7 @@ pub fn prepare<F: Files, T: Scheduler<StageWork<F::In, F::Out>>>(
     ensures map { F.map files.new ≡ F.map files.old }
     ensures lent_ok { IfOk result (λ job. F.lent files.new ≡ F.lent files.old + all_held job.works.items) }
     ensures lent_err { OnErr result (F.lent files.new ≡ F.lent files.old) }
+    ensures read { OnOk result (F.read_to files.new ≡ F.read_to files.old) }
     ensures later { F.faults files.old ≤ F.faults files.new }
 {
     let works = ready_works(alloc, files, stages)?;

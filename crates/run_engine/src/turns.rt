@@ -4,6 +4,8 @@ ghost use Rattle.std.specs.Prelude.{◌≡◌, ◌≤◌, length, IfOk, OnErr};
 ghost use Rattle.pipeline_json.specs.Trees.{IsTree};
 ghost use Rattle.stage_kinds.specs.Held.{faults_of};
 ghost use Rattle.stage_options.specs.Kinds.{HaveOwnOptions};
+ghost use Rattle.network_core.specs.declared.stop.Stop.TheVariants.{First};
+ghost use Rattle.stage_runs.specs.Ahead.{AreReadAhead};
 ghost use Rattle.stage_runs.specs.Short.{SomeGathers};
 ghost use Rattle.stage_options.specs.Shapes.{shapes};
 ghost use Rattle.stage_forms.specs.Starts.{AreAtStart};
@@ -43,6 +45,9 @@ pub(crate) fn turn_works<S: Source, K: FileSink, T: Scheduler<StageWork<S, K>>>(
     ensures ended { IfOk result.outcome (λ ended. HaveEndedBy S.Source K.Sink (T.stop scheduler.now)
         stages.now works.items result.works.items ended.faults.items ended.report.items) }
     ensures gathers { OnErr result.outcome (SomeGathers stages.now) }
+    ensures ahead { IfOk result.outcome (λ ended. T.stop scheduler.now ≡ First
+        → AreReadAhead S.Source stages.now room.shape.queue room.shape.chunk works.items
+        result.works.items ended.faults.items) }
 {
     let TurnRoom {
         shape,

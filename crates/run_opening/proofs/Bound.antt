@@ -1,5 +1,5 @@
 -- The works of stages over their readers and forms, and names that are bound.
-use Rattle.std.proofs.Common.{◌≡◌, ℕ, List, length, Option, Some, None, ap, sym, ◌∙◌, arith}
+use Rattle.std.proofs.Common.{◌≡◌, ℕ, List, length, Option, Some, None, refl, ap, sym, ◌∙◌, arith}
 use Rattle.std.proofs.lemmas.Option.{none-some, same_Some, slice_get_within, get_or_from_slice_get}
 use Rattle.held_devices.proofs.Lists.{some_at}
 use Rattle.file_devices.specs.Named.{Names}
@@ -83,5 +83,6 @@ are-ready s k map stages readers forms works a b c are opened bound begun = reco
   starts = are-at-start s k map stages readers forms works a b c are begun;
   devices = λ i w e. (begun i w e).device;
   tell = λ m e i w r at is. tells-there s m stages i r ((begun i w at).tells m e r is);
+  front = λ i r at. (begun i (Reader r) at).front r refl;
   come = can-begin s map stages readers b opened bound;
 }

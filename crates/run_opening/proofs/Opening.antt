@@ -25,7 +25,7 @@ use Rattle.answer_model.specs.Runs.{AreRead, holds, unread, unread_at, unless_un
 use Rattle.stage_forms.specs.Starts.{IsAtStart, form_for, op_for}
 use Rattle.stage_forms.proofs.Works.{op-at-start, reader-start}
 use Rattle.answer_model.proofs.Least.{least-at}
-use Rattle.run_opening.specs.Begun.{IsReading, IsOpened, AreOpened, IsWork, reader_of}
+use Rattle.run_opening.specs.Begun.{IsInFront, IsReading, IsOpened, AreOpened, IsWork, reader_of}
 use Rattle.run_outcome.specs.Cause.{CanBegin, IsCause, AtRole}
 use Rattle.run_opening.specs.Opening.{IsUnopened}
 
@@ -119,6 +119,7 @@ reader-work {S} {K} s k map i o r form is = record {
   start = λ setting e. reader-start s k.bytes o setting r (opened.0) (opened.1.start);
   device = op-at-start s k.bytes o nowhere (Reader r) (reader-start s k.bytes o nowhere r (opened.0) (opened.1.start));
   tells = λ m e q w. (let same : r ≡ q = cc in subst (λ (x : LasReader S). Tells s (λ j. holds m j (role_of o)) i x) same (opened.1.tells m e));
+  front = λ q w. (let same : r ≡ q = cc in subst (λ (x : LasReader S). IsInFront s.reached x) same opened.1.front);
 }
   where
     nowhere : Setting
@@ -135,6 +136,7 @@ other-work {S} {K} s k map i o form w inner device start = record {
   start = start;
   device = device;
   tells = λ m e r is. absurd (reads_not (role_of o) inner (ap op_of (sym is) ∙ device));
+  front = λ r is. absurd (reads_not (role_of o) inner (ap op_of (sym is) ∙ device));
 }
   where
     reads_not : (role : Role) → is_reading role ≡ false → Some op.Read ≡ op_for role → ⊥

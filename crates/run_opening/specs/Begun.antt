@@ -1,5 +1,5 @@
 -- The stages of a tree before their first turn.
-use Rattle.std.specs.Prelude.{◌≡◌, ℕ, ◌<◌, List, length, slice_get, slice_index_or, true, false, Option, Some, None, ⊤}
+use Rattle.std.specs.Prelude.{◌≡◌, ℕ, ◌<◌, ◌≤◌, List, length, slice_get, slice_index_or, true, false, Option, Some, None, ⊤}
 use Rattle.file_devices.specs.Named.{Names}
 use Rattle.file_devices.specs.declared.devices.Source as source
 use Rattle.file_devices.specs.declared.devices.Sink as sink
@@ -25,11 +25,16 @@ use Rattle.stage_forms.specs.Starts.{IsAtStart, form_for, op_for}
 
 -- ---- readers
 
+-- of a file whose header counts no EVLRs nothing behind its header and its VLRs was read
+abbrev pub IsInFront : {S : Type 0} → (S → ℕ) → LasReader S → Type 0
+IsInFront reached r = r.header.evlrs ≡ 0 → reached r.source ≤ r.header.points_at
+
 -- a reader at its start, of stage i, which does this; where the map is told, its file can be read, and its source tells it
 pub record IsReading {S : Type 0} (s : source.Ghosts S) (map : Option Names) (i : ℕ) (role : Role) (r : LasReader S) : Type 0 where
   pub start : r.progress ≡ Records 0
   pub read : (m : Names) → map ≡ Some m → unread m i role ≡ None
   pub tells : (m : Names) → map ≡ Some m → Tells s (λ k. holds m k role) i r
+  pub front : IsInFront s.reached r
 
 -- a stage has a reader exactly where it reads
 abbrev pub IsOpened : {S : Type 0} → source.Ghosts S → Option Names → ℕ → Role → Option (LasReader S) → Type 0
@@ -81,6 +86,7 @@ pub record IsWork {S K : Type 0} (s : source.Ghosts S) (k : sink.Ghosts K) (map 
   pub start : (setting : Setting) → form ≡ form_for o setting → IsAtStart k.bytes o setting w
   pub device : op_of w ≡ op_for (role_of o)
   pub tells : (m : Names) → map ≡ Some m → (r : LasReader S) → w ≡ Reader r → Tells s (λ j. holds m j (role_of o)) i r
+  pub front : (r : LasReader S) → w ≡ Reader r → IsInFront s.reached r
 
 -- so it is at the first stages, as many as there are
 abbrev pub AreBegun : {S K : Type 0} → source.Ghosts S → sink.Ghosts K → Option Names → List StageSpec → List (Option (LasReader S)) → List StageForm → List (StageWork S K) → Type 0

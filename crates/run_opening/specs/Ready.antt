@@ -3,6 +3,7 @@ use Rattle.std.specs.Prelude.{◌≡◌, List, length, Option, Some}
 use Rattle.file_devices.specs.Named.{Names}
 use Rattle.file_devices.specs.declared.devices.Source as source
 use Rattle.file_devices.specs.declared.devices.Sink as sink
+use Rattle.stage_kinds.specs.Leads.{AreInFront}
 use Rattle.stage_kinds.specs.declared.stage_work.StageWork.{StageWork}
 use Rattle.stage_options.specs.declared.stage.StageSpec.{StageSpec}
 use Rattle.answer_model.specs.Runs.{opened_in}
@@ -11,10 +12,11 @@ use Rattle.run_outcome.specs.Cause.{CanBegin}
 
 module _ {S K : Type 0} (s : source.Ghosts S) (k : sink.Ghosts K) where
   -- the works of stages before their first turn, over these files: each is at its start and holds its device, the sources of readers tell
-  -- their files, and the run can begin
+  -- their files, of which no more than the front was read, and the run can begin
   pub record AreReady (map : Option Names) (stages : List StageSpec) (works : List (StageWork S K)) : Type 0 where
     pub count : length works ≡ length stages
     pub starts : AreAtStart k.bytes stages works
     pub devices : HaveDevices stages works
     pub tell : (m : Names) → map ≡ Some m → AreTold s works (opened_in m stages)
+    pub front : AreInFront s.reached works
     pub come : (m : Names) → map ≡ Some m → CanBegin m stages

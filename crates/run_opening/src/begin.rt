@@ -1,6 +1,6 @@
 //! The works of a tree's stages at their start.
 
-ghost use Rattle.std.specs.Prelude.{◌≡◌, ◌≤◌, ◌+◌, ℕ, length, Some, true, IfOk, IfErr, OnErr};
+ghost use Rattle.std.specs.Prelude.{◌≡◌, ◌≤◌, ◌+◌, ℕ, length, Some, true, IfOk, IfErr, OnOk, OnErr};
 ghost use Rattle.file_devices.specs.Counts.{Rose};
 ghost use Rattle.file_devices.specs.Named.{Names};
 ghost use Rattle.stage_kinds.specs.Files.{IsFileForm};
@@ -40,6 +40,7 @@ fn open_writer<F: Files>(
     ensures map { F.map files.new ≡ F.map files.old }
     ensures lent_ok { IfOk result (λ work. F.lent files.new ≡ F.lent files.old + there (op_of work)) }
     ensures lent_err { OnErr result (F.lent files.new ≡ F.lent files.old) }
+    ensures read { F.read_to files.new ≡ F.read_to files.old }
     ensures later { F.faults files.old ≤ F.faults files.new }
 {
     let sink = match files.create(name) {
@@ -82,6 +83,7 @@ fn begin_work<F: Files>(
     ensures lent_ok { IfOk result (λ work. F.lent files.new + there reader
         ≡ F.lent files.old + there (op_of work)) }
     ensures lent_err { OnErr result (F.lent files.new ≡ F.lent files.old) }
+    ensures read { F.read_to files.new ≡ F.read_to files.old }
     ensures later { F.faults files.old ≤ F.faults files.new }
 {
     let Some(reader) = reader else {
@@ -127,6 +129,7 @@ pub(crate) fn begin_works<F: Files>(
         → F.lent files.new ≡ others + all_held works.items) }
     ensures lent_err { OnErr result ((others : ℕ)
         → F.lent files.old ≡ others + all_there readers.items → F.lent files.new ≡ others) }
+    ensures read { OnOk result (F.read_to files.new ≡ F.read_to files.old) }
     ensures later { F.faults files.old ≤ F.faults files.new }
 {
     let Ok(mut works) = Vec::with_capacity(alloc, stages.len()) else {

@@ -41,6 +41,7 @@ fn open_reader<F: Files>(
     ensures map { F.map files.new ≡ F.map files.old }
     ensures lent_ok { OnOk result (F.lent files.new ≡ F.lent files.old + 1) }
     ensures lent_err { OnErr result (F.lent files.new ≡ F.lent files.old) }
+    ensures read { OnOk result (F.read_to files.new ≡ F.read_to files.old) }
     ensures later { F.faults files.old ≤ F.faults files.new }
 {
     let source = match files.open_in(name) {
@@ -71,6 +72,7 @@ fn open_stage<F: Files>(
     ensures map { F.map files.new ≡ F.map files.old }
     ensures lent_ok { IfOk result (λ reader. F.lent files.new ≡ F.lent files.old + there reader) }
     ensures lent_err { OnErr result (F.lent files.new ≡ F.lent files.old) }
+    ensures read { OnOk result (F.read_to files.new ≡ F.read_to files.old) }
     ensures later { F.faults files.old ≤ F.faults files.new }
 {
     match stage.options.role() {
@@ -96,6 +98,7 @@ pub(crate) fn open_readers<F: Files>(
     ensures map { F.map files.new ≡ F.map files.old }
     ensures lent_ok { IfOk result (λ readers. F.lent files.new ≡ F.lent files.old + all_there readers.items) }
     ensures lent_err { OnErr result (F.lent files.new ≡ F.lent files.old) }
+    ensures read { OnOk result (F.read_to files.new ≡ F.read_to files.old) }
     ensures later { F.faults files.old ≤ F.faults files.new }
 {
     let Ok(mut readers) = Vec::with_capacity(alloc, stages.len()) else {

@@ -1,6 +1,6 @@
 //! The files of a run are opened and created.
 
-ghost use Rattle.std.specs.Prelude.{◌≡◌, ◌≤◌, ◌+◌, IfOk, IfErr, OnErr};
+ghost use Rattle.std.specs.Prelude.{◌≡◌, ◌≤◌, ◌+◌, IfOk, IfErr, OnOk, OnErr};
 ghost use Rattle.file_devices.specs.Counts.{Rose};
 ghost use Rattle.pipeline_json.specs.Trees.{IsTree};
 ghost use Rattle.stage_options.specs.Shapes.{shapes};
@@ -38,6 +38,7 @@ pub fn ready_works<F: Files>(
     ensures map { F.map files.new ≡ F.map files.old }
     ensures lent_ok { IfOk result (λ works. F.lent files.new ≡ F.lent files.old + all_held works.items) }
     ensures lent_err { OnErr result (F.lent files.new ≡ F.lent files.old) }
+    ensures read { OnOk result (F.read_to files.new ≡ F.read_to files.old) }
     ensures later { F.faults files.old ≤ F.faults files.new }
 {
     let readers = open_readers(alloc, files, stages)?;

@@ -5,6 +5,7 @@ pub mod Begins
 pub mod Stages
 pub mod Gathers
 pub mod Held
+pub mod Leads
 pub mod Reads
 pub mod Keeps
 pub mod Takes

@@ -57,6 +57,7 @@ impl<S: Source, K: FileSink> Work for StageWork<S, K> {
     ghost use Rattle.stage_kinds.specs.Held.{faults_of, op_of};
     ghost use Rattle.stage_kinds.specs.Reads.{tells_of, told_of, told_fault_of, points_left_of, views_left_of};
     ghost use Rattle.stage_kinds.specs.Keeps.{meaning_keeps};
+    ghost use Rattle.stage_kinds.specs.Leads.{ahead_of, extent_of};
 
     type State = StageState;
 
@@ -81,6 +82,10 @@ impl<S: Source, K: FileSink> Work for StageWork<S, K> {
     ghost points_left = { λ w. points_left_of w };
 
     ghost views_left = { λ w. views_left_of w };
+
+    ghost extent = { λ w. extent_of S.bytes w };
+
+    ghost ahead = { λ w. ahead_of S.bytes S.reached w };
 
     ghost holds = { λ w points. holds_of K.bytes w points };
 

@@ -5,6 +5,10 @@ pub on-ok : {T E : Type 0} (r : Result T E) (P Q : Type 0) → (P → Q) → OnO
 on-ok (Ok x) P Q f h = f h
 on-ok (Err e) P Q f h = tt
 
+pub any-ok : {T E : Type 0} (r : Result T E) (P : Type 0) → P → OnOk r P
+any-ok (Ok x) P p = p
+any-ok (Err e) P p = tt
+
 pub both-ok : {T E : Type 0} (r : Result T E) (P Q : Type 0) → OnOk r P → OnOk r Q → OnOk r (P × Q)
 both-ok (Ok x) P Q p q = (p, q)
 both-ok (Err e) P Q p q = tt

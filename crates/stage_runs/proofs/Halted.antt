@@ -30,10 +30,10 @@ module _ {S K : Type 0} (s : source.Ghosts S) (k : sink.Ghosts K) (stages : List
   -- the nodes of a part, of this home and root, where those below it came to their end
   module _ (home root : ℕ) (is_root : IsRoot stages homes home root) (now : List (Node (StageWork S K))) (count : length now ≡ length stages) (inside : root < length stages)
       (below : (i : ℕ) → i < root → i < home) (under : (i : ℕ) → i < length stages → home_at homes i ≡ home → i ≢ root → i < root) (done : AreRunBefore s k stages homes old home now)
-      (after : List (Node (StageWork S K))) (part : IsPartStopped s k (part_ins (gathers_of stages) (ins_of stages) homes home root) homes home root now after) where
+      (queue chunk : ℕ) (after : List (Node (StageWork S K))) (part : IsPartStopped s k queue chunk (part_ins (gathers_of stages) (ins_of stages) homes home root) homes home root now after) where
     pub part-stopped : AreStoppedStages s k stages old after
     part-stopped calm opened tell = (
-      some-faulty s k stages old new down forest size homes are besides home root is_root now count inside below done after opened tell sound quiet part,
+      some-faulty s k stages old new down forest size homes are besides home root is_root now count inside below done after opened tell sound quiet queue chunk part,
       λ i m f e has. by_place i m f e has (within i m e),
     )
       where
@@ -80,7 +80,7 @@ module _ {S K : Type 0} (s : source.Ghosts S) (k : sink.Ghosts K) (stages : List
 
         by_home : (i : ℕ) (m : Node (StageWork S K)) (f : StageFault) → slice_get after i ≡ Some m → m.fault ≡ Some f → i < length stages → i ≢ root → (b : Bool) → (home_at homes i == home) ≡ b
             → option_map stage.Point (stage_fault stages opened i) ≡ Some f
-        by_home i m f e has l n true h = home-faulty s k stages old new down forest size homes are besides home root is_root now count inside below done after opened tell sound quiet part
+        by_home i m f e has l n true h = home-faulty s k stages old new down forest size homes are besides home root is_root now count inside below done after opened tell sound quiet queue chunk part
             i m f (under i l (number-same (home_at homes i) home h) n) h e has
         by_home i m f e has l n false h = by_past (is_past s k stages homes old home i) refl
           where
@@ -94,7 +94,7 @@ module _ {S K : Type 0} (s : source.Ghosts S) (k : sink.Ghosts K) (stages : List
         by_place : (i : ℕ) (m : Node (StageWork S K)) (f : StageFault) → slice_get after i ≡ Some m → m.fault ≡ Some f → i < length stages → option_map stage.Point (stage_fault stages opened i) ≡ Some f
         by_place i m f e has l = elim (eqb_tells i root) [
           | inl q ↦ subst (λ j. option_map stage.Point (stage_fault stages opened j) ≡ Some f) (sym q.1)
-              (root-faulty s k stages old new down forest size homes are besides home root is_root now count inside below done after opened tell sound quiet part m f (ap (slice_get after) (sym q.1) ∙ e) has)
+              (root-faulty s k stages old new down forest size homes are besides home root is_root now count inside below done after opened tell sound quiet queue chunk part m f (ap (slice_get after) (sym q.1) ∙ e) has)
           | inr q ↦ by_home i m f e has l q.1 (home_at homes i == home) refl
         ]
 

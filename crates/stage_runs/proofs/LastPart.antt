@@ -247,9 +247,9 @@ module _ {S K : Type 0} (s : source.Ghosts S) (k : sink.Ghosts K) (stages : List
   last-gathers now after count some gathers done run sound opened tell i m e =
       all-end now after count some gathers done run (ran-turned s k ([] ∷ []) (run.was ∷ []) (run.is ∷ []) run.turned.0) sound opened tell run.turned.0 i m e
 
-  pub last-leaf-stopped : (now after : List (Node (StageWork S K))) → length now ≡ length stages → 0 < length stages → is_gathering (role_at stages (length stages - 1)) ≡ true
-      → Done (length stages) now → IsLeafStopped s k (length stages - 1) now after → AreStoppedStages s k stages old after
-  last-leaf-stopped now after count some gathers done run sound opened tell = (
+  pub last-leaf-stopped : (queue : ℕ) (now after : List (Node (StageWork S K))) → length now ≡ length stages → 0 < length stages → is_gathering (role_at stages (length stages - 1)) ≡ true
+      → Done (length stages) now → IsLeafStopped s k queue (length stages - 1) now after → AreStoppedStages s k stages old after
+  last-leaf-stopped queue now after count some gathers done run sound opened tell = (
     some-fault run.turned.1,
     λ i m f e has. all-faulty now after count some gathers done run (stopped-turned s k ([] ∷ []) (run.was ∷ []) (run.is ∷ []) run.turned.0) sound opened tell run.turned.0 i m f e has,
   )

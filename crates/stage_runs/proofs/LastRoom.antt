@@ -1,12 +1,13 @@
 -- The last part, by its memory.
 use Rattle.std.proofs.Common.{◌≡◌, ◌⊎◌, ℕ, ◌-◌, ◌<◌, ◌≤◌, ◌↔◌, Bool, true, false, true≢false, List, length, Some, None, refl, ap, sym, subst, ◌∙◌, inr, arith}
 use Rattle.std.specs.Prelude.{slice_get}
+use Rattle.std.proofs.lemmas.Option.{slice_get_within}
 use Rattle.file_devices.specs.declared.devices.Source as source
 use Rattle.file_devices.specs.declared.devices.Sink as sink
 use Rattle.network_theory.specs.Forest.{IsForest, children}
 use Rattle.network_theory.specs.Opening.{IsFresh}
 use Rattle.network_core.specs.declared.node.Node.{Node}
-use Rattle.network_core.specs.Shown.{shown}
+use Rattle.network_core.specs.Shown.{shown, work_of}
 use Rattle.stage_kinds.specs.declared.stage_work.StageWork.{StageWork}
 use Rattle.stage_kinds.specs.Stages.{is_leaf}
 use Rattle.pipeline_json.specs.Trees.{IsTree}
@@ -19,12 +20,15 @@ use Rattle.answer_model.specs.Values.{IsDown, role_at}
 use Rattle.answer_model.proofs.Values.{tree-down}
 use Rattle.stage_runs.specs.declared.rooms.PartRoom.{PartRoom}
 use Rattle.stage_runs.specs.declared.rooms.StageRoom.{StageRoom}
-use Rattle.network_solo.specs.Stopping.{SomeFault}
+use Rattle.network_solo.specs.Stopping.{NoneFaulty, SomeFault}
 use Rattle.stage_runs.specs.Works.{as_works, ins_of, AreNewStages}
+use Rattle.stage_runs.specs.Ahead.{HaveReadAhead, KeepPoints}
 use Rattle.stage_runs.specs.Ran.{AreRanStages, AreStoppedStages}
-use Rattle.stage_runs.specs.Parts.{gathers_of, AreLaterNodes, Besides, IsNewLeaf, IsPartRun, IsPartStopped, IsLeafRun, IsLeafStopped, AreRunBefore, AreTurned, ByParts}
+use Rattle.stage_runs.specs.Parts.{gathers_of, AreLaterNodes, AreSoundOwn, Besides, IsNewLeaf, IsPartRun, IsPartStopped, IsLeafRun, IsLeafStopped, AreRunBefore, AreTurned, ByParts}
 use Rattle.stage_runs.specs.Rooms.{IsRoom, IsLastRoom, IsStageRoom}
 use Rattle.stage_runs.specs.Short.{RanShort, SomeGathers}
+use Rattle.stage_runs.proofs.Ahead.{last-ahead, own-last}
+use Rattle.stage_runs.proofs.Places.{map-at}
 use Rattle.stage_runs.proofs.Asked.{fresh-before, root-inputs, last-leaf}
 use Rattle.stage_runs.proofs.LastPart.{last-streams, last-gathers, last-leaf-stopped}
 use Rattle.stage_runs.proofs.Halted.{part-stopped, part-known}
@@ -108,8 +112,8 @@ module _ {S K E : Type 0} (s : source.Ghosts S) (k : sink.Ghosts K) (fits : ℕ 
       pub last-waits : (n : Node (StageWork S K)) → slice_get now root ≡ Some n → IsNewLeaf s k n
       last-waits n e = last-leaf s k stages old new down forest (ins-size stages) homes is.homes besides now some gathers done n e
 
-      pub leaf-stopped : {after : List (Node (StageWork S K))} → IsLeafStopped s k root now after → AreStoppedStages s k stages old after
-      leaf-stopped {after} run = last-leaf-stopped s k stages old new down forest (ins-size stages) homes is.homes besides now after count some gathers done run
+      pub leaf-stopped : {after : List (Node (StageWork S K))} → IsLeafStopped s k queue root now after → AreStoppedStages s k stages old after
+      leaf-stopped {after} run = last-leaf-stopped s k stages old new down forest (ins-size stages) homes is.homes besides queue now after count some gathers done run
 
       module _ {after : List (Node (StageWork S K))} (run : IsLeafRun s k besides root now after) where
         pub leaf-ran : AreRanStages s k stages old after
@@ -158,13 +162,24 @@ module _ {S K E : Type 0} (s : source.Ghosts S) (k : sink.Ghosts K) (fits : ℕ 
           (λ q. let m = some in omega (arith, m)) n f)
 
       -- the last part ended at a fault
-      pub last-stopped : {after : List (Node (StageWork S K))} → IsPartStopped s k part homes (length stages) root now after → AreStoppedStages s k stages old after
-      last-stopped {after} stopped = part-stopped s k stages old new down forest (ins-size stages) homes is.homes besides (length stages) root at-last now count inside lower
-          (λ i l h n. omega (arith, l, n)) done after (subst (λ xss. IsPartStopped s k xss homes (length stages) root now after) same-part stopped)
+      pub last-stopped : (chunk : ℕ) {after : List (Node (StageWork S K))} → IsPartStopped s k queue chunk part homes (length stages) root now after → AreStoppedStages s k stages old after
+      last-stopped chunk {after} stopped = part-stopped s k stages old new down forest (ins-size stages) homes is.homes besides (length stages) root at-last now count inside lower
+          (λ i l h n. omega (arith, l, n)) done queue chunk after (subst (λ xss. IsPartStopped s k queue chunk xss homes (length stages) root now after) same-part stopped)
 
-      pub last-known : {after : List (Node (StageWork S K))} → IsPartStopped s k part homes (length stages) root now after → SomeFault (as_works s k) after ⊎ SomeGathers stages
-      last-known {after} stopped = part-known s k stages old new down forest (ins-size stages) homes is.homes besides (length stages) root at-last now count inside lower
-          (λ i l h n. omega (arith, l, n)) done after (subst (λ xss. IsPartStopped s k xss homes (length stages) root now after) same-part stopped) refl
+      pub last-known : (chunk : ℕ) {after : List (Node (StageWork S K))} → IsPartStopped s k queue chunk part homes (length stages) root now after → SomeFault (as_works s k) after ⊎ SomeGathers stages
+      last-known chunk {after} stopped = part-known s k stages old new down forest (ins-size stages) homes is.homes besides (length stages) root at-last now count inside lower
+          (λ i l h n. omega (arith, l, n)) done queue chunk after (subst (λ xss. IsPartStopped s k queue chunk xss homes (length stages) root now after) same-part stopped) refl
+
+      -- or came to its end, where turns end at a fault
+      pub last-sound : (stops : Type 0) (after : List (Node (StageWork S K))) → length after ≡ length now → (stops → AreSoundOwn homes (length stages) root after) → stops → KeepPoints stages → NoneFaulty (as_works s k) after
+      last-sound stops after size sound first keep j m e =
+          let l : j < length stages = (let a = slice_get_within after j m e in let b = count in omega (arith, a, size, b)) in
+          sound first j m (omega (arith, l)) (own-last s k stages tree old new homes is.homes besides keep j l) e
+
+      -- and its readers have read no further than so
+      pub last-read : (chunk : ℕ) {after : List (Node (StageWork S K))} → IsPartStopped s k queue chunk part homes (length stages) root now after → HaveReadAhead s stages queue chunk old after
+      last-read chunk {after} stopped cuts keep opened tell plain front i f over = last-ahead s k stages tree old new homes is.homes besides now count done queue chunk after
+          (subst (λ xss. IsPartStopped s k queue chunk xss homes (length stages) root now after) same-part stopped) cuts keep opened (λ j n r e w. tell j (work_of n) r (map-at work_of old j n e) w) plain front i f over
 
       module _ {after : List (Node (StageWork S K))} (run : IsPartRun s k besides part homes (length stages) root now after) where
         ran : IsPartRun s k besides (part_ins (gathers_of stages) (ins_of stages) homes (length stages) root) homes (length stages) root now after

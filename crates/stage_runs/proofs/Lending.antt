@@ -21,7 +21,10 @@ use Rattle.stage_runs.specs.declared.plan.Plan.{Plan}
 use Rattle.stage_runs.specs.declared.rooms.PartRoom.{PartRoom}
 use Rattle.stage_runs.specs.Works.{as_works}
 use Rattle.stage_forms.specs.Starts.{IsCollecting}
-use Rattle.stage_runs.specs.Parts.{IsExchanged, IsRenewed, IsNewLeaf, IsLaterNode, AreLaterNodes, AreSameOrLater, is_own, IsNet, IsPart}
+use Rattle.network_core.specs.declared.stop.Stop.{Stop}
+use Rattle.network_core.specs.declared.stop.Stop.TheVariants.{First}
+use Rattle.network_solo.specs.Stopping.{CameToEnd}
+use Rattle.stage_runs.specs.Parts.{AreSoundOwn, IsExchanged, IsRenewed, IsNewLeaf, IsLaterNode, AreLaterNodes, AreSameOrLater, is_own, IsNet, IsPart}
 use Rattle.stage_runs.specs.Rooms.{IsRoom}
 use Rattle.stage_runs.specs.Short.{RanShort, NoneShort}
 use Rattle.stage_runs.proofs.Part.{same-number, other-number}
@@ -251,6 +254,10 @@ module _ {S K : Type 0} (s : source.Ghosts S) (k : sink.Ghosts K) where
                   short = short.short;
                 }
             by_own false o = absurd (no-leaf short.before.work short.collects (stranger short.place short.before less o short.was).leaf)
+
+        -- where turns end at a fault, those that came to their end have none
+        pub part-sound : (stop : Stop) → CameToEnd (as_works s k) stop ended → stop ≡ First → AreSoundOwn homes home root after
+        part-sound stop came first i m l o e = subst (λ x. CameToEnd (as_works s k) x ended) first came i m (sym (back i l o) ∙ e)
 
         pub part-became : (became : List (List ℕ) → List (Node (StageWork S K)) → List (Node (StageWork S K)) → Type 0) → became room.ins renewed ended → NoneShort ended
             → IsPart s k (became part) part homes home root nodes after

@@ -241,7 +241,7 @@ module _ {S K : Type 0} (s : source.Ghosts S) (k : sink.Ghosts K) (stages : List
         inner i n e l (of_home less h) = home-made i n less h e l ∙ ap flow_marks (sym (value-home i less h))
         inner i n e l (stranger less h) = absurd (true≢false (sym (is_net.strange i n less h e).0.leaf ∙ l))
 
-    leaves-tell : LeavesTell (as_works s k) net
+    pub leaves-tell : LeavesTell (as_works s k) net
     leaves-tell i n e l = go (place i n e)
       where
         go : Place i → tells_of s.bytes n.work ≡ true
@@ -263,7 +263,7 @@ module _ {S K : Type 0} (s : source.Ghosts S) (k : sink.Ghosts K) (stages : List
           go (Some (stage.Point p)) h = refl
           go (Some (stage.Device d)) h = absurd (none-some d (sym op ∙ h))
 
-      quiet : NoneCame (as_works s k) net ended
+      pub quiet : NoneCame (as_works s k) net ended
       quiet i n m e f = record { fault = fault (place i n e); short = ap (ran_short (is_short n.work)) (enough i m f) ∙ never (is_short n.work) }
         where
           never : (b : Bool) → ran_short b false ≡ false

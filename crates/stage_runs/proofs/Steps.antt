@@ -88,8 +88,8 @@ module _ {S K : Type 0} (s : source.Ghosts S) (k : sink.Ghosts K) (stages : List
   abbrev PartBy : (List (Node (StageWork S K)) → List (Node (StageWork S K)) → Type 0) → ℕ → ℕ → List (Node (StageWork S K)) → List (Node (StageWork S K)) → Type 0
   PartBy became home root now after = IsPart s k became (part_ins (gathers_of stages) (ins_of stages) homes home root) homes home root now after
 
-  abbrev PartStopped : ℕ → ℕ → List (Node (StageWork S K)) → List (Node (StageWork S K)) → Type 0
-  PartStopped home root now after = IsPartStopped s k (part_ins (gathers_of stages) (ins_of stages) homes home root) homes home root now after
+  abbrev PartStopped : ℕ → ℕ → ℕ → ℕ → List (Node (StageWork S K)) → List (Node (StageWork S K)) → Type 0
+  PartStopped queue chunk home root now after = IsPartStopped s k queue chunk (part_ins (gathers_of stages) (ins_of stages) homes home root) homes home root now after
 
   abbrev Sound : ℕ → List (Node (StageWork S K)) → Type 0
   Sound done now = NoneFailedBefore s k stages homes old done now
@@ -226,7 +226,7 @@ module _ {S K : Type 0} (s : source.Ghosts S) (k : sink.Ghosts K) (stages : List
             opened tell gives part.ended turned part.enough (quiet-ended after part quiet) part.turned.0 m (sym (at-root after part) ∙ e) g
 
       -- where turns ended at a fault
-      module _ (part : PartStopped home root now after) where
+      module _ (queue chunk : ℕ) (part : PartStopped queue chunk home root now after) where
         stopped-turned-nodes : AreTurnedNodes s k part.net part.ended
         stopped-turned-nodes = stopped-turned s k (part_ins (gathers_of stages) (ins_of stages) homes home root) part.net part.ended part.turned.0
 

@@ -147,9 +147,9 @@ module _ {S K : Type 0} (s : source.Ghosts S) (k : sink.Ghosts K) (stages : List
       under i l h n = let a = above s k stages old new down forest (ins-size stages) homes are besides i l in omega (arith, a, h)
 
       -- its part ended at a fault
-      pub turn-stopped : {after : List (Node (StageWork S K))} → IsPartStopped s k (part w w) homes w w now after → AreStoppedStages s k stages old after
-      turn-stopped {after} stopped = part-stopped s k stages old new down forest (ins-size stages) homes are besides w w at-w now count inside (λ j m. m) under done after
-          (subst (λ xss. IsPartStopped s k xss homes w w now after) (same-part w w) stopped)
+      pub turn-stopped : (queue chunk : ℕ) {after : List (Node (StageWork S K))} → IsPartStopped s k queue chunk (part w w) homes w w now after → AreStoppedStages s k stages old after
+      turn-stopped queue chunk {after} stopped = part-stopped s k stages old new down forest (ins-size stages) homes are besides w w at-w now count inside (λ j m. m) under done queue chunk after
+          (subst (λ xss. IsPartStopped s k queue chunk xss homes w w now after) (same-part w w) stopped)
 
       module _ {after : List (Node (StageWork S K))} (run : IsPartRun s k besides (part w w) homes w w now after) where
         ran : IsPartRun s k besides (part_ins (gathers_of stages) (ins_of stages) homes w w) homes w w now after

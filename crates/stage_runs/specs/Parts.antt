@@ -14,6 +14,7 @@ use Rattle.network_theory.specs.Forest.{children}
 use Rattle.network_theory.specs.Opening.{IsFresh}
 use Rattle.network_core.specs.declared.node.Node.{Node}
 use Rattle.network_core.specs.Shown.{shown}
+use Rattle.network_solo.specs.Ahead.{IsReadAhead}
 use Rattle.network_solo.specs.Stopping.{IsStoppedTree, SomeFault}
 use Rattle.network_solo.specs.Trees.{IsRanTree}
 use Rattle.stage_kinds.specs.declared.stage_work.StageWork.{StageWork}
@@ -51,6 +52,10 @@ pub record IsRenewed {W G : Type 0} (g : Ghosts W G) (inputs : ℕ) (net after :
 -- whether a node of the part of a home, or its root, stands at a place
 abbrev pub is_own : List ℕ → ℕ → ℕ → ℕ → Bool
 is_own homes home root i = (i == root) || is_of homes home i
+
+-- no node of the part of a home, and not its root, has a fault
+abbrev pub AreSoundOwn : {W : Type 0} → List ℕ → ℕ → ℕ → List (Node W) → Type 0
+AreSoundOwn {W} homes home root nodes = (i : ℕ) (n : Node W) → i ≤ root → is_own homes home root i ≡ true → slice_get nodes i ≡ Some n → n.fault ≡ None
 
 -- what the nodes of a net come to besides, by the numbers of their children
 abbrev pub Besides : Type 0 → Type 0 → Type 1
@@ -134,9 +139,14 @@ module _ {S K : Type 0} (s : source.Ghosts S) (k : sink.Ghosts K) where
   abbrev pub Ran : Besides S K → List (List ℕ) → List (Node (StageWork S K)) → List (Node (StageWork S K)) → Type 0
   Ran besides part net ended = IsRanTree (as_works s k) part net ended × besides part net ended
 
-  -- or until one had a fault
-  abbrev pub Stopped : List (List ℕ) → List (Node (StageWork S K)) → List (Node (StageWork S K)) → Type 0
-  Stopped part net ended = IsStoppedTree (as_works s k) part net ended × SomeFault (as_works s k) ended
+  -- or until one had a fault, over queues of this capacity
+  abbrev pub Stopped : ℕ → List (List ℕ) → List (Node (StageWork S K)) → List (Node (StageWork S K)) → Type 0
+  Stopped queue part net ended = IsStoppedTree (as_works s k) part net ended × SomeFault (as_works s k) ended × IsReadAhead (as_works s k) part queue net ended
+
+  -- the same of a net whose root makes chunks of so many points
+  abbrev pub StoppedOver : ℕ → ℕ → List (List ℕ) → List (Node (StageWork S K)) → List (Node (StageWork S K)) → Type 0
+  StoppedOver queue chunk part net ended = IsStoppedTree (as_works s k) part net ended × SomeFault (as_works s k) ended × IsReadAhead (as_works s k) part queue net ended
+      × ((n : Node (StageWork S K)) → slice_get net (length net - 1) ≡ Some n → n.chunk ≡ chunk)
 
   -- this became of the nodes of a part, and memory was wanting at none; each is back at its place
   pub record IsPart (became : List (Node (StageWork S K)) → List (Node (StageWork S K)) → Type 0) (part : List (List ℕ)) (homes : List ℕ) (home root : ℕ) (nodes after : List (Node (StageWork S K))) : Type 0 where
@@ -154,8 +164,8 @@ module _ {S K : Type 0} (s : source.Ghosts S) (k : sink.Ghosts K) where
   abbrev pub IsPartRun : Besides S K → List (List ℕ) → List ℕ → ℕ → ℕ → List (Node (StageWork S K)) → List (Node (StageWork S K)) → Type 0
   IsPartRun besides part = IsPart (Ran besides part) part
 
-  abbrev pub IsPartStopped : List (List ℕ) → List ℕ → ℕ → ℕ → List (Node (StageWork S K)) → List (Node (StageWork S K)) → Type 0
-  IsPartStopped part = IsPart (Stopped part) part
+  abbrev pub IsPartStopped : ℕ → ℕ → List (List ℕ) → List ℕ → ℕ → ℕ → List (Node (StageWork S K)) → List (Node (StageWork S K)) → Type 0
+  IsPartStopped queue chunk part = IsPart (StoppedOver queue chunk part) part
 
   -- this became of the node at a place, a leaf, alone
   pub record IsLeaf (became : List (Node (StageWork S K)) → List (Node (StageWork S K)) → Type 0) (at : ℕ) (nodes after : List (Node (StageWork S K))) : Type 0 where
@@ -172,8 +182,8 @@ module _ {S K : Type 0} (s : source.Ghosts S) (k : sink.Ghosts K) where
   abbrev pub IsLeafRun : Besides S K → ℕ → List (Node (StageWork S K)) → List (Node (StageWork S K)) → Type 0
   IsLeafRun besides = IsLeaf (Ran besides ([] ∷ []))
 
-  abbrev pub IsLeafStopped : ℕ → List (Node (StageWork S K)) → List (Node (StageWork S K)) → Type 0
-  IsLeafStopped = IsLeaf (Stopped ([] ∷ []))
+  abbrev pub IsLeafStopped : ℕ → ℕ → List (Node (StageWork S K)) → List (Node (StageWork S K)) → Type 0
+  IsLeafStopped queue = IsLeaf (Stopped queue ([] ∷ []))
 
   -- the stage at a place made of the views that it took what it is to make, and gives that
   pub record IsGatheredAt (at : ℕ) (nodes after : List (Node (StageWork S K))) : Type 0 where

@@ -8,6 +8,7 @@ use Rattle.stage_kinds.specs.declared.stage_work.StageWork.{StageWork}
 use Rattle.stage_kinds.specs.declared.stage_work.StageWork.TheVariants.{Reader}
 use Rattle.stage_kinds.specs.declared.stage_work.StageState.{StageState}
 use Rattle.stage_kinds.specs.Held.{op_of, faults_of}
+use Rattle.stage_kinds.specs.Leads.{ahead_of, extent_of}
 use Rattle.stage_kinds.specs.Stages.{state_of, meaning_of, is_leaf, is_short, holds_of}
 use Rattle.stage_kinds.specs.Reads.{tells_of, told_of, told_fault_of, points_left_of, views_left_of}
 use Rattle.stage_options.specs.declared.stage.StageSpec.{StageSpec}
@@ -32,6 +33,8 @@ as_works source sink = record {
   told_fault = λ k. told_fault_of source.bytes k;
   points_left = λ k. points_left_of k;
   views_left = λ k. views_left_of k;
+  extent = λ k. extent_of source.bytes k;
+  ahead = λ k. ahead_of source.bytes source.reached k;
   holds = λ k points. holds_of sink.bytes k points;
 }
 

@@ -138,10 +138,12 @@ pub(crate) fn run_net<S: Source, K: FileSink, T: Scheduler<StageWork<S, K>>>(
         → Ran S.Source K.Sink (T.besides queue) ins nodes.items result.nodes.items) }
     ensures enough { OnOk result.ended (NoneShort result.nodes.items) }
     ensures short { result.ended ≡ Err Halt.Memory → RanShort nodes.items result.nodes.items }
-    ensures stopped { result.ended ≡ Err Halt.Fault
-        → Stopped S.Source K.Sink ins nodes.items result.nodes.items }
+    ensures stopped { result.ended ≡ Err Halt.Fault → (queue : ℕ) → T.fits (length nodes.items) queue edges
+        → Stopped S.Source K.Sink queue ins nodes.items result.nodes.items }
     ensures stops { result.ended ≡ Err Halt.Fault → T.stop scheduler.now ≡ First }
     ensures enough_then { result.ended ≡ Err Halt.Fault → NoneShort result.nodes.items }
+    ensures sound { OnOk result.ended
+        (CameToEnd (as_works S.Source K.Sink) (T.stop scheduler.now) result.nodes.items) }
 {
     let nodes = scheduler.run(NodeList::new(nodes), ins, edges).into_vec();
     let ended = how_ended(scheduler, &nodes);
@@ -170,7 +172,7 @@ pub(crate) fn run_alone<S: Source, K: FileSink, T: Scheduler<StageWork<S, K>>>(
         (Ran S.Source K.Sink (T.besides queue) ([] ∷ []) (node ∷ []) (result.node ∷ [])) }
     ensures enough { OnOk result.ended (is_short result.node.work ≡ false) }
     ensures stopped { result.ended ≡ Err Halt.Fault
-        → Stopped S.Source K.Sink ([] ∷ []) (node ∷ []) (result.node ∷ []) }
+        → Stopped S.Source K.Sink queue ([] ∷ []) (node ∷ []) (result.node ∷ []) }
     ensures stops { result.ended ≡ Err Halt.Fault → T.stop scheduler.now ≡ First }
     ensures enough_then { result.ended ≡ Err Halt.Fault → is_short result.node.work ≡ false }
 {

@@ -4,7 +4,7 @@ ghost use Rattle.std.specs.Prelude.{◌≡◌, ◌-◌, ◌<◌, ◌≤◌, ◌�
 ghost use Rattle.network_core.specs.declared.node.Node as node_type;
 ghost use Rattle.network_core.specs.declared.stop.Stop.TheVariants.{First};
 ghost use Rattle.network_theory.specs.Forest.{IsForest};
-ghost use Rattle.stage_runs.specs.Parts.{AreFreshBefore, AreSameOrLater, CollectsAt, HasInputs};
+ghost use Rattle.stage_runs.specs.Parts.{AreFreshBefore, AreSameOrLater, AreSoundOwn, CollectsAt, HasInputs};
 ghost use Rattle.stage_runs.specs.Parts.{is_own, IsExchanged, IsGatheredAt, IsLeafRun, IsLeafStopped, IsNewLeafAt};
 ghost use Rattle.stage_runs.specs.Parts.{IsPartRun, IsPartStopped, IsRenewed};
 ghost use Rattle.stage_runs.specs.Rooms.{IsRoom, part_of};
@@ -54,7 +54,9 @@ fn renew_root<W: Work>(net: &mut Vec<Node<W>>, inputs: u32, chunk: usize)
         → (W.leaf n.work ≡ true) ↔ (inputs ≡ 0) }
     requires some { 0 < chunk }
     requires most { chunk ≤ 64 }
-    ensures { IsRenewed W.Work inputs net.old.items net.new.items }
+    ensures renewed { IsRenewed W.Work inputs net.old.items net.new.items }
+    ensures cut { (n : node_type.Node W) → slice_get net.new.items (length net.old.items - 1) ≡ Some n
+        → n.chunk ≡ chunk }
 {
     if let Some(root) = net.pop() {
         net.push_reserved(Node::new(root.into_work(), inputs, chunk));
@@ -85,9 +87,11 @@ pub(crate) fn run_part<S: Source, K: FileSink, T: Scheduler<StageWork<S, K>>>(
     ensures run { OnOk result (IsPartRun S.Source K.Sink (T.besides sizes.queue) (part_of plan.now home root)
         plan.now.homes.items home root nodes.old nodes.new) }
     ensures short { result ≡ Err Halt.Memory → RanShort nodes.old nodes.new }
-    ensures stopped { result ≡ Err Halt.Fault → IsPartStopped S.Source K.Sink (part_of plan.now home root)
-        plan.now.homes.items home root nodes.old nodes.new }
+    ensures stopped { result ≡ Err Halt.Fault → IsPartStopped S.Source K.Sink sizes.queue sizes.chunk
+        (part_of plan.now home root) plan.now.homes.items home root nodes.old nodes.new }
     ensures stops { result ≡ Err Halt.Fault → T.stop scheduler.now ≡ First }
+    ensures sound { OnOk result (T.stop scheduler.now ≡ First
+        → AreSoundOwn plan.now.homes.items home root nodes.new) }
 {
     let PartRoom {
         ins,
@@ -119,7 +123,8 @@ pub(crate) fn run_leaf<S: Source, K: FileSink, T: Scheduler<StageWork<S, K>>>(
     requires leaf { IsNewLeafAt S.Source K.Sink at nodes.old }
     ensures later { AreSameOrLater S.Source K.Sink nodes.old nodes.new }
     ensures run { OnOk result (IsLeafRun S.Source K.Sink (T.besides sizes.queue) at nodes.old nodes.new) }
-    ensures stopped { result ≡ Err Halt.Fault → IsLeafStopped S.Source K.Sink at nodes.old nodes.new }
+    ensures stopped { result ≡ Err Halt.Fault
+        → IsLeafStopped S.Source K.Sink sizes.queue at nodes.old nodes.new }
     ensures stops { result ≡ Err Halt.Fault → T.stop scheduler.now ≡ First }
 {
     let empty = stand_in(alloc, sizes.chunk);

@@ -50,6 +50,10 @@ impl Work for Giver {
 
     ghost views_left = { λ w. cond w.viewed 0 1 };
 
+    ghost extent = { λ _. None };
+
+    ghost ahead = { λ _. 0 };
+
     ghost holds = { λ _ _. true };
 
     ghost cutting = { λ _. passing_keeps };

@@ -2,7 +2,8 @@ use Rattle.std.proofs.Common.{◌≡◌, ◌+◌, refl, ap, ◌∙◌, arith}
 use Rattle.stage_kinds.specs.Held.{op_of}
 use Rattle.held_devices.specs.Holding.{there, all_held}
 use Rattle.held_devices.proofs.Sums.{sum-pop, none-there}
-use Rattle.held_devices.proofs.Releasing.{none-released, one-released, all-released}
+use Rattle.stage_kinds.specs.Leads.{reached_of}
+use Rattle.held_devices.proofs.Releasing.{none-released, one-released, all-released, read-one, read-all}
 use Rattle.held_devices.proofs.release.release_works.Goals as goal
 
 pub loop-work-init : goal.loop-work-init
@@ -10,6 +11,7 @@ loop-work-init g c = record {
   map = refl;
   lent = λ others e. e;
   later = omega arith;
+  read = λ x e. (x, e, refl);
   released = none-released g.F.In.Source.faults g.F.Out.Sink.faults c.args.works.items (g.F.Files.faults c.args.files.now) (g.F.Files.faults c.args.files.now);
 }
 
@@ -22,6 +24,8 @@ loop-work-preserved g c =
       map = done.map ∙ now.map;
       lent = λ others e. done.lent (others + all_held c.pop.new.self.items) (let a = now.lent others e in omega (arith, a, sum));
       later = (let a = now.later in let b = done.later in omega (arith, a, b));
+      read = λ x e. read-one (g.F.Files.read_to c.args.files.now) (g.F.Files.read_to c.loop-work.files) (g.F.Files.read_to c.release_work.new.files) (reached_of g.F.In.Source.reached) c.args.works.items
+          c.loop-work.works.items c.pop.new.self.items c.in-Some.work c.in-Some.ensures.items now.read done.read x e;
       released = one-released g.F.In.Source.faults g.F.Out.Sink.faults c.args.works.items (g.F.Files.faults c.args.files.now) c.loop-work.works.items c.pop.new.self.items c.in-Some.work
           (g.F.Files.faults c.loop-work.files) (g.F.Files.faults c.release_work.new.files) c.in-Some.ensures.items now.later done.later done.counted now.released;
     }
@@ -36,3 +40,7 @@ returns-clause-lent g c = λ others e.
 pub returns-clause-counted : goal.returns-clause-counted
 returns-clause-counted g c = all-released g.F.In.Source.faults g.F.Out.Sink.faults c.args.works.items (g.F.Files.faults c.args.files.now) c.loop-work.works.items (g.F.Files.faults c.loop-work.files)
     (none-there c.loop-work.works.items (let z = c.in_default.ensures.cases.0 in let k = c.loop-work.works.ok in omega (arith, z, k))) c.loop-work.invariant.released
+
+pub returns-clause-read : goal.returns-clause-read
+returns-clause-read g c = read-all (g.F.Files.read_to c.args.files.now) (g.F.Files.read_to c.loop-work.files) (reached_of g.F.In.Source.reached) c.args.works.items c.loop-work.works.items
+    (none-there c.loop-work.works.items (let z = c.in_default.ensures.cases.0 in let k = c.loop-work.works.ok in omega (arith, z, k))) c.loop-work.invariant.read

@@ -1,4 +1,6 @@
-use Rattle.std.proofs.Common.{◌≡◌, ◌≤◌, ◌+◌, ℕ, vec_len}
+use Rattle.std.proofs.Common.{◌≡◌, ◌≤◌, ◌+◌, ℕ, Some, vec_len}
+use Rattle.std.specs.Prelude.{sum_by}
+use Rattle.stage_kinds.specs.Leads.{reached_of}
 use Rattle.held_devices.specs.Holding.{all_held}
 use Rattle.held_devices.proofs.Releasing.{Released}
 use Rattle.held_devices.proofs.release.release_works.Given as goal
@@ -10,6 +12,8 @@ invariant-loop-work g l =
       map : files.map l.files ≡ files.map l.fn.files;
       lent : (others : ℕ) → files.lent l.fn.files ≡ others + all_held l.fn.works.items → files.lent l.files ≡ others + all_held l.works.items;
       later : files.faults l.fn.files ≤ files.faults l.files;
+      read : (x : ℕ) → files.read_to l.files ≡ Some x
+          → (y : ℕ) × (files.read_to l.fn.files ≡ Some y) × (x + sum_by (reached_of g.F.In.Source.reached) l.works.items ≡ y + sum_by (reached_of g.F.In.Source.reached) l.fn.works.items);
       released : Released g.F.In.Source.faults g.F.Out.Sink.faults l.fn.works.items l.works.items (files.faults l.fn.files) (files.faults l.files);
     }
 

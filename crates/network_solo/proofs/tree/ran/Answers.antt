@@ -1,6 +1,7 @@
 use Rattle.std.proofs.Common.{ap, subst, sym}
 use Rattle.network_core.specs.declared.net.Net.{Net}
 use Rattle.network_core.specs.Nets.{ins_of, nodes_of, capacity_of, IsNewNet}
+use Rattle.network_solo.specs.Ahead.{IsReadAhead}
 use Rattle.network_solo.specs.Stopping.{CameToEnd, NoneFaulty}
 use Rattle.network_solo.specs.Trees.{IsRanTree}
 use Rattle.network_solo.proofs.Stopping.{runs-to-end}
@@ -40,3 +41,8 @@ returns-clause-over g c = λ came.
       left = ap nodes_of (sym c.into_net-in-First.ensures);
       done = runs-to-end g.W.Work c.run_first.new.self c.run_first.ensures.over none;
     }
+
+pub returns-clause-ahead : goal.returns-clause-ahead
+returns-clause-ahead g c = λ first.
+    subst (λ (n : Net _). IsReadAhead g.W.Work (ins_of c.args.net) (capacity_of c.args.net) (nodes_of c.args.net) (nodes_of n)) (sym c.into_net-in-First.ensures)
+    (subst (λ (n : Net _). IsReadAhead g.W.Work (ins_of n) (capacity_of n) (nodes_of n) (nodes_of c.run_first.new.self)) c.new-solo.ensures c.run_first.ensures.ahead)

@@ -1,6 +1,8 @@
-use Rattle.std.proofs.Common.{IfOk, subst}
-use Rattle.network_core.specs.declared.stop.Stop.TheVariants.{Last}
+use Rattle.std.proofs.Common.{◌≡◌, IfOk, subst}
+use Rattle.network_core.specs.declared.stop.Stop.TheVariants.{First, Last}
 use Rattle.run_outcome.proofs.Results.{if-ok, if-on-err}
+use Rattle.stage_runs.specs.Ahead.{AreReadAhead}
+use Rattle.run_engine.specs.declared.engine.Engine.TheVariants.{Queues}
 use Rattle.run_engine.specs.Jobs.{IsWaiting, TakesTurns}
 use Rattle.run_engine.specs.Stopping.{HaveEndedBy}
 use Rattle.run_engine.proofs.Stopping.{ended-by, turns-stop, whole-stop}
@@ -43,3 +45,12 @@ returns-in-Whole-clause-ended g c = λ chosen waits.
     subst (λ end. IfOk c.whole_works.result.outcome (λ ended. HaveEndedBy g.S.Source g.K.Sink end c.args.stages.now c.args.works.items works ended.faults.items ended.report.items))
     (whole-stop g.S.Source g.K.Sink g.T.Scheduler.fits c.args.stages.now stop chosen waits-so)
     (if-ok c.whole_works.result.outcome c.whole_works.ensures.ended (λ ended have. ended-by g.S.Source g.K.Sink Last c.args.stages.now c.args.works.items works ended.faults.items ended.report.items have))
+
+pub returns-in-Turns-clause-ahead : goal.returns-in-Turns-clause-ahead
+returns-in-Turns-clause-ahead g c = λ shape waits.
+    let waits-so = subst (IsWaiting g.S.Source g.K.Sink g.T.Scheduler.fits (Queues shape) c.args.stages.now) c.in-Turns.is waits in
+    subst (λ x. IfOk c.turn_works.result.outcome (λ ended. g.T.Scheduler.stop c.args.scheduler.now ≡ First
+    → AreReadAhead g.S.Source c.args.stages.now x.queue x.chunk c.args.works.items c.turn_works.result.works.items ended.faults.items)) waits-so.cut c.turn_works.ensures.ahead
+
+pub returns-in-Whole-clause-ahead : goal.returns-in-Whole-clause-ahead
+returns-in-Whole-clause-ahead g c = λ shape waits. absurd (subst (IsWaiting g.S.Source g.K.Sink g.T.Scheduler.fits (Queues shape) c.args.stages.now) c.in-Whole.is waits)

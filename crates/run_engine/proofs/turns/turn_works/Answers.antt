@@ -5,12 +5,14 @@ use Rattle.network_core.specs.Shown.{work_of}
 use Rattle.stage_kinds.specs.Held.{faults_of}
 use Rattle.stage_runs.specs.Parts.{AreLaterNodes}
 use Rattle.stage_runs.specs.Ran.{AreRanStages, AreStoppedStages}
+use Rattle.stage_runs.specs.Ahead.{AreReadAhead, HaveReadAhead}
 use Rattle.stage_runs.specs.Short.{SomeGathers}
 use Rattle.stage_runs.proofs.Lending.{slice-back}
 use Rattle.run_engine.specs.Counted.{AreCounted, AreFaultsOf}
 use Rattle.stage_forms.specs.Later.{AreLater}
 use Rattle.run_outcome.specs.Faults.{AreSound}
 use Rattle.run_engine.specs.Stopping.{HaveEndedBy}
+use Rattle.run_engine.proofs.Ahead.{none-ahead, some-ahead}
 use Rattle.run_engine.proofs.Stopping.{three-if-ok, by-halt, ended-by, on-err-so}
 use Rattle.run_outcome.proofs.Results.{ok-same}
 use Rattle.run_engine.proofs.Ran.{later, have-ended, have-stopped, some-unsound}
@@ -125,4 +127,37 @@ returns-clause-gathers g c =
                 (subst (λ (ns : List (Node _)). (found : List (Option StageFault)) → AreFaultsOf ns found → AreSound found) (w.deref-in-Err.ensures.value ∙ back) (none fault) (map (λ (n : Node _). n.fault) new) refl))
             | inr gathers ↦ gathers
           ])))
+    ]
+
+pub returns-clause-ahead : goal.returns-clause-ahead
+returns-clause-ahead g c =
+    let s = g.S.Source in
+    let k = g.K.Sink in
+    let stages = c.args.stages.now in
+    let works = c.args.works.items in
+    let made = c.nodes_over-nodes.ensures in
+    let old = c.nodes_over-nodes.result.items in
+    let new = c.run_stages-ran.new.nodes in
+    let lasted = subst (λ xs. AreLaterNodes s k xs new) c.as_mut_slice.ensures.value c.run_stages-ran.ensures.later in
+    let back = slice-back old new c.nodes_over-nodes.result.len lasted.count c.nodes_over-nodes.result.ok.0 in
+    let is-works = c.works_in-works.ensures ∙ ap (map work_of) back in
+    let room = c.requires.room in
+    let queue = c.args.room.shape.queue in
+    let chunk = c.args.room.shape.chunk in
+    elim c.match-ran.branch [
+      | in-Ok w ↦ (
+          let report = w.ended.result in
+          ok-same _ c.match-ran.outcome (Ok report) w.outcome-is (λ first.
+          none-ahead s k stages queue chunk new works c.works_in-works.result.items report.faults.items (w.in-Ok.ensures.sound first)
+          (subst (λ (ns : List (Node _)). AreFaultsOf ns report.faults.items) (w.deref.ensures.value ∙ back) w.ended.ensures.faults)))
+      | in-Err w ↦ (
+          let result = w.halted-outcome.result in
+          let ensures = w.halted-outcome.ensures in
+          ok-same _ c.match-ran.outcome result w.outcome-is
+          (three-if-ok result _ _ _ _ ensures.fault ensures.faults ensures.faulty (λ report fault faults faulty first.
+          let ahead = subst (λ xs. HaveReadAhead s stages c.args.room.stages.sizes.queue c.args.room.stages.sizes.chunk xs new) c.as_mut_slice.ensures.value (w.in-Err.ensures.ahead (ap Err fault)) in
+          let shaped = subst (λ q. HaveReadAhead s stages q chunk old new) room.queue (subst (λ n. HaveReadAhead s stages c.args.room.stages.sizes.queue n old new) room.chunk ahead) in
+          subst (λ ws. AreReadAhead s stages queue chunk works ws report.faults.items) (sym is-works)
+          (some-ahead s k stages queue chunk old new works report.faults.items shaped (λ j n e. made.chunk j n e ∙ c.chunk.ensures.value) made.works
+          (subst (λ (ns : List (Node _)). AreFaultsOf ns report.faults.items) (w.deref-in-Err.ensures.value ∙ back) faults)))))
     ]

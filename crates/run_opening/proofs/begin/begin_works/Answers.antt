@@ -32,6 +32,7 @@ loop-reader-init g c =
       room = c.in-Ok.ensures.capacity;
       map = refl;
       lent = λ others e. (let a = ap all_there turned ∙ sum-reverse there c.args.readers.items in let b : all_held c.in-Ok.works.items ≡ 0 = ap all_held empty in omega (arith, a, b, e));
+      read = refl;
       later = omega arith;
     }
 
@@ -100,6 +101,7 @@ loop-reader-preserved g c =
       room = (let a = c.push_reserved.ensures.capacity in let b = now.room in omega (arith, a, b));
       map = c.begin_work.ensures.map ∙ now.map;
       lent = λ others e. (let a = now.lent others e in let b = c.in-Ok-begin_work.ensures.lent_ok in omega (arith, a, b, less, more));
+      read = c.begin_work.ensures.read ∙ now.read;
       later = (let a = c.begin_work.ensures.later in let b = now.later in omega (arith, a, b));
     }
 

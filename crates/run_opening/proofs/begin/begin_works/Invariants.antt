@@ -17,6 +17,7 @@ invariant-loop-reader g l =
       room : length l.stages ≤ vec_capacity l.works;
       map : files.map l.files ≡ files.map l.fn.files;
       lent : (others : ℕ) → files.lent l.fn.files ≡ others + all_there l.fn.readers.items → files.lent l.files ≡ others + all_there l.readers.items + all_held l.works.items;
+      read : files.read_to l.files ≡ files.read_to l.fn.files;
       later : files.faults l.fn.files ≤ files.faults l.files;
     }
 

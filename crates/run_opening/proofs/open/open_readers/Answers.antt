@@ -50,5 +50,6 @@ loop-i-preserved g c =
       room = (let a = c.push_reserved.ensures.capacity in let b = now.room in omega (arith, a, b));
       map = c.open_stage.ensures.map ∙ now.map;
       lent = (let a = c.in-Ok-open_stage.ensures.lent_ok in let b = now.lent in omega (arith, a, b, sum));
+      read = c.in-Ok-open_stage.ensures.read ∙ now.read;
       later = (let a = c.open_stage.ensures.later in let b = now.later in omega (arith, a, b));
     }

@@ -13,5 +13,6 @@ invariant-loop-i g l =
       room : length l.stages ≤ vec_capacity l.readers;
       map : files.map l.files ≡ files.map l.fn.files;
       lent : files.lent l.files ≡ files.lent l.fn.files + all_there l.readers.items;
+      read : files.read_to l.files ≡ files.read_to l.fn.files;
       later : files.faults l.fn.files ≤ files.faults l.files;
     }

@@ -1,5 +1,6 @@
 use Rattle.std.proofs.Common.{List, length, sym, subst, ◌∙◌}
 use Rattle.network_core.specs.declared.node.Node.{Node}
+use Rattle.network_solo.specs.Ahead.{IsReadAhead}
 use Rattle.network_solo.specs.Stopping.{CameToEnd, IsStoppedTree, SomeFault}
 use Rattle.network_solo.specs.Trees.{AreFresh}
 use Rattle.stage_runs.specs.Works.{as_works}
@@ -39,11 +40,17 @@ returns-clause-short g c = λ halted.
     found.0 found.1 found.2 found.3
 
 pub returns-clause-stopped : goal.returns-clause-stopped
-returns-clause-stopped g c = λ halted. (
+returns-clause-stopped g c = λ halted queue fits. (
   subst (λ (ns : List (Node _)). IsStoppedTree (as_works g.S.Source g.K.Sink) c.args.ins c.args.nodes.items ns) (sym c.into_vec-nodes.ensures)
       (subst (λ (ns : List (Node _)). IsStoppedTree (as_works g.S.Source g.K.Sink) c.args.ins ns c.run.result) c.new.ensures (c.run.ensures.stopped (c.how_ended-ended.ensures.stops halted))),
   subst (λ (ns : List (Node _)). SomeFault (as_works g.S.Source g.K.Sink) ns) c.deref.ensures.value (c.how_ended-ended.ensures.fault halted),
+  subst (λ (ns : List (Node _)). IsReadAhead (as_works g.S.Source g.K.Sink) c.args.ins queue c.args.nodes.items ns) (sym c.into_vec-nodes.ensures)
+      (subst (λ (ns : List (Node _)). IsReadAhead (as_works g.S.Source g.K.Sink) c.args.ins queue ns c.run.result) c.new.ensures
+      (c.run.ensures.ahead (c.how_ended-ended.ensures.stops halted) queue (subst (λ (ns : List (Node _)). g.T.Scheduler.fits (length ns) queue c.args.edges) (sym c.new.ensures) fits))),
 )
+
+pub returns-clause-sound : goal.returns-clause-sound
+returns-clause-sound g c = on-ok c.how_ended-ended.result _ _ (subst (λ (ns : List (Node _)). CameToEnd (as_works g.S.Source g.K.Sink) (g.T.Scheduler.stop c.args.scheduler.now) ns) c.deref.ensures.value) c.how_ended-ended.ensures.done
 
 pub returns-clause-enough_then : goal.returns-clause-enough_then
 returns-clause-enough_then g c = λ halted. subst (λ (ns : List (Node _)). NoneShort ns) c.deref.ensures.value (c.how_ended-ended.ensures.enough_then halted)

@@ -1,5 +1,5 @@
 use Rattle.std.proofs.lemmas.Result.{err_from_is_err_and}
-use Rattle.std.proofs.Common.{Err, inr, ◌≡◌, ◌+◌, ◌<◌, length, refl, ap, sym, subst, ◌∙◌, arith}
+use Rattle.std.proofs.Common.{Err, ◌≡◌, ◌+◌, ◌<◌, length, refl, ap, sym, subst, ◌∙◌, arith}
 use Rattle.network_theory.specs.Opening.{IsFresh}
 use Rattle.network_core.specs.Shown.{shown}
 use Rattle.stage_runs.specs.Works.{as_works, ins_of}
@@ -109,7 +109,7 @@ pub returns-in_err-run_part-clause-gathers : goal.returns-in_err-run_part-clause
 returns-in_err-run_part-clause-gathers g c = λ halted. gathers-one g.S.Source g.K.Sink c.args.stages.now c.requires.tree c.requires.new c.args.plan.now c.requires.gathers c.requires.ins c.requires.homes (g.T.Scheduler.besides c.args.sizes.queue) c.loop-at.at c.loop-at.invariant.later c.loop-at.invariant.done c.loop-at-test.true c.index.ensures c.if-index.true
 
 pub returns-in_err-run_part-clause-stopped : goal.returns-in_err-run_part-clause-stopped
-returns-in_err-run_part-clause-stopped g c = λ halted. turn-stopped g.S.Source g.K.Sink c.args.stages.now c.requires.tree c.requires.new c.args.plan.now c.requires.gathers c.requires.ins c.requires.homes (g.T.Scheduler.besides c.args.sizes.queue) c.loop-at.at c.loop-at.invariant.later c.loop-at.invariant.done c.loop-at-test.true c.index.ensures c.if-index.true (c.run_part.ensures.stopped (
+returns-in_err-run_part-clause-stopped g c = λ halted. turn-stopped g.S.Source g.K.Sink c.args.stages.now c.requires.tree c.requires.new c.args.plan.now c.requires.gathers c.requires.ins c.requires.homes (g.T.Scheduler.besides c.args.sizes.queue) c.loop-at.at c.loop-at.invariant.later c.loop-at.invariant.done c.loop-at-test.true c.index.ensures c.if-index.true c.args.sizes.queue c.args.sizes.chunk (c.run_part.ensures.stopped (
     let p = err_from_is_err_and c.from_residual-in_err-run_part.result c.from_residual-in_err-run_part.ensures.1 in
     c.in_err-run_part.was ∙ ap Err (sym p.2) ∙ sym p.1 ∙ halted))
 
@@ -159,10 +159,10 @@ returns-clause-turned g c =
     subst (λ n. AreTurned g.S.Source g.K.Sink c.args.stages.now c.args.plan.now.homes.items c.args.nodes.now (g.T.Scheduler.besides c.args.sizes.queue) n c.loop-at.nodes) at-end c.loop-at.invariant.turned
 
 pub returns-in_err-room-clause-known : goal.returns-in_err-room-clause-known
-returns-in_err-room-clause-known g c = λ halted. inr (gathers-one g.S.Source g.K.Sink c.args.stages.now c.requires.tree c.requires.new c.args.plan.now c.requires.gathers c.requires.ins c.requires.homes (g.T.Scheduler.besides c.args.sizes.queue) c.loop-at.at c.loop-at.invariant.later c.loop-at.invariant.done c.loop-at-test.true c.index.ensures c.if-index.true)
+returns-in_err-room-clause-known g c = λ halted. gathers-one g.S.Source g.K.Sink c.args.stages.now c.requires.tree c.requires.new c.args.plan.now c.requires.gathers c.requires.ins c.requires.homes (g.T.Scheduler.besides c.args.sizes.queue) c.loop-at.at c.loop-at.invariant.later c.loop-at.invariant.done c.loop-at-test.true c.index.ensures c.if-index.true
 
 pub returns-in_err-run_part-clause-known : goal.returns-in_err-run_part-clause-known
-returns-in_err-run_part-clause-known g c = λ halted. inr (gathers-one g.S.Source g.K.Sink c.args.stages.now c.requires.tree c.requires.new c.args.plan.now c.requires.gathers c.requires.ins c.requires.homes (g.T.Scheduler.besides c.args.sizes.queue) c.loop-at.at c.loop-at.invariant.later c.loop-at.invariant.done c.loop-at-test.true c.index.ensures c.if-index.true)
+returns-in_err-run_part-clause-known g c = λ halted. gathers-one g.S.Source g.K.Sink c.args.stages.now c.requires.tree c.requires.new c.args.plan.now c.requires.gathers c.requires.ins c.requires.homes (g.T.Scheduler.besides c.args.sizes.queue) c.loop-at.at c.loop-at.invariant.later c.loop-at.invariant.done c.loop-at-test.true c.index.ensures c.if-index.true
 
 pub returns-in_err-gather_at-clause-known : goal.returns-in_err-gather_at-clause-known
-returns-in_err-gather_at-clause-known g c = λ halted. inr (gathers-one g.S.Source g.K.Sink c.args.stages.now c.requires.tree c.requires.new c.args.plan.now c.requires.gathers c.requires.ins c.requires.homes (g.T.Scheduler.besides c.args.sizes.queue) c.loop-at.at c.loop-at.invariant.later c.loop-at.invariant.done c.loop-at-test.true c.index.ensures c.if-index.true)
+returns-in_err-gather_at-clause-known g c = λ halted. gathers-one g.S.Source g.K.Sink c.args.stages.now c.requires.tree c.requires.new c.args.plan.now c.requires.gathers c.requires.ins c.requires.homes (g.T.Scheduler.besides c.args.sizes.queue) c.loop-at.at c.loop-at.invariant.later c.loop-at.invariant.done c.loop-at-test.true c.index.ensures c.if-index.true

@@ -253,3 +253,27 @@ returns-in-Err-keep_all-clause-blamed g c = λ i o same.
     let last = failed-all s k stages works done c.in-Done.ended.faults.items rose (files.map c.args.files.now) (files.map c.keep_all.new.files) sound (fit s k c.requires.ran.1 stages ran.before works ran.ready faults ran.later)
     c.finish-works.ensures.later c.finish-works.ensures.kept i o (subst (IsUnkept k.bytes rose (files.map c.args.files.now) (files.map c.keep_all.new.files) stages done) is c.in-Err-keep_all.ensures.err) in
     subst (λ step. IsBlamed faults rose works step i o) (sym c.in-Done.is) (inr last)
+
+pub returns-in-Err-clause-read : goal.returns-in-Err-clause-read
+returns-in-Err-clause-read g c = λ refusal came. c.release_works-in-Err.ensures.read
+
+pub returns-in-Err-outcome-clause-read : goal.returns-in-Err-outcome-clause-read
+returns-in-Err-outcome-clause-read g c = λ refusal came.
+    let met : refusal_for c.in-Done.ended.faults.items ≡ Some refusal = subst (CameTo {S = g.row.S.Denot} {K = g.row.K.Denot} {E = g.row.E.Denot} refusal) c.in-Done.is came in
+    let none : refusal_for c.in-Done.ended.faults.items ≡ None = subst (λ fs. refusal_for fs ≡ None) c.as_slice.ensures.value c.in_default.ensures.ok in
+    let no : None ≡ Some refusal = sym none ∙ met in
+    absurd cc
+
+pub returns-in-Err-keep_all-clause-read : goal.returns-in-Err-keep_all-clause-read
+returns-in-Err-keep_all-clause-read g c = λ refusal came.
+    let met : refusal_for c.in-Done.ended.faults.items ≡ Some refusal = subst (CameTo {S = g.row.S.Denot} {K = g.row.K.Denot} {E = g.row.E.Denot} refusal) c.in-Done.is came in
+    let none : refusal_for c.in-Done.ended.faults.items ≡ None = subst (λ fs. refusal_for fs ≡ None) c.as_slice.ensures.value c.in_default.ensures.ok in
+    let no : None ≡ Some refusal = sym none ∙ met in
+    absurd cc
+
+pub returns-in-Ok-clause-read : goal.returns-in-Ok-clause-read
+returns-in-Ok-clause-read g c = λ refusal came.
+    let met : refusal_for c.in-Done.ended.faults.items ≡ Some refusal = subst (CameTo {S = g.row.S.Denot} {K = g.row.K.Denot} {E = g.row.E.Denot} refusal) c.in-Done.is came in
+    let none : refusal_for c.in-Done.ended.faults.items ≡ None = subst (λ fs. refusal_for fs ≡ None) c.as_slice.ensures.value c.in_default.ensures.ok in
+    let no : None ≡ Some refusal = sym none ∙ met in
+    absurd cc

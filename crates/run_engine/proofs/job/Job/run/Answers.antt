@@ -6,7 +6,12 @@ use Rattle.stage_runs.specs.Short.{SomeGathers}
 use Rattle.held_devices.specs.Holding.{all_held}
 use Rattle.run_outcome.proofs.Results.{ok-of}
 use Rattle.run_engine.specs.Stopping.{HaveEndedBy, ends_at}
-use Rattle.run_engine.specs.Jobs.{HaveCome, IsShort, IsWaiting, TakesTurns}
+use Rattle.network_core.specs.declared.stop.Stop.TheVariants.{First}
+use Rattle.stage_runs.specs.Ahead.{AreReadAhead}
+use Rattle.run_engine.specs.declared.engine.Engine.TheVariants.{Queues}
+use Rattle.run_engine.specs.declared.shape.Shape.{Shape}
+use Rattle.run_engine.specs.Jobs.{HaveCome, HaveReadBy, IsShort, IsWaiting, TakesTurns}
+use Rattle.run_engine.proofs.Ahead.{read-done, read-short}
 use Rattle.run_engine.proofs.Answers.{same-held}
 use Rattle.run_engine.proofs.Inputs.{few-stages}
 use Rattle.run_engine.proofs.Waiting.{on-err}
@@ -92,3 +97,23 @@ returns-clause-held g c =
     ap (λ works. all_held works.items) c.replace-blank.ensures.after
     ∙ same-held faults c.replace-works.result.items c.evaluate-works.result.works.items c.evaluate-works.ensures.later
     ∙ ap (λ works. all_held works.items) c.replace-works.ensures.value
+
+pub returns-in_err-ended-clause-ahead : goal.returns-in_err-ended-clause-ahead
+returns-in_err-ended-clause-ahead g c = λ first engine waits. subst (HaveReadBy g.S.Source g.K.Sink engine c.args.stages.now c.args.self.now.works.items c.replace-blank.new.dest.items) (sym c.replace-step.ensures.after)
+    (read-short g.row.E.Denot g.S.Source g.K.Sink c.args.stages.now c.args.self.now.works.items c.replace-blank.new.dest.items engine)
+
+pub returns-clause-ahead : goal.returns-clause-ahead
+returns-clause-ahead g c = λ first engine waits.
+    let s = g.S.Source in
+    let k = g.K.Sink in
+    let stages = c.args.stages.now in
+    let old = c.args.self.now.works.items in
+    let done = c.in_ok-ended.ended in
+    let new = c.evaluate-works.result.works.items in
+    let waits-so = subst (IsWaiting s k g.T.Scheduler.fits engine stages) (sym c.replace-step.ensures.value) waits in
+    let ahead : (shape : Shape) → engine ≡ Queues shape → AreReadAhead s stages shape.queue shape.chunk old new done.faults.items = λ shape is.
+    ok-of (λ e. g.T.Scheduler.stop c.args.scheduler.now ≡ First → AreReadAhead s stages shape.queue shape.chunk old new e.faults.items) c.evaluate-works.result.outcome done (search rules)
+    (subst (λ works. IfOk c.evaluate-works.result.outcome (λ e. g.T.Scheduler.stop c.args.scheduler.now ≡ First → AreReadAhead s stages shape.queue shape.chunk works.items new e.faults.items)) c.replace-works.ensures.value
+    (c.evaluate-works.ensures.ahead shape (subst (λ x. IsWaiting s k g.T.Scheduler.fits x stages c.replace-step.result) is waits-so))) first in
+    subst (λ works. HaveReadBy s k engine stages old works.items c.replace.new.dest) (sym c.replace-blank.ensures.after)
+    (subst (HaveReadBy s k engine stages old new) (sym c.replace.ensures.after) (read-done g.row.E.Denot s k stages old new engine done ahead))
