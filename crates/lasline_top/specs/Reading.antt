@@ -1,12 +1,9 @@
 -- How far a command reads files.
-use Rattle.std.specs.Prelude.{◌≡◌, ◌+◌, ◌≤◌, ℕ, Option, Some, Result, Ok, Err, ⊤}
+use Rattle.std.specs.Prelude.{◌≡◌, ◌+◌, ℕ, Option, Result, Ok, Err, ⊤}
 use Rattle.pipeline_json.specs.declared.reading.TheConstants.{MOST_BYTES}
 use Rattle.run_report.specs.declared.refusal.Refusal.{Refusal}
+use Rattle.run_engine.specs.ReadAhead.{ReadAtMost}
 use Rattle.lasline_top.specs.Words.{Task, Plan_file, Print}
-
--- the sum of how far the sources were read that were taken back rose by at most this, where it is told
-abbrev pub ReadAtMost : ℕ → Option ℕ → Option ℕ → Type 0
-ReadAtMost most old new = (n k : ℕ) → old ≡ Some n → new ≡ Some k → k ≤ n + most
 
 -- a plan reads in all no more than the pipeline's file may have, and one byte. A page, and words that are no command, read nothing
 abbrev pub IsReadBy : Result Task Refusal → Option ℕ → Option ℕ → Type 0

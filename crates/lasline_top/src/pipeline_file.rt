@@ -9,7 +9,7 @@ ghost use Rattle.run_outcome.specs.Cause.{Because, IsSettled};
 ghost use Rattle.stage_options.specs.TreeShown.{specs_view};
 ghost use Rattle.lasline_top.specs.Answer.{plan_in, stages_in};
 ghost use Rattle.lasline_top.specs.Cause.{AtText, Never, Risen, IsOfPlan, IsOfText};
-ghost use Rattle.lasline_top.specs.Reading.{ReadAtMost};
+ghost use Rattle.run_engine.specs.ReadAhead.{ReadAtMost};
 ghost use Rattle.lasline_top.specs.Refusals.{refusal_of};
 
 use file_devices::{DeviceErr, Files, Op, WholeErr, read_whole};

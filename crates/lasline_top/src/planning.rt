@@ -5,7 +5,7 @@ ghost use Rattle.file_devices.specs.Counts.{Rose};
 ghost use Rattle.lasline_top.specs.Words.{Plan_file};
 ghost use Rattle.lasline_top.specs.Cause.{IsOfFiles};
 ghost use Rattle.lasline_top.specs.Ends.{WasDone, WasRefused};
-ghost use Rattle.lasline_top.specs.Reading.{ReadAtMost};
+ghost use Rattle.run_engine.specs.ReadAhead.{ReadAtMost};
 
 use crate::pipeline_file::read_plan;
 use crate::printing::print_text;

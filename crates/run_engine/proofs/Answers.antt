@@ -37,7 +37,9 @@ use Rattle.stage_options.specs.declared.stage.StageSpec.{StageSpec}
 use Rattle.run_report.specs.Reports.{report_of}
 use Rattle.run_report.specs.declared.refusal.Refusal.{Refusal}
 use Rattle.run_report.specs.declared.refusal.Refusal.TheVariants as of
+use Rattle.run_report.specs.declared.refusal.Place.{Place}
 use Rattle.run_report.specs.declared.refusal.Place.TheVariants as at
+use Rattle.run_report.specs.declared.refusal.Fault.{Fault}
 use Rattle.answer_model.specs.Rows.{Setting}
 use Rattle.answer_model.specs.Values.{Opened, Output, options_at, role_at, row_at, setting_at, stage_fault, stage_value, least_fault, written, written_at, output_at, outputs_at}
 use Rattle.answer_model.specs.Runs.{Run, AreRead, run_of, opened_in}
@@ -550,3 +552,20 @@ module _ {S K : Type 0} (s : source.Ghosts S) (k : sink.Ghosts K) (first : Optio
             by-op op.Create is = inr (unwritten-left op.Create is (λ q. cc))
             by-op op.Write is = inr (unwritten-left op.Write is (λ q. cc))
             by-op op.Patch is = inr (unwritten-left op.Patch is (λ q. cc))
+
+-- a file that isn't kept is no matter of the data
+pub unkept-no-data : {S K : Type 0} (bytes : K → Option (List ℕ)) (rose : Type 0) (old new : Option Names) (stages : List StageSpec) (works : List (StageWork S K)) (r : Refusal) (i : ℕ) (f : Fault)
+    → IsUnkept bytes rose old new stages works r → r ≡ of.Data i f → ⊥
+unkept-no-data bytes rose old new stages works r i f unkept is = elim unkept [
+  | inl m ↦ no-memory (sym is ∙ m.0)
+  | inr b ↦ elim b [
+    | inl broke ↦ elim broke.why [ inl m ↦ no-memory (sym is ∙ m) | inr d ↦ no-device (sym is ∙ d.0) ]
+    | inr each ↦ elim each.broke.stops.why [ inl m ↦ no-memory (sym is ∙ m) | inr d ↦ no-device (sym is ∙ d.1) ]
+  ]
+]
+  where
+    no-memory : of.Data i f ≡ of.Memory → ⊥
+    no-memory e = cc
+
+    no-device : {p : Place} {o : Op} → of.Data i f ≡ of.Device p o → ⊥
+    no-device e = cc

@@ -3,3 +3,4 @@ pub mod Done
 pub mod Jobs
 pub mod Blame
 pub mod Stopping
+pub mod ReadAhead

@@ -6,6 +6,7 @@ ghost use Rattle.file_devices.specs.Named.{Names};
 ghost use Rattle.file_devices.specs.Told.{IsAsTold};
 ghost use Rattle.pipeline_json.specs.Trees.{IsTree};
 ghost use Rattle.file_devices.specs.declared.devices.Op.{Op};
+ghost use Rattle.run_report.specs.declared.refusal.Fault.{Fault};
 ghost use Rattle.run_report.specs.declared.refusal.Place as place;
 ghost use Rattle.run_report.specs.declared.refusal.Refusal as refused;
 ghost use Rattle.stage_options.specs.Kinds.{HaveOwnOptions};
@@ -169,6 +170,8 @@ impl<S: Source, K: FileSink, E> Job<S, K, E> {
             → IsLeft refusal (F.map files.old) (F.map files.new) (run_of m stages.now)) }
         ensures refused { (refusal : refused.Refusal) → CameTo refusal self.step
             → (result ≡ Err refusal) × (F.map files.new ≡ F.map files.old) }
+        ensures data { (i : ℕ) (f : Fault) → result ≡ Err (refused.Refusal.Data i f)
+            → CameTo (refused.Refusal.Data i f) self.step }
         ensures read { (refusal : refused.Refusal) → CameTo refusal self.step
             → IsAsTold (F.read_to files.new) (option_map
             (λ n. n + sum_by (reached_of S.reached) self.works.items) (F.read_to files.old)) }

@@ -1,6 +1,6 @@
 //! The run of a tree: the points of LAS files go through its stages.
 
-ghost use Rattle.std.specs.Prelude.{◌≡◌, ◌≤◌, Some, None, IsOkAnd, IfOk, IfErr};
+ghost use Rattle.std.specs.Prelude.{◌≡◌, ◌≤◌, ℕ, Some, None, Err, IsOkAnd, IfOk, IfErr};
 ghost use Rattle.file_devices.specs.Counts.{Rose};
 ghost use Rattle.file_devices.specs.Named.{Names};
 ghost use Rattle.pipeline_json.specs.Trees.{IsTree};
@@ -8,6 +8,14 @@ ghost use Rattle.stage_options.specs.Kinds.{HaveOwnOptions};
 ghost use Rattle.stage_options.specs.Shapes.{shapes};
 ghost use Rattle.answer_model.specs.Runs.{run_of};
 ghost use Rattle.run_outcome.specs.Cause.{IsRun, IsLeft};
+ghost use Rattle.cloud_points.specs.declared.faults.PointFault.{PointFault};
+ghost use Rattle.cloud_points.specs.declared.faults.StageFault.TheVariants as stage;
+ghost use Rattle.network_core.specs.declared.stop.Stop.TheVariants.{First};
+ghost use Rattle.run_report.specs.declared.refusal.Fault.TheVariants.{Point};
+ghost use Rattle.run_report.specs.declared.refusal.Refusal.TheVariants.{Data};
+ghost use Rattle.run_engine.specs.declared.engine.Engine.TheVariants.{Queues};
+ghost use Rattle.run_engine.specs.declared.shape.Shape.{Shape};
+ghost use Rattle.run_engine.specs.ReadAhead.{HasReadNoMore};
 ghost use Rattle.run_engine.specs.Stopping.{IsCauseBy, ends_at};
 
 use crate::engine::Engine;
@@ -27,7 +35,8 @@ use std::alloc::Global;
 /// only where the device failed or the file to read isn't there, `Memory` where there was none. After a refusal the files are as
 /// before; only where the keeping of a file failed or found no memory, or the file of a view couldn't be written, are those before it
 /// kept, and one that couldn't be kept may be.
-/// Files that don't tell what they have don't tell it after the run.
+/// Files that don't tell what they have don't tell it after the run. Where the stages' turns end at the first fault, and all give on each
+/// point, what the readers have read is bounded by the number of the faulty point.
 pub fn run_pipeline<F: Files, T: Scheduler<StageWork<F::In, F::Out>>>(
     alloc: Global,
     files: &mut F,
@@ -47,6 +56,10 @@ pub fn run_pipeline<F: Files, T: Scheduler<StageWork<F::In, F::Out>>>(
     ensures untold { F.map files.old ≡ None → F.map files.new ≡ None }
     ensures lent { F.lent files.new ≡ F.lent files.old }
     ensures later { F.faults files.old ≤ F.faults files.new }
+    ensures ahead { (shape : Shape) (m : Names) (i : ℕ) (f : PointFault) → engine ≡ Queues shape
+        → T.stop scheduler.now ≡ First → F.map files.old ≡ Some m → result ≡ Err (Data i (Point f))
+        → HasReadNoMore m stages.now shape.queue shape.chunk i (stage.Point f) (F.read_to files.old)
+        (F.read_to files.new) }
 {
     let mut job = prepare(alloc, files, stages, engine, scheduler)?;
     let _enough = job.run(alloc, scheduler, stages);

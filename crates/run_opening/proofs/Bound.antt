@@ -19,6 +19,7 @@ use Rattle.answer_model.specs.Runs.{AreRead, opened_in, unless_unbound, run_with
 use Rattle.stage_forms.specs.Starts.{AreAtStart}
 use Rattle.run_opening.specs.Begun.{AreOpened, AreBegun, AreForms, AreNamesBound, IsUnbound, reader_of}
 use Rattle.run_outcome.specs.Cause.{CanBegin, IsCause, IsEarly}
+use Rattle.run_opening.specs.Opening.{IsBeforePoints}
 use Rattle.run_opening.specs.Ready.{AreReady}
 use Rattle.run_outcome.proofs.Runs.{all-read}
 use Rattle.run_opening.proofs.Opening.{are-read, have-readers}
@@ -68,6 +69,13 @@ unbound-early stages readers (of.Data i f) why = absurd why
 unbound-early stages readers (of.Device p o) why = absurd why
 unbound-early stages readers (of.Usage k) why = absurd why
 
+pub unbound-before : {S : Type 0} (stages : List StageSpec) (readers : List (Option (LasReader S))) (refusal : Refusal) → IsUnbound stages readers refusal → IsBeforePoints refusal
+unbound-before stages readers of.Memory why = tt
+unbound-before stages readers (of.Pipeline f) why = tt
+unbound-before stages readers (of.Data i f) why = absurd why
+unbound-before stages readers (of.Device p o) why = tt
+unbound-before stages readers (of.Usage k) why = tt
+
 -- where the readers are opened over the map and all names are bound, a run can begin
 pub can-begin : {S : Type 0} (s : source.Ghosts S) (map : Option Names) (stages : List StageSpec) (readers : List (Option (LasReader S))) → length readers ≡ length stages → AreOpened s map stages readers
     → AreNamesBound stages readers (length stages) → (m : Names) → map ≡ Some m → CanBegin m stages
@@ -84,5 +92,6 @@ are-ready s k map stages readers forms works a b c are opened bound begun = reco
   devices = λ i w e. (begun i w e).device;
   tell = λ m e i w r at is. tells-there s m stages i r ((begun i w at).tells m e r is);
   front = λ i r at. (begun i (Reader r) at).front r refl;
+  headers = λ m e i r at. (begun i (Reader r) at).header m e r refl;
   come = can-begin s map stages readers b opened bound;
 }

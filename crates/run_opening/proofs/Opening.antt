@@ -27,6 +27,7 @@ use Rattle.stage_forms.proofs.Works.{op-at-start, reader-start}
 use Rattle.answer_model.proofs.Least.{least-at}
 use Rattle.run_opening.specs.Begun.{IsInFront, IsReading, IsOpened, AreOpened, IsWork, reader_of}
 use Rattle.run_outcome.specs.Cause.{CanBegin, IsCause, AtRole}
+use Rattle.run_opening.specs.Headers.{header_at}
 use Rattle.run_opening.specs.Opening.{IsUnopened}
 
 -- the file of a stage whose reader is opened can be read
@@ -120,6 +121,7 @@ reader-work {S} {K} s k map i o r form is = record {
   device = op-at-start s k.bytes o nowhere (Reader r) (reader-start s k.bytes o nowhere r (opened.0) (opened.1.start));
   tells = λ m e q w. (let same : r ≡ q = cc in subst (λ (x : LasReader S). Tells s (λ j. holds m j (role_of o)) i x) same (opened.1.tells m e));
   front = λ q w. (let same : r ≡ q = cc in subst (λ (x : LasReader S). IsInFront s.reached x) same opened.1.front);
+  header = λ m e q w. (let same : r ≡ q = cc in subst (λ (x : LasReader S). header_at m (role_of o) ≡ Some x.header) same (opened.1.header m e));
 }
   where
     nowhere : Setting
@@ -137,6 +139,7 @@ other-work {S} {K} s k map i o form w inner device start = record {
   device = device;
   tells = λ m e r is. absurd (reads_not (role_of o) inner (ap op_of (sym is) ∙ device));
   front = λ r is. absurd (reads_not (role_of o) inner (ap op_of (sym is) ∙ device));
+  header = λ m e r is. absurd (reads_not (role_of o) inner (ap op_of (sym is) ∙ device));
 }
   where
     reads_not : (role : Role) → is_reading role ≡ false → Some op.Read ≡ op_for role → ⊥

@@ -12,6 +12,7 @@ use Rattle.stage_kinds.specs.declared.file_form.StageForm.TheVariants as form
 use Rattle.stage_kinds.specs.Files.{IsFileForm}
 use Rattle.stage_kinds.specs.Held.{op_of}
 use Rattle.stage_kinds.specs.Makings.{IsGoodMaking}
+use Rattle.run_opening.specs.Headers.{header_at}
 use Rattle.run_report.specs.declared.refusal.Refusal.{Refusal}
 use Rattle.run_report.specs.declared.refusal.Refusal.TheVariants.{Memory, Pipeline}
 use Rattle.stage_forms.specs.Below.{HaveReaders, Tells}
@@ -35,6 +36,7 @@ pub record IsReading {S : Type 0} (s : source.Ghosts S) (map : Option Names) (i 
   pub read : (m : Names) → map ≡ Some m → unread m i role ≡ None
   pub tells : (m : Names) → map ≡ Some m → Tells s (λ k. holds m k role) i r
   pub front : IsInFront s.reached r
+  pub header : (m : Names) → map ≡ Some m → header_at m role ≡ Some r.header
 
 -- a stage has a reader exactly where it reads
 abbrev pub IsOpened : {S : Type 0} → source.Ghosts S → Option Names → ℕ → Role → Option (LasReader S) → Type 0
@@ -87,6 +89,7 @@ pub record IsWork {S K : Type 0} (s : source.Ghosts S) (k : sink.Ghosts K) (map 
   pub device : op_of w ≡ op_for (role_of o)
   pub tells : (m : Names) → map ≡ Some m → (r : LasReader S) → w ≡ Reader r → Tells s (λ j. holds m j (role_of o)) i r
   pub front : (r : LasReader S) → w ≡ Reader r → IsInFront s.reached r
+  pub header : (m : Names) → map ≡ Some m → (r : LasReader S) → w ≡ Reader r → header_at m (role_of o) ≡ Some r.header
 
 -- so it is at the first stages, as many as there are
 abbrev pub AreBegun : {S K : Type 0} → source.Ghosts S → sink.Ghosts K → Option Names → List StageSpec → List (Option (LasReader S)) → List StageForm → List (StageWork S K) → Type 0

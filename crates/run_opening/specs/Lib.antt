@@ -1,4 +1,5 @@
 pub mod Begun
+pub mod Headers
 pub mod Binding
 pub mod Opening
 pub mod Ready

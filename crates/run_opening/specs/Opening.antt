@@ -19,6 +19,11 @@ opening_refusal i (opening.Vlr f) = of.Data i (fault.Vlr f)
 opening_refusal i opening.ReadFailed = of.Device (at.Stage i) op.Read
 opening_refusal i opening.Memory = of.Memory
 
+-- it comes before any point is looked at
+abbrev pub IsBeforePoints : Refusal → Type 0
+IsBeforePoints (of.Data i (fault.Point f)) = ⊥
+IsBeforePoints refusal = ⊤
+
 -- why the file of stage i, which does this, couldn't be opened: that is expected, memory was wanting, or its device failed
 abbrev pub IsUnopened : Type 0 → Option Names → ℕ → Role → Refusal → Type 0
 IsUnopened rose map i role of.Memory = ⊤

@@ -1,12 +1,16 @@
 -- A tree's stages before their first turn.
-use Rattle.std.specs.Prelude.{◌≡◌, List, length, Option, Some}
+use Rattle.std.specs.Prelude.{◌≡◌, ℕ, List, length, slice_get, Option, Some}
 use Rattle.file_devices.specs.Named.{Names}
 use Rattle.file_devices.specs.declared.devices.Source as source
 use Rattle.file_devices.specs.declared.devices.Sink as sink
 use Rattle.stage_kinds.specs.Leads.{AreInFront}
+use Rattle.las_reader.specs.declared.reader.LasReader.{LasReader}
 use Rattle.stage_kinds.specs.declared.stage_work.StageWork.{StageWork}
+use Rattle.stage_kinds.specs.declared.stage_work.StageWork.TheVariants.{Reader}
 use Rattle.stage_options.specs.declared.stage.StageSpec.{StageSpec}
 use Rattle.answer_model.specs.Runs.{opened_in}
+use Rattle.answer_model.specs.Values.{role_at}
+use Rattle.run_opening.specs.Headers.{header_at}
 use Rattle.stage_forms.specs.Starts.{AreAtStart, AreTold, HaveDevices}
 use Rattle.run_outcome.specs.Cause.{CanBegin}
 
@@ -19,4 +23,5 @@ module _ {S K : Type 0} (s : source.Ghosts S) (k : sink.Ghosts K) where
     pub devices : HaveDevices stages works
     pub tell : (m : Names) → map ≡ Some m → AreTold s works (opened_in m stages)
     pub front : AreInFront s.reached works
+    pub headers : (m : Names) → map ≡ Some m → (i : ℕ) (r : LasReader S) → slice_get works i ≡ Some (Reader r) → header_at m (role_at stages i) ≡ Some r.header
     pub come : (m : Names) → map ≡ Some m → CanBegin m stages

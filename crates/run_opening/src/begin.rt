@@ -10,7 +10,7 @@ ghost use Rattle.stage_forms.specs.Starts.{IsBegun};
 ghost use Rattle.run_opening.specs.Begun.{AreOpened, AreBegun, FitRoles, IsForm, IsOpened, IsWork};
 ghost use Rattle.held_devices.specs.Holding.{there, all_there, all_held};
 ghost use Rattle.run_outcome.specs.Cause.{CanBegin, IsCause, IsEarly};
-ghost use Rattle.run_opening.specs.Opening.{IsUncreated};
+ghost use Rattle.run_opening.specs.Opening.{IsBeforePoints, IsUncreated};
 
 use crate::bind::BoundStages;
 use cloud_points::Layout;
@@ -37,6 +37,7 @@ fn open_writer<F: Files>(
     ensures writes { IfOk result (λ work. op_of work ≡ Some Op.Write) }
     ensures err { IfErr result (IsUncreated (Rose (F.faults files.old) (F.faults files.new)) number) }
     ensures early { IfErr result IsEarly }
+    ensures before { IfErr result IsBeforePoints }
     ensures map { F.map files.new ≡ F.map files.old }
     ensures lent_ok { IfOk result (λ work. F.lent files.new ≡ F.lent files.old + there (op_of work)) }
     ensures lent_err { OnErr result (F.lent files.new ≡ F.lent files.old) }
@@ -79,6 +80,7 @@ fn begin_work<F: Files>(
     ensures err { IfErr result (IsUncreated (Rose (F.faults files.old) (F.faults files.new)) number) }
     ensures none { OnErr result (there reader ≡ 0) }
     ensures early { IfErr result IsEarly }
+    ensures before { IfErr result IsBeforePoints }
     ensures map { F.map files.new ≡ F.map files.old }
     ensures lent_ok { IfOk result (λ work. F.lent files.new + there reader
         ≡ F.lent files.old + there (op_of work)) }
@@ -124,6 +126,7 @@ pub(crate) fn begin_works<F: Files>(
     ensures err { IfErr result (IsCause (Rose (F.faults files.old) (F.faults files.new))
         (F.map files.old) stages.now) }
     ensures early { IfErr result IsEarly }
+    ensures before { IfErr result IsBeforePoints }
     ensures map { F.map files.new ≡ F.map files.old }
     ensures lent_ok { IfOk result (λ works. (others : ℕ) → F.lent files.old ≡ others + all_there readers.items
         → F.lent files.new ≡ others + all_held works.items) }

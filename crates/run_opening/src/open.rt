@@ -6,7 +6,7 @@ ghost use Rattle.stage_options.specs.Roles.{Reads, role_of};
 ghost use Rattle.run_opening.specs.Begun.{IsReading, IsOpened, AreOpened};
 ghost use Rattle.held_devices.specs.Holding.{there, all_there};
 ghost use Rattle.run_outcome.specs.Cause.{IsCause, IsEarly};
-ghost use Rattle.run_opening.specs.Opening.{IsUnopened, opening_refusal};
+ghost use Rattle.run_opening.specs.Opening.{IsBeforePoints, IsUnopened, opening_refusal};
 
 use file_devices::{DeviceErr, Files, Op};
 use held_devices::give_back;
@@ -38,6 +38,7 @@ fn open_reader<F: Files>(
     ensures err { IfErr result (IsUnopened (Rose (F.faults files.old) (F.faults files.new))
         (F.map files.old) stage (Reads name.now)) }
     ensures early { IfErr result IsEarly }
+    ensures before { IfErr result IsBeforePoints }
     ensures map { F.map files.new ≡ F.map files.old }
     ensures lent_ok { OnOk result (F.lent files.new ≡ F.lent files.old + 1) }
     ensures lent_err { OnErr result (F.lent files.new ≡ F.lent files.old) }
@@ -69,6 +70,7 @@ fn open_stage<F: Files>(
     ensures err { IfErr result (IsUnopened (Rose (F.faults files.old) (F.faults files.new))
         (F.map files.old) number (role_of stage.now.options)) }
     ensures early { IfErr result IsEarly }
+    ensures before { IfErr result IsBeforePoints }
     ensures map { F.map files.new ≡ F.map files.old }
     ensures lent_ok { IfOk result (λ reader. F.lent files.new ≡ F.lent files.old + there reader) }
     ensures lent_err { OnErr result (F.lent files.new ≡ F.lent files.old) }
@@ -95,6 +97,7 @@ pub(crate) fn open_readers<F: Files>(
     ensures err { IfErr result (IsCause (Rose (F.faults files.old) (F.faults files.new))
         (F.map files.old) stages.now) }
     ensures early { IfErr result IsEarly }
+    ensures before { IfErr result IsBeforePoints }
     ensures map { F.map files.new ≡ F.map files.old }
     ensures lent_ok { IfOk result (λ readers. F.lent files.new ≡ F.lent files.old + all_there readers.items) }
     ensures lent_err { OnErr result (F.lent files.new ≡ F.lent files.old) }

@@ -6,6 +6,7 @@ ghost use Rattle.pipeline_json.specs.Trees.{IsTree};
 ghost use Rattle.stage_options.specs.Shapes.{shapes};
 ghost use Rattle.held_devices.specs.Holding.{all_held};
 ghost use Rattle.run_outcome.specs.Cause.{IsCause, IsEarly};
+ghost use Rattle.run_opening.specs.Opening.{IsBeforePoints};
 ghost use Rattle.run_opening.specs.Ready.{AreReady};
 
 use crate::begin::begin_works;
@@ -35,6 +36,7 @@ pub fn ready_works<F: Files>(
     ensures err { IfErr result (IsCause (Rose (F.faults files.old) (F.faults files.new))
         (F.map files.old) stages.now) }
     ensures early { IfErr result IsEarly }
+    ensures before { IfErr result IsBeforePoints }
     ensures map { F.map files.new ≡ F.map files.old }
     ensures lent_ok { IfOk result (λ works. F.lent files.new ≡ F.lent files.old + all_held works.items) }
     ensures lent_err { OnErr result (F.lent files.new ≡ F.lent files.old) }

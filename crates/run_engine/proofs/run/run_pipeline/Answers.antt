@@ -1,11 +1,18 @@
-use Rattle.std.proofs.Common.{◌+◌, IsOkAnd, ap, sym, subst, ◌∙◌, arith}
+use Rattle.std.proofs.Common.{◌+◌, IsOkAnd, option_map, ap, sym, subst, ◌∙◌, arith}
 use Rattle.answer_model.specs.Runs.{run_of}
 use Rattle.run_outcome.specs.Cause.{IsLeft, IsRun}
 use Rattle.run_outcome.proofs.Results.{if-ok, if-err}
 use Rattle.run_outcome.proofs.Causes.{rose-within}
 use Rattle.run_engine.specs.Stopping.{ends_at}
 use Rattle.run_engine.proofs.Stopping.{cause-by-weaker}
-use Rattle.run_engine.specs.Jobs.{HasRun}
+use Rattle.std.specs.Prelude.{sum_by}
+use Rattle.file_devices.specs.Told.{IsAsTold}
+use Rattle.run_opening.specs.Ready.{AreReady}
+use Rattle.run_report.specs.declared.refusal.Fault.TheVariants.{Point}
+use Rattle.run_report.specs.declared.refusal.Refusal.TheVariants.{Data}
+use Rattle.stage_kinds.specs.Leads.{reached_of}
+use Rattle.run_engine.specs.Jobs.{HasRun, HaveReadBy}
+use Rattle.run_engine.proofs.Ahead.{read-no-more}
 use Rattle.run_engine.proofs.run.run_pipeline.Goals as goal
 
 pub close-requires-clause-ran : goal.close-requires-clause-ran
@@ -49,3 +56,20 @@ returns-clause-left g c =
 pub returns-clause-lent : goal.returns-clause-lent
 returns-clause-lent g c = c.close.ensures.lent (g.F.Files.lent c.args.files.now)
     (c.in_ok-job.ensures.lent_ok ∙ ap (λ n. g.F.Files.lent c.args.files.now + n) (sym c.run-enough.ensures.held))
+
+pub returns-clause-ahead : goal.returns-clause-ahead
+returns-clause-ahead g c = λ shape m i f is first told refused.
+    let files = g.F.Files in
+    let s = g.F.In.Source in
+    let k = g.F.Out.Sink in
+    let stages = c.args.stages.now in
+    let stop = ends_at c.args.engine (g.T.Scheduler.stop c.args.scheduler.now) in
+    let ready = c.in_ok-job.ensures.ready in
+    let ran = c.run-enough.ensures.ran c.args.engine (files.map c.args.files.now) ready in
+    let came = c.close.ensures.data i (Point f) refused in
+    let works = subst (λ map. AreReady s k map stages c.in_ok-job.job.works.items) told ready.works in
+    let read = subst (λ o. IsAsTold (files.read_to c.close.new.files) (option_map (λ n. n + sum_by (reached_of s.reached) c.run-enough.new.self.works.items) o)) c.in_ok-job.ensures.read
+    (c.close.ensures.read (Data i (Point f)) came) in
+    let ahead = subst (λ e. HaveReadBy s k e stages c.in_ok-job.job.works.items c.run-enough.new.self.works.items c.run-enough.new.self.step) is (c.run-enough.ensures.ahead first c.args.engine ready.waits) in
+    read-no-more g.row.T-Edges.Denot s k m stages shape c.in_ok-job.job.works.items c.run-enough.new.self.works.items works stop ran.before c.run-enough.new.self.step i f ran.came ahead came
+    (files.read_to c.args.files.now) (files.read_to c.close.new.files) read

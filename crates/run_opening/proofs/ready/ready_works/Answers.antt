@@ -5,7 +5,7 @@ use Rattle.run_outcome.specs.Cause.{IsCause}
 use Rattle.stage_forms.specs.Below.{AreReaders}
 use Rattle.run_outcome.proofs.Results.{if-ok, if-ok2, if-err, if-on-err}
 use Rattle.run_outcome.proofs.Causes.{rose-within, cause-weaker}
-use Rattle.run_opening.proofs.Bound.{are-ready, can-begin, unbound-cause, unbound-early}
+use Rattle.run_opening.proofs.Bound.{are-ready, can-begin, unbound-before, unbound-cause, unbound-early}
 use Rattle.run_opening.proofs.Opening.{are-read, are-readers, have-readers}
 use Rattle.run_opening.proofs.ready.ready_works.Goals as goal
 
@@ -24,6 +24,10 @@ returns-in-Err-clause-err g c =
 pub returns-in-Err-clause-early : goal.returns-in-Err-clause-early
 returns-in-Err-clause-early g c =
     unbound-early c.args.stages.now c.in_ok-readers.readers.items c.in-Err.refusal (subst (λ rs. IsUnbound c.args.stages.now rs c.in-Err.refusal) c.as_slice.ensures.value c.in-Err.ensures.err)
+
+pub returns-in-Err-clause-before : goal.returns-in-Err-clause-before
+returns-in-Err-clause-before g c =
+    unbound-before c.args.stages.now c.in_ok-readers.readers.items c.in-Err.refusal (subst (λ rs. IsUnbound c.args.stages.now rs c.in-Err.refusal) c.as_slice.ensures.value c.in-Err.ensures.err)
 
 pub returns-in-Err-clause-lent_err : goal.returns-in-Err-clause-lent_err
 returns-in-Err-clause-lent_err g c = c.give_back.ensures.lent (g.F.Files.lent c.args.files.now) c.in_ok-readers.ensures.lent_ok

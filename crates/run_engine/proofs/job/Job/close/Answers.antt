@@ -11,14 +11,14 @@ use Rattle.run_outcome.proofs.Results.{on-ok, err-of}
 use Rattle.run_ending.specs.Finished.{IsUnfinished}
 use Rattle.run_ending.specs.All.{IsUnkept}
 use Rattle.run_report.specs.declared.refusal.Place.TheVariants.{Stage}
-use Rattle.run_report.specs.declared.refusal.Refusal.TheVariants.{Device}
+use Rattle.run_report.specs.declared.refusal.Refusal.TheVariants.{Data, Device}
 use Rattle.run_engine.specs.Blame.{IsBlamed}
 use Rattle.run_engine.specs.Done.{AreDone}
 use Rattle.run_engine.specs.Jobs.{HaveCome, CameTo}
 use Rattle.run_engine.proofs.Stopping.{cause-by}
 use Rattle.run_engine.proofs.Blamed.{failed-first, failed-finish, failed-all}
 use Rattle.run_engine.proofs.Ran.{later-on, done-on}
-use Rattle.run_engine.proofs.Answers.{early-left, fault-cause, fault-early, unfinished-to-cause, unfinished-early, same-held, fit, is-run, unkept-cause, unkept-left}
+use Rattle.run_engine.proofs.Answers.{early-left, fault-cause, fault-early, unfinished-to-cause, unfinished-early, same-held, fit, is-run, unkept-cause, unkept-left, unkept-no-data}
 use Rattle.run_engine.proofs.job.Job.close.Goals as goal
 
 pub returns-in-Err-clause-err : goal.returns-in-Err-clause-err
@@ -277,3 +277,8 @@ returns-in-Ok-clause-read g c = λ refusal came.
     let none : refusal_for c.in-Done.ended.faults.items ≡ None = subst (λ fs. refusal_for fs ≡ None) c.as_slice.ensures.value c.in_default.ensures.ok in
     let no : None ≡ Some refusal = sym none ∙ met in
     absurd cc
+
+pub returns-in-Err-keep_all-clause-data : goal.returns-in-Err-keep_all-clause-data
+returns-in-Err-keep_all-clause-data g c = λ i f e.
+    let is : c.in-Err-keep_all.refusal ≡ Data i f = cc in
+    absurd (unkept-no-data g.K.Sink.bytes (Rose (g.F.Files.faults c.args.files.now) (g.F.Files.faults c.keep_all.new.files)) (g.F.Files.map c.args.files.now) (g.F.Files.map c.keep_all.new.files) c.args.stages.now c.finish-works.result.works.items c.in-Err-keep_all.refusal i f c.in-Err-keep_all.ensures.err is)
