@@ -10,7 +10,7 @@ use borrow.Rule.Slice.PartMut.{put_mid}
 pub record Filling (before bytes : Option (List ℕ)) (faults_before faults reached_before reached at done : ℕ) (old new : List ℕ) : Type 0 where
   pub same : bytes ≡ before
   pub later : faults_before ≤ faults
-  pub got : reached ≤ max reached_before (at + length old)
+  pub got : reached ≤ max reached_before (at + done)
   pub within : done ≤ length old
   pub rest : drop done new ≡ drop done old
   pub given : (b : List ℕ) → before ≡ Some b → take done new ≡ take done (drop at b)
@@ -100,13 +100,13 @@ cut_off xs ys old rest start n room front inside full all =
 pub record Beginning (before bytes : Option (List ℕ)) (faults_before faults reached_before reached limit : ℕ) (items : List ℕ) : Type 0 where
   pub same : bytes ≡ before
   pub later : faults_before ≤ faults
-  pub got : reached ≤ max reached_before (limit + 1)
+  pub got : reached ≤ max reached_before (length items)
   pub within : length items ≤ limit + 1
   pub given : (b : List ℕ) → before ≡ Some b → items ≡ take (length items) b
 
 pub beginning_more : (before bytes bytes_after : Option (List ℕ)) (f0 f1 f2 r0 r1 r2 limit most : ℕ) (items after : List ℕ)
     → Beginning before bytes f0 f1 r0 r1 limit items → length items + most ≤ limit + 1 → length items + most ≤ length after
-    → bytes_after ≡ bytes → f1 ≤ f2 → r2 ≤ max r1 (length items + most) → length after ≤ length items + most
+    → bytes_after ≡ bytes → f1 ≤ f2 → r2 ≤ max r1 (length after) → length after ≤ length items + most
     → ((b : List ℕ) → bytes ≡ Some b → after ≡ items ++ take most (drop (length items) b))
     → Beginning before bytes_after f0 f2 r0 r2 limit after
 beginning_more before bytes bytes_after f0 f1 f2 r0 r1 r2 limit most items after was room full same later got size read = record {

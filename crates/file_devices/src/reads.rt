@@ -14,6 +14,7 @@ pub fn fill<S: Source>(source: &mut S, at: u64, into: &mut [u8]) -> Result<usize
     requires { at + length into.old < 2 ^ 64 }
     ensures filled { IfOk result (λ n. Fills (S.bytes source.old) at n into.old into.new) }
     ensures reached { S.reached source.new ≤ max (S.reached source.old) (at + length into.old) }
+    ensures no_further { IfOk result (λ n. S.reached source.new ≤ max (S.reached source.old) (at + n)) }
     ensures same { S.bytes source.new ≡ S.bytes source.old }
     ensures cause { HasCause (S.faults source.old) (S.faults source.new) result }
 {

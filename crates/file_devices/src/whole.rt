@@ -1,5 +1,5 @@
 //! Reading a source to its end, up to a limit.
-ghost use Rattle.std.specs.Prelude.{◌≡◌, ◌+◌, ◌++◌, ◌≤◌, ◌<◌, ◌^◌, List, ℕ, length, take, drop, max, Some, IfOk, OnOk, vec_len, Err};
+ghost use Rattle.std.specs.Prelude.{◌≡◌, ◌+◌, ◌++◌, ◌≤◌, ◌<◌, ◌^◌, List, ℕ, length, take, drop, max, Some, IfOk, IfSome, OnOk, vec_len, Err};
 ghost use Rattle.file_devices.specs.Counts.{Rose};
 ghost use Rattle.file_devices.specs.Whole.{IsWhole};
 ghost use Rattle.file_devices.specs.declared.whole.WholeErr.TheVariants.{Memory, Failed as ReadFailed};
@@ -33,11 +33,13 @@ fn read_more<S: Source>(source: &mut S, bytes: &mut Vec<u8>, most: usize) -> Res
     requires { vec_len bytes.old + most < 2 ^ 64 }
     ensures items { OnOk result ((b : List ℕ) → S.bytes source.old ≡ Some b
         → bytes.new.items ≡ bytes.old.items ++ take most (drop (length bytes.old.items) b)) }
+    ensures no_less { OnOk result (vec_len bytes.old ≤ vec_len bytes.new) }
     ensures within { OnOk result (vec_len bytes.new ≤ vec_len bytes.old + most) }
     ensures failed { result ≡ Err ReadFailed → Rose (S.faults source.old) (S.faults source.new) }
     ensures later { S.faults source.old ≤ S.faults source.new }
     ensures same { S.bytes source.new ≡ S.bytes source.old }
     ensures reached { S.reached source.new ≤ max (S.reached source.old) (vec_len bytes.old + most) }
+    ensures no_further { OnOk result (S.reached source.new ≤ max (S.reached source.old) (vec_len bytes.new)) }
 {
     let start = bytes.len();
     bytes.resize(start + most, 0)?;
@@ -63,6 +65,8 @@ pub fn read_whole<S: Source>(
     ensures later { S.faults source.old ≤ S.faults source.new }
     ensures same { S.bytes source.new ≡ S.bytes source.old }
     ensures reached { S.reached source.new ≤ max (S.reached source.old) (limit + 1) }
+    ensures no_further { IfOk result (λ o. IfSome o (λ bytes. S.reached source.new
+        ≤ max (S.reached source.old) (vec_len bytes))) }
 {
     let mut bytes = Vec::new(alloc);
     while bytes.len() <= limit {

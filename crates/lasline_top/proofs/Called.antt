@@ -23,7 +23,7 @@ use Rattle.lasline_top.specs.Calls.{Seen, FilesRose, OutRose, Told, HasAnswered}
 use Rattle.lasline_top.specs.Cause.{AtTask, Risen, ToldWhy}
 use Rattle.lasline_top.specs.Ends.{WasDone, WasRefused}
 use Rattle.lasline_top.specs.Left.{IsLeftBy}
-use Rattle.lasline_top.specs.Reading.{IsReadBy}
+use Rattle.lasline_top.specs.Reading.{IsReadAhead, IsReadBy}
 use Rattle.lasline_top.specs.Refusals.{status_for}
 use Rattle.lasline_top.specs.Stopping.{IsSeen, IsSeenBy, MayEnd}
 use Rattle.lasline_top.proofs.Failing.{answer_or_memory}
@@ -100,6 +100,7 @@ module _ (words : List (List ℕ)) (before after : Seen) (lent : after.lent ≡ 
     lent = lent;
     later = later;
     opened = opened;
+    ahead = λ r e. absurd (never-ok r e);
   }
 
   -- it was refused
@@ -107,8 +108,9 @@ module _ (words : List (List ℕ)) (before after : Seen) (lent : after.lent ≡ 
       → WasRefused (task_of words) (FilesRose before after) (OutRose before after) before.map after.map before.out after.out refusal
       → ((text : List ℕ) → task_of words ≡ Ok (Print text) → AppendsPart before.out text after.out) → ((r : Refusal) → task_of words ≡ Err r → refusal ≡ r)
       → ((k : ℕ) → refusal ≡ of.Usage k → task_of words ≡ Err (of.Usage k)) → ToldWhy before.err after.err before.err_faults after.err_faults (fault_line refusal)
+      → ((m : Names) → Told words before after m → IsReadAhead (task_of words) m before.read_to after.read_to refusal)
       → HasAnswered words before after status
-  refused_answered refusal status is was part words_first of_words told = record {
+  refused_answered refusal status is was part words_first of_words told ahead = record {
     kept = λ e. absurd (not_ok e);
     report = λ e. absurd (not_ok e);
     page = λ e. absurd (not_ok e);
@@ -128,6 +130,7 @@ module _ (words : List (List ℕ)) (before after : Seen) (lent : after.lent ≡ 
     lent = lent;
     later = later;
     opened = opened;
+    ahead = λ r e m t. subst (IsReadAhead (task_of words) m before.read_to after.read_to) (same r e) (ahead m t);
   }
     where
       not_ok : status ≡ ends.Ok → ⊥

@@ -7,4 +7,5 @@ pub mod Tried
 pub mod Failing
 pub mod Statuses
 pub mod Called
+pub mod Reading
 mod Crossing

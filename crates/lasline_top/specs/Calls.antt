@@ -22,7 +22,7 @@ use Rattle.lasline_top.specs.Answer.{answer}
 use Rattle.lasline_top.specs.Cause.{AtTask, HasFailed, ToldWhy}
 use Rattle.lasline_top.specs.Codes.{code_of}
 use Rattle.lasline_top.specs.Left.{AreTold, IsLeftBy}
-use Rattle.lasline_top.specs.Reading.{IsReadBy}
+use Rattle.lasline_top.specs.Reading.{IsReadAhead, IsReadBy}
 use Rattle.lasline_top.specs.Refusals.{status_for}
 use Rattle.lasline_top.specs.Stopping.{MayCome, MayEnd}
 
@@ -107,6 +107,9 @@ pub record HasAnswered (words : List (List ℕ)) (before after : Seen) (status :
   pub later : before.faults ≤ after.faults
   -- a plan reads no more than the pipeline's file may have, and one byte; a page reads nothing
   pub opened : IsReadBy (task_of words) before.read_to after.read_to
+  -- a run whose turns end at the first fault, that of a point, reads its text and no more of the points than it may by then
+  pub ahead : (refusal : Refusal) → status ≡ status_for refusal → (m : Names) → Told words before after m
+      → IsReadAhead (task_of words) m before.read_to after.read_to refusal
 
 -- it has answered some status, and this is the code of that
 abbrev pub HasExited : List (List ℕ) → Seen → Seen → ℕ → Type 0

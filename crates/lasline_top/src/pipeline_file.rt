@@ -1,6 +1,6 @@
 //! The file of a pipeline, and its stages.
 
-ghost use Rattle.std.specs.Prelude.{◌≡◌, ◌+◌, Some, Ok, IfOk, IfErr};
+ghost use Rattle.std.specs.Prelude.{◌≡◌, ◌+◌, Some, Ok, IfOk, IfErr, length};
 ghost use Rattle.file_devices.specs.Counts.{Rose};
 ghost use Rattle.file_devices.specs.Named.{Names};
 ghost use Rattle.answer_model.specs.Runs.{file_at};
@@ -37,6 +37,8 @@ pub(crate) fn read_text<F: Files>(
     ensures settled { IsSettled (F.map files.old) (F.map files.new) (F.lent files.old) (F.lent files.new)
         (F.faults files.old) (F.faults files.new) }
     ensures opened { ReadAtMost (MOST_BYTES + 1) (F.read_to files.old) (F.read_to files.new) }
+    ensures no_further { IfOk result (λ text. ReadAtMost (length text.items) (F.read_to files.old)
+        (F.read_to files.new)) }
 {
     let mut source = match files.open_in(name) {
         Ok(source) => source,

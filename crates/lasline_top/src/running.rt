@@ -9,6 +9,7 @@ ghost use Rattle.lasline_top.specs.Words.{Run_file, Trial, stop_in};
 ghost use Rattle.lasline_top.specs.Answer.{text_run, trial_name, trial_text};
 ghost use Rattle.lasline_top.specs.Cause.{IsOfFiles};
 ghost use Rattle.lasline_top.specs.Ends.{WasDone, WasRefused, WasStopped};
+ghost use Rattle.lasline_top.specs.Reading.{IsReadAhead, IsTextAhead};
 
 use crate::count::PointCount;
 use crate::generating::make;
@@ -36,6 +37,9 @@ fn run_text<F: Files, T: Scheduler<StageWork<F::In, F::Out>>>(
         → IsOkAnd (text_run m text.now) (IsRun (F.map files.old) (F.map files.new) report.items)) }
     ensures err { IfErr result (WasStopped (stop_in (engine_view (T.stop scheduler.now) engine))
         (Rose (F.faults files.old) (F.faults files.new)) (F.map files.old) (F.map files.new) text.now) }
+    ensures ahead { IfErr result (λ refusal. (m : Names) → F.map files.old ≡ Some m
+        → IsTextAhead (engine_view (T.stop scheduler.now) engine) m text.now (F.read_to files.old)
+        (F.read_to files.new) refusal) }
     ensures untold { F.map files.old ≡ None → F.map files.new ≡ None }
     ensures lent { F.lent files.new ≡ F.lent files.old }
     ensures later { F.faults files.old ≤ F.faults files.new }
@@ -60,6 +64,9 @@ pub(crate) fn run_file<F: Files, K: Sink, T: Scheduler<StageWork<F::In, F::Out>>
         (Rose (F.faults files.old) (F.faults files.new)) (Rose (K.faults out.old) (K.faults out.new))
         (F.map files.old) (F.map files.new) (K.bytes out.old) (K.bytes out.new)) }
     ensures of_files { IfErr result IsOfFiles }
+    ensures ahead { IfErr result (λ refusal. (m : Names) → F.map files.old ≡ Some m
+        → IsReadAhead (Ok (Run_file name.now (engine_view (T.stop scheduler.now) engine))) m (F.read_to files.old)
+        (F.read_to files.new) refusal) }
     ensures lent { F.lent files.new ≡ F.lent files.old }
     ensures later { F.faults files.old ≤ F.faults files.new }
 {

@@ -3,13 +3,15 @@
 ghost use Rattle.std.specs.Prelude.{◌≡◌, ◌≤◌, ℕ, List, map, Ok, Err, IfErr, OnOk, OnErr, string_bytes};
 ghost use Rattle.file_devices.specs.Counts.{Rose};
 ghost use Rattle.file_devices.specs.Content.{Appends, AppendsPart};
+ghost use Rattle.file_devices.specs.Named.{Names};
 ghost use Rattle.run_report.specs.declared.refusal.Refusal.{Refusal};
 ghost use Rattle.run_report.specs.Faults.{fault_line};
 ghost use Rattle.lasline_top.specs.Words.{Print, stop_for, task_of};
 ghost use Rattle.lasline_top.specs.Refusals.{status_for};
 ghost use Rattle.lasline_top.specs.Cause.{ToldWhy};
 ghost use Rattle.lasline_top.specs.Ends.{WasDone, WasRefused};
-ghost use Rattle.lasline_top.specs.Reading.{IsReadBy};
+ghost use Rattle.lasline_top.specs.Left.{AreTold};
+ghost use Rattle.lasline_top.specs.Reading.{IsReadAhead, IsReadBy};
 ghost use Rattle.lasline_top.specs.Calls.{HasAnswered, seen};
 
 use crate::generating::make_file;
@@ -51,6 +53,9 @@ fn run_command<F: Files, K: Sink, T: Scheduler<StageWork<F::In, F::Out>>>(
     ensures later { F.faults files.old ≤ F.faults files.new }
     ensures opened { IsReadBy (task_of (map string_bytes words.now)) (F.read_to files.old)
         (F.read_to files.new) }
+    ensures ahead { IfErr result (λ refusal. (m : Names)
+        → AreTold (task_of (map string_bytes words.now)) (F.map files.old) (F.map files.new) m
+        → IsReadAhead (task_of (map string_bytes words.now)) m (F.read_to files.old) (F.read_to files.new) refusal) }
 {
     match task_of(words)? {
         Task::Run { file, engine } => run_file(alloc, file, engine, scheduler, files, out),

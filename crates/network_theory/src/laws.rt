@@ -35,8 +35,9 @@ pub fn flight_is_bounded<W: Work>(_work: &W)
     ensures { FlightIsBounded W.State Point StageFault }
 {}
 
-/// Where turns without an event ended at a fault of a node, the leaves under it gave no more points than come
-/// before the fault, those in flight, and one chunk, as long as each node under it gives on as many as it takes.
+/// Where turns without an event ended at a fault of a node, what the leaves under it gave and what they read beyond that is no more
+/// than the points that come before the fault, those of full queues, a chunk for each node and one more, as long as each node
+/// under it gives on as many as it takes.
 pub fn leaves_read_ahead<W: Work>(_work: &W)
     ensures { LeavesReadAhead W.State Point StageFault }
 {}

@@ -1,5 +1,5 @@
 -- How far readers have read where the stages of a run ended at a fault.
-use Rattle.std.proofs.Common.{◌≡◌, ◌⊎◌, ℕ, zero, suc, ◌+◌, ◌-◌, ◌^◌, ◌<◌, ◌≤◌, true, inl, inr, List, [], ◌∷◌, length, map, Option, Some, None, option_map, slice_get, refl, ap, sym, subst, ◌∙◌, arith}
+use Rattle.std.proofs.Common.{◌≡◌, ◌⊎◌, ℕ, zero, suc, ◌+◌, ◌-◌, ◌*◌, ◌^◌, ◌<◌, ◌≤◌, true, inl, inr, List, [], ◌∷◌, length, map, Option, Some, None, option_map, slice_get, refl, ap, sym, subst, ◌∙◌, arith}
 use Rattle.std.specs.List.{range_with_len}
 use Rattle.std.specs.Prelude.{sum_by}
 use Rattle.std.proofs.lemmas.List.Sums.{sum_by-cons}
@@ -33,12 +33,12 @@ use Rattle.stage_options.specs.Roles.{is_writing}
 use Rattle.stage_options.specs.declared.stage.StageSpec.{StageSpec}
 use Rattle.answer_model.specs.Runs.{opened_in}
 use Rattle.answer_model.specs.Values.{role_at}
-use Rattle.stage_runs.specs.Ahead.{AreReadAhead, EndedAtWriter, HasAllReaders, HaveReadAhead, KeepPoints}
+use Rattle.stage_runs.specs.Ahead.{AreReadAhead, EndedAtWriter, HasAllReaders, HaveReadAhead, KeepPoints, most_read}
 use Rattle.stage_runs.specs.Works.{as_works}
 use Rattle.stage_runs.proofs.Places.{mapped-at}
 use Rattle.run_engine.specs.Counted.{AreFaultsOf}
 use Rattle.run_engine.specs.Jobs.{CameTo, HaveCome, HaveReadBy}
-use Rattle.run_engine.specs.ReadAhead.{HasReadNoMore, all_begin, begins_in}
+use Rattle.run_engine.specs.ReadAhead.{HasReadNoMore, ReadAtMost, all_begin, begins_in}
 use Rattle.run_engine.specs.declared.engine.Engine.{Engine}
 use Rattle.run_engine.specs.declared.engine.Engine.TheVariants as engine
 use Rattle.run_engine.specs.declared.job.Step.{Step}
@@ -66,6 +66,17 @@ module _ {S K : Type 0} (E : Type 0) (s : source.Ghosts S) (k : sink.Ghosts K) (
   pub read-done : (chosen : Engine) (ended : Ended) → ((shape : Shape) → chosen ≡ engine.Queues shape → AreReadAhead s stages shape.queue shape.chunk old new ended.faults.items) → HaveReadBy {E = E} s k chosen stages old new (Done ended)
   read-done (engine.Queues shape) ended ahead = ahead shape refl
   read-done engine.Whole ended ahead = tt
+
+-- what was told before has risen by so much
+rose-by : (more : ℕ) (old : Option ℕ) (k : ℕ) → option_map (λ n. n + more) old ≡ Some k → (n : ℕ) × (old ≡ Some n) × (k ≡ n + more)
+rose-by more (Some n) k e = (n, refl, sym (same_Some (n + more) k e))
+rose-by more None k e = absurd (none-some k e)
+
+-- by what sources were read that were taken back
+pub read-at-most : (more most : ℕ) (old new : Option ℕ) → IsAsTold new (option_map (λ n. n + more) old) → more ≤ most → ReadAtMost most old new
+read-at-most more most old new told within k is =
+    let rose = rose-by more old k (told k is) in
+    (rose.0, rose.1, omega (arith, rose.2, within))
 
 -- ---- of the whole run
 
@@ -134,12 +145,11 @@ module _ {S K : Type 0} (E : Type 0) (s : source.Ghosts S) (k : sink.Ghosts K) (
   -- a run that ended at this point has read no further than so
   pub read-no-more : (stop : Stop) (before : List (StageWork S K)) (step : Step S K E) (i : ℕ) (f : PointFault) → HaveCome s k stop stages before new step → HaveReadBy s k (engine.Queues shape) stages old new step → CameTo (Data i (fault.Point f)) step
       → (first now : Option ℕ) → IsAsTold now (option_map (λ n. n + sum_by (reached_of s.reached) new) first) → HasReadNoMore m stages shape.queue shape.chunk i (stage.Point f) first now
-  read-no-more stop before (Done ended) i f came ahead refused first now read keep writes readers told bytes plain n j was is =
+  read-no-more stop before (Done ended) i f came ahead refused first now read keep writes readers told bytes plain j is =
       let over = ended-at stages ended.faults.items i f came.count refused writes readers told in
       let more = ahead keep (opened_in m stages) (ready.tell m refl) (λ x r e. (plain x r.header (ready.headers m refl x r e)).0) ready.front i (stage.Point f) over in
       let most = more.bytes bytes (λ x r e. (plain x r.header (ready.headers m refl x r e)).1) in
-      let sum = same_Some (n + sum_by (reached_of s.reached) new) j (sym (ap (option_map (λ x. x + sum_by (reached_of s.reached) new)) was) ∙ read j is) in
-      let begin = begins-so in
-      omega (arith, most, sum, begin)
-  read-no-more stop before Short i f came ahead refused first now read keep writes readers told bytes plain n j was is = cc
-  read-no-more stop before step i f came ahead refused first now read keep writes readers told bytes plain n j was is = absurd refused
+      read-at-most (sum_by (reached_of s.reached) new) (all_begin m stages + most_read (number_of (stage.Point f)) (length stages) shape.queue shape.chunk * bytes) first now read
+      (omega (arith, most, begins-so)) j is
+  read-no-more stop before Short i f came ahead refused first now read keep writes readers told bytes plain j is = cc
+  read-no-more stop before step i f came ahead refused first now read keep writes readers told bytes plain j is = absurd refused

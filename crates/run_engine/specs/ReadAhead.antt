@@ -24,9 +24,9 @@ all_begin m stages = sum_by (λ i. begins_in (header_at m (role_at stages i))) (
 abbrev pub HavePlainFiles : Names → List StageSpec → ℕ → Type 0
 HavePlainFiles m stages bytes = (i : ℕ) (header : Header) → header_at m (role_at stages i) ≡ Some header → (header.evlrs ≡ 0) × (header.record_length ≤ bytes)
 
--- the sum of how far the sources were read that were taken back rose by at most this, where it is told
+-- where the sum of how far the sources were read that were taken back is told, it was told before, and rose by at most this
 abbrev pub ReadAtMost : ℕ → Option ℕ → Option ℕ → Type 0
-ReadAtMost most old new = (n k : ℕ) → old ≡ Some n → new ≡ Some k → k ≤ n + most
+ReadAtMost most old new = (k : ℕ) → new ≡ Some k → (n : ℕ) × (old ≡ Some n) × (k ≤ n + most)
 
 -- where all stages give on each point, and every reader stands under the writer that has this fault, that is at most what stands in front of
 -- the points of the files, and so many records

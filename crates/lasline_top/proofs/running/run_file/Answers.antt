@@ -1,9 +1,15 @@
-use Rattle.std.proofs.Common.{Ok, ap, sym, ◌∙◌}
+use Rattle.std.proofs.Common.{◌≡◌, length, Some, Ok, Err, IfErr, rules, ap, subst, sym, ◌∙◌}
+use Rattle.file_devices.specs.Named.{Names}
+use Rattle.run_engine.specs.ReadAhead.{ReadAtMost}
+use Rattle.lasline_top.specs.Reading.{IsReadAhead}
+use Rattle.lasline_top.specs.Words.{Run_file}
 use Rattle.run_report.proofs.Lines.{OnOk-more}
 use Rattle.lasline_top.specs.Answer.{ran}
 use Rattle.lasline_top.specs.Tasks.{engine_view}
 use Rattle.lasline_top.proofs.Printed.{if-unprinted}
 use Rattle.lasline_top.proofs.Ran.{ran-as, done_is, run-unprinted}
+use Rattle.lasline_top.proofs.Reading.{file-ahead, file-refused}
+use Rattle.run_outcome.proofs.Results.{if-err}
 use Rattle.lasline_top.proofs.running.run_file.Goals as goal
 
 pub returns-clause-ok : goal.returns-clause-ok
@@ -17,3 +23,18 @@ returns-clause-err g c = if-unprinted c.print_report.result _ _ _ c.print_report
     (λ r is part rose. run-unprinted c.args.name.now (engine_view (g.T.Scheduler.stop c.args.scheduler.now) c.args.engine) _ _ _ _ c.in_ok-report.report.items _ _ _ r is rose c.as_slice.ensures.value
     (ran-as c.args.name.now c.deref.result.now c.in_ok-report.report.items _ _ _ (λ n e. c.in_ok-text.ensures.ok n e ∙ ap (λ text. Ok text) (sym c.deref.ensures.value)) c.in_ok-text.ensures.settled.map_same c.in_ok-report.ensures.ok)
     part)
+
+pub returns-in_err-report-clause-ahead : goal.returns-in_err-report-clause-ahead
+returns-in_err-report-clause-ahead g c =
+    let files = g.F.Files in
+    let engine = engine_view (g.T.Scheduler.stop c.args.scheduler.now) c.args.engine in
+    let refusal = c.in_err-report.field-0.0 in
+    let refused : c.from_residual-in_err-report.result ≡ Err refusal = search rules in
+    let first = subst (λ text. ReadAtMost (length text) (files.read_to c.args.files.now) (files.read_to c.read_text.new.files)) (sym c.deref.ensures.value) c.in_ok-text.ensures.no_further in
+    subst (λ r. IfErr r (λ r. (m : Names) → files.map c.args.files.now ≡ Some m → IsReadAhead (Ok (Run_file c.args.name.now engine)) m (files.read_to c.args.files.now) (files.read_to c.run_text.new.files) r)) (sym refused)
+    (λ m told. file-ahead c.args.name.now engine m c.deref.result.now (files.read_to c.args.files.now) (files.read_to c.read_text.new.files) (files.read_to c.run_text.new.files) refusal
+    (c.in_ok-text.ensures.ok m told ∙ ap (λ text. Ok text) (sym c.deref.ensures.value)) first (c.in_err-report.ensures.ahead m (c.in_ok-text.ensures.settled.map_same ∙ told)))
+
+pub returns-clause-ahead : goal.returns-clause-ahead
+returns-clause-ahead g c = if-err c.print_report.result c.print_report.ensures.err (λ r is m told.
+    file-refused c.args.name.now (engine_view (g.T.Scheduler.stop c.args.scheduler.now) c.args.engine) m _ _ r (λ i f e. cc))

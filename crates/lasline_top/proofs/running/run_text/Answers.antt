@@ -4,6 +4,7 @@ use Rattle.run_engine.specs.Stopping.{IsCauseBy}
 use Rattle.lasline_top.specs.Tasks.{engine_view}
 use Rattle.lasline_top.specs.Words.{stop_in}
 use Rattle.lasline_top.proofs.Ran.{if-stopped, ends-so}
+use Rattle.lasline_top.proofs.Reading.{text-ahead}
 use Rattle.lasline_top.proofs.running.run_text.Goals as goal
 
 pub returns-clause-err : goal.returns-clause-err
@@ -16,3 +17,9 @@ returns-clause-err g c =
     (c.in_ok-tree.ensures.ok ∙ ap (λ tree. Ok tree) (sym c.as_slice.ensures.stages)) c.run_pipeline.result
     (subst (λ ends. IfErr c.run_pipeline.result (IsCauseBy ends rose (files.map c.args.files.now) stages)) (ends-so c.args.engine stop) c.run_pipeline.ensures.err)
     c.run_pipeline.ensures.left
+
+pub returns-clause-ahead : goal.returns-clause-ahead
+returns-clause-ahead g c =
+    let files = g.F.Files in
+    text-ahead c.args.engine (g.T.Scheduler.stop c.args.scheduler.now) (files.map c.args.files.now) c.args.text.now c.as_slice.result.now (files.read_to c.args.files.now) (files.read_to c.run_pipeline.new.files) c.run_pipeline.result
+    (c.in_ok-tree.ensures.ok ∙ ap (λ tree. Ok tree) (sym c.as_slice.ensures.stages)) c.run_pipeline.ensures.ahead

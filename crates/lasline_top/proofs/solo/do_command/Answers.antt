@@ -12,5 +12,5 @@ pub returns-in-Err : goal.returns-in-Err
 returns-in-Err g c = record {
   answered = refused_answered _ _ _ c.in-Err.ensures.lent c.in-Err.ensures.later c.in-Err.ensures.opened
       c.in-Err.refusal c.refused.result c.refused.ensures.status c.in-Err.ensures.err c.in-Err.ensures.page_part
-      (λ r e. let is = c.in-Err.ensures.words_first r e in cc) (λ k e. c.in-Err.ensures.of_words k (ap (λ r. Err r) e)) c.refused.ensures.line;
+      (λ r e. let is = c.in-Err.ensures.words_first r e in cc) (λ k e. c.in-Err.ensures.of_words k (ap (λ r. Err r) e)) c.refused.ensures.line c.in-Err.ensures.ahead;
 }
