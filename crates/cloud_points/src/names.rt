@@ -152,6 +152,15 @@ impl ExtraNames {
         Ok(place as u8)
     }
 
+    /// The names in the order of their places, each with the spelling that was added first.
+    pub fn as_slice(&self) -> &[Name]
+        ensures names { result.now ≡ self.now }
+        ensures few { length result.now ≤ 8 }
+        ensures different { DifferentNames result.now }
+    {
+        self.names.as_slice()
+    }
+
     /// The name at a place, with the spelling that was added first.
     fn spelling(&self, place: u8) -> &str
         requires { place < length self.now }

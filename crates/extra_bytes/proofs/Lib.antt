@@ -6,3 +6,6 @@ pub mod Computed
 pub mod ReadBack
 pub mod Putting
 pub mod Places
+pub mod Found
+pub mod Asking
+pub mod Described

@@ -4,3 +4,5 @@ pub mod Laws
 pub mod Written
 pub mod Rows
 pub mod Bound
+pub mod Record
+pub mod Asked

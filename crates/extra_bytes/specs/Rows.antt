@@ -1,10 +1,13 @@
 -- Worked examples of fields and records.
-use Rattle.std.specs.Prelude.{ℕ, ℤ, pos, List, [], ◌∷◌, ◌++◌, replicate, codes}
+use Rattle.std.specs.Prelude.{ℕ, ℤ, ◌==◌, pos, Bool, true, not, List, [], ◌∷◌, ◌++◌, replicate, codes}
 use Rattle.std.specs.Int.Signed.{le_z_yes}
 use Rattle.decimal_coords.specs.declared.grid.Scale.{Scale}
 use Rattle.cloud_points.specs.declared.extra.ExtraKind.{ExtraKind}
-use Rattle.cloud_points.specs.declared.extra.ExtraKind.TheVariants.{I16, I32}
+use Rattle.cloud_points.specs.declared.extra.ExtraKind.TheVariants.{I16, I32, I64}
 use Rattle.cloud_points.specs.declared.extra.ExtraField.{ExtraField}
+use Rattle.cloud_points.specs.declared.dims.Dim.{Dim}
+use Rattle.cloud_points.specs.declared.dims.Dim.TheVariants.{Extra}
+use Rattle.option_texts.specs.declared.extra_dims.NamedField.{NamedField}
 
 -- what a field is, its scale in nanounits
 pub record Parts : Type 0 where
@@ -59,3 +62,22 @@ high_tenths = replicate 20 7 ++ (25 ∷ 0 ∷ [])
 
 abbrev pub low_tenths : List ℕ
 low_tenths = replicate 20 7 ++ (0 ∷ 0 ∷ [])
+
+-- three extra names, and a layout that holds the first and the last of them
+abbrev pub three_names : List (List ℕ)
+three_names = codes "Height" ∷ codes "Width" ∷ codes "Depth" ∷ []
+
+abbrev pub but_width : Dim → Bool
+but_width (Extra place) = not (place == 1)
+but_width dim = true
+
+-- a field that is asked for by the name in other case, in 16 bits with one place
+abbrev pub height_asked : NamedField
+height_asked = record { name = codes "HEIGHT"; kind = I16; places = 1 }
+
+abbrev pub width_asked : NamedField
+width_asked = record { name = codes "Width"; kind = I16; places = 0 }
+
+-- 64 bits in steps of a nanounit
+abbrev pub fine : List ℕ → ℕ → ℕ → Parts
+fine name place at = record { name = name; place = place; kind = I64; at = at; scale = pos 1; offset = pos 0 }

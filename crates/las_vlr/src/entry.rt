@@ -1,5 +1,6 @@
 //! A variable length record, and why a list of them isn't read.
 ghost use Rattle.std.specs.Prelude.{◌≡◌, IfOk};
+ghost use Rattle.las_vlr.specs.ExtraBytes.{is_extra_bytes};
 ghost use Rattle.las_vlr.specs.Same.{same_vlr};
 ghost use Rattle.las_vlr.specs.declared.entry.VlrErr.TheVariants.{Fault, Memory};
 
@@ -11,6 +12,12 @@ pub const VLR_HEAD: usize = 54;
 
 /// The bytes in front of the payload of an EVLR.
 pub(crate) const EVLR_HEAD: usize = 60;
+
+/// The user that the standard's own records are of.
+pub const STANDARD_USER: [u8; 16] = *b"LASF_Spec\0\0\0\0\0\0\0";
+
+/// The number of the record that describes the extra bytes of point records.
+pub const EXTRA_BYTES: u16 = 4;
 
 /// A variable length record, plain or extended.
 #[derive(Drop)]
@@ -32,6 +39,13 @@ pub struct Vlr {
 }
 
 impl Vlr {
+    /// Whether it describes the extra bytes of point records ("Extra Bytes" of the standard).
+    pub fn is_extra_bytes(&self) -> bool
+        ensures { result ≡ is_extra_bytes self.now }
+    {
+        self.id == EXTRA_BYTES && self.user == STANDARD_USER
+    }
+
     /// Whether all fields of another record are the same, the reserved word and the payload too.
     pub fn is_same(&self, other: &Self) -> bool
         ensures { result ≡ same_vlr self.now other.now }

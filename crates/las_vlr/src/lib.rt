@@ -8,7 +8,7 @@ mod lists;
 mod reads;
 mod writes;
 
-pub use entry::{VLR_HEAD, Vlr, VlrErr, VlrFault};
+pub use entry::{EXTRA_BYTES, STANDARD_USER, VLR_HEAD, Vlr, VlrErr, VlrFault};
 pub use laws::{written_evlrs_are_read, written_vlrs_are_read};
 pub use lists::VlrList;
 pub use reads::{read_evlrs, read_vlrs};

@@ -1,5 +1,6 @@
 //! A list of variable length records.
-ghost use Rattle.std.specs.Prelude.{◌≡◌, List, IfOk};
+ghost use Rattle.std.specs.Prelude.{◌≡◌, List, IfOk, option_map};
+ghost use Rattle.las_vlr.specs.ExtraBytes.{extra_bytes_in};
 ghost use Rattle.las_vlr.specs.Same.{same_list};
 ghost use Rattle.las_vlr.specs.declared.entry.Vlr.{Vlr};
 
@@ -35,6 +36,14 @@ impl VlrList {
         ensures { result.now ≡ self.now }
     {
         self.items.as_slice()
+    }
+
+    /// What the first record holds that describes the extra bytes of point records.
+    pub fn extra_bytes(&self) -> Option<&[u8]>
+        ensures { option_map (λ payload. payload.now) result ≡ extra_bytes_in self.now }
+    {
+        let vlr = self.items.iter().find(|vlr| vlr.is_extra_bytes())?;
+        Some(vlr.payload.as_slice())
     }
 
     /// Whether another list has the same records in the same order.

@@ -15,7 +15,7 @@ use Rattle.las_vlr.specs.Limits.{AreHeld, AreHeldVlrs, AreHeldEvlrs}
 use Rattle.las_vlr.specs.Written.{IsVlr, IsEvlr, payload_size}
 use Rattle.forward_rules.specs.declared.options.LasOpts.{LasOpts}
 use Rattle.forward_rules.specs.Asked.{asked}
-use Rattle.forward_rules.specs.Lists.{is_extra_bytes}
+use Rattle.las_vlr.specs.ExtraBytes.{is_extra_bytes}
 use Rattle.forward_rules.specs.Values.{default_values, format_in, offset_on, same_format}
 use Rattle.forward_rules.specs.Forwarded.{ReadFile, decided, given_on, given_or, flag_on, decided_offset, same_lists, decided_lists, form_of}
 use Rattle.forward_rules.specs.Options.{AreGoodOptions}

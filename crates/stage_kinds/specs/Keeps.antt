@@ -1,6 +1,5 @@
 -- The stages keep the law of cutting.
 use Rattle.std.proofs.Common.{◌≡◌, Some, refl, sym, ap, arith}
-use Rattle.cloud_points.specs.Flows.{Flow}
 use Rattle.cloud_points.specs.declared.point.Point.{Point}
 use Rattle.cloud_points.specs.Lifted.{lifted-keeps}
 use Rattle.cloud_points.specs.Meaning.{KeepsCutting}
@@ -14,10 +13,10 @@ use Rattle.view_works.specs.Giving.{resting_keeps}
 use Rattle.stage_kinds.specs.declared.file_form.Writing.{Writing as Writes}
 use Rattle.stage_kinds.specs.declared.making.Making.{Making}
 use Rattle.stage_kinds.specs.declared.stage_work.StageState.{StageState}
-use Rattle.stage_kinds.specs.declared.stage_work.StageState.TheVariants.{Filtering as At, Collecting, Writing}
+use Rattle.stage_kinds.specs.declared.stage_work.StageState.TheVariants.{Filtering as At, Collecting, Keeping, Writing}
 use Rattle.stage_kinds.specs.declared.stage_work.StageWork.{StageWork}
 use Rattle.stage_kinds.specs.declared.stage_work.StageWork.TheVariants.{Reader, Filter, Collector, Views, ViewFiles, Writer}
-use Rattle.stage_kinds.specs.Stages.{keeping, writing_steps, writing_meaning, filtering_in, collecting_in, writing_in, filter_work, collector_work, writer_work, meaning_of}
+use Rattle.stage_kinds.specs.Stages.{writing_steps, writing_meaning, filtering_in, collecting_in, writing_in, filter_work, collector_work, writer_work, meaning_of}
 
 -- a writer does so by its steps, whatever it writes
 pub writing_keeps : KeepsCutting writing_meaning
@@ -55,24 +54,10 @@ collector_keeps = lifted-keeps collecting collecting_keeps collecting_in (λ s. 
 pub writer_keeps : KeepsCutting writer_work
 writer_keeps = lifted-keeps writing_meaning writing_keeps writing_in (λ s. Writing s.0 s.1) (λ s. refl) writing_back
 
-keeping_keeps : (x : Writes) (views : Flow Point) → KeepsCutting (keeping x views)
-keeping_keeps x views = record {
-  emits = λ s a b h. refl;
-  goes_on = λ s a b h. refl;
-  finds = λ s a b h. refl;
-  stops_emit = λ s a b h. refl;
-  stops_after = λ s a b h. refl;
-  stops_fault = λ s a b h. refl;
-  holds_back = λ s p h. refl;
-  rests = λ s. refl;
-  is_sound = λ s. refl;
-  no_longer = λ s a. omega arith;
-}
-
 pub meaning_keeps : {S K : Type 0} (k : StageWork S K) → KeepsCutting (meaning_of k)
-meaning_keeps (Reader r) = resting_keeps
+meaning_keeps (Reader r) = resting_keeps (λ s. s)
 meaning_keeps (Filter f) = filter_work_keeps (filtering_of f)
 meaning_keeps (Collector c) = collector_keeps
-meaning_keeps (Views h) = resting_keeps
-meaning_keeps (ViewFiles t) = keeping_keeps t.writing t.views.views
+meaning_keeps (Views h) = resting_keeps (λ s. s)
+meaning_keeps (ViewFiles t) = resting_keeps (λ s. Keeping t.writing t.views.views)
 meaning_keeps (Writer w) = writer_keeps

@@ -18,7 +18,7 @@ use Rattle.stage_meanings.specs.declared.reason.Reason.{Reason}
 use Rattle.stage_meanings.specs.declared.spot.Spot.{Spot}
 use Rattle.stream_filters.specs.Kinds.{filtering_of, spot_of}
 use Rattle.view_works.specs.Collecting.{Held, collecting, held}
-use Rattle.view_works.specs.Giving.{resting}
+use Rattle.view_works.specs.Giving.{resting, resting_until}
 use Rattle.stage_kinds.specs.declared.file_form.Writing.{Writing as Writes}
 use Rattle.stage_kinds.specs.declared.making.Making.{Making}
 use Rattle.stage_kinds.specs.declared.stage_work.StageState.{StageState}
@@ -107,7 +107,7 @@ collector_work = lifted collecting collecting_in (λ s. Collecting s.0 s.1)
 
 -- a leaf that keeps what it gives, and writes files of it: that is the state in which an end leaves it
 abbrev pub keeping : Writes → Flow Point → Meaning StageState Point StageFault
-keeping x views = record resting { at_end = λ s cut. (Keeping x views, false) }
+keeping x views = resting_until (λ s. Keeping x views)
 
 module _ {S K : Type 0} where
   abbrev pub meaning_of : StageWork S K → Meaning StageState Point StageFault

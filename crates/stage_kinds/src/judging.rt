@@ -33,13 +33,8 @@ fn places_of(form: &FileForm) -> Option<PointPlaces>
 fn refusal(places: &Option<PointPlaces>, written: u64, point: &Point) -> Option<Reason>
     ensures { result ≡ by_places places.now written point.now }
 {
-    match places {
-        None => None,
-        Some(places) => match places.refusal(written, point) {
-            None => None,
-            Some(fault) => Some(reason_of(fault)),
-        },
-    }
+    let fault = places.as_ref()?.refusal(written, point)?;
+    Some(reason_of(fault))
 }
 
 /// Whether a point is to be written behind so many others. It is refused exactly where its `where` has no value, or holds and the point

@@ -24,19 +24,23 @@ abbrev pub left_of : HeldViews → List (Mark Point)
 left_of h = still_gives h.ended h.views h.view h.at
 
 module _ {S : Type 0} where
-  -- a leaf takes nothing, and gives nothing for what it would take, whatever its state is
-  abbrev pub resting : Meaning S Point StageFault
-  resting = record {
+  -- a leaf takes nothing, and gives nothing for what it would take, whatever its state is; an end leaves it in this state
+  abbrev pub resting_until : (S → S) → Meaning S Point StageFault
+  resting_until last = record {
     emit = λ s points. [];
     after = λ s points. s;
     fault = λ s points. None;
     at_view = λ s. (s, false);
-    at_end = λ s cut. (s, false);
+    at_end = λ s cut. (last s, false);
     nature = None;
   }
 
-  pub resting_keeps : KeepsCutting resting
-  resting_keeps = record {
+  -- or as it was
+  abbrev pub resting : Meaning S Point StageFault
+  resting = resting_until (λ s. s)
+
+  pub resting_keeps : (last : S → S) → KeepsCutting (resting_until last)
+  resting_keeps last = record {
     emits = λ s a b h. refl;
     goes_on = λ s a b h. refl;
     finds = λ s a b h. refl;
