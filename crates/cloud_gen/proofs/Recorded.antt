@@ -163,7 +163,8 @@ point_has_parts i h small =
 
 pub is_recorded : (series i : ℕ) → i < 10000000 → is_ok (written generated_form (generated series i)) ≡ true
 unfolding form_of
-is_recorded series i small = has_record (grid_for generated_form) (generated series i) (point_has_parts i (mixed series i) small)
+is_recorded series i small =
+    joined_is_ok (encoded F3 (grid_for generated_form) (generated series i)) (Ok []) (has_record (grid_for generated_form) (generated series i) (point_has_parts i (mixed series i) small)) refl
 
 -- ---- points behind one another
 

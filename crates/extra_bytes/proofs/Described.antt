@@ -1,16 +1,15 @@
 -- Fields that are asked for are such as descriptors describe.
-use Rattle.std.proofs.Common.{◌≡◌, ℕ, zero, suc, ◌+◌, ◌≤◌, ◌<◌, ◌&&◌, ◌||◌, not, Bool, true, false, true≢false, List, [], ◌∷◌, ◌++◌, length, map, get_or, nat_lt, cond, Option, Some, None, is_some, inl, inr, refl, ap, subst, sym, ◌∙◌, arith}
-use Rattle.std.specs.List.{All, find, list_any, position_or_len}
+use Rattle.std.proofs.Common.{◌≡◌, ℕ, zero, suc, ◌+◌, ◌≤◌, ◌<◌, ◌&&◌, ◌||◌, not, Bool, true, false, true≢false, List, [], ◌∷◌, ◌++◌, length, get_or, nat_lt, cond, Option, Some, None, is_some, inl, inr, refl, ap, subst, sym, ◌∙◌, arith}
+use Rattle.std.specs.List.{All, find, position_or_len}
 use Rattle.std.specs.Str.{bytes_eq, str_to_ascii_lowercase}
-use Rattle.std.specs.Prelude.{sum_by, ⊤}
-use Rattle.std.specs.Char.{to_ascii_lowercase}
+use Rattle.std.specs.Prelude.{⊤}
 use Rattle.std.proofs.lemmas.Bool.Decides.{leb_tells}
 use Rattle.std.proofs.lemmas.List.Folds.{list_any-append}
 use Rattle.std.proofs.lemmas.List.Sums.{passes_at_first, sum_by-cons}
 use Rattle.std.proofs.lemmas.Slice.Eq.{bytes_eq-Decides}
 use Rattle.cloud_points.specs.Dims.{name_of}
 use Rattle.cloud_points.specs.ExtraFields.{kind_size}
-use Rattle.cloud_points.specs.ExtraNames.{same_name, place_in, dim_named, standard_dims}
+use Rattle.cloud_points.specs.ExtraNames.{same_name, dim_named, standard_dims}
 use Rattle.cloud_points.specs.declared.dims.Dim.{Dim}
 use Rattle.cloud_points.specs.declared.extra.ExtraField.{ExtraField}
 use Rattle.option_texts.specs.NamedFields.{has_name as has_asked, are_different}
@@ -20,7 +19,7 @@ use Rattle.stage_names.specs.declared.faults.PipeFault.TheVariants.{DimUnknown}
 use Rattle.stage_names.specs.Faults.{or_else}
 use Rattle.text_bytes.specs.Bytes.{is_name}
 use Rattle.extra_bytes.specs.Asked.{AreShortOwn, AskedAreDescribed, asked_fault, asked_field, asked_fields, asked_size, field_unknown, held_at, is_extra}
-use Rattle.extra_bytes.specs.Descriptors.{has_name, is_taken}
+use Rattle.extra_bytes.specs.Descriptors.{has_name}
 use Rattle.extra_bytes.specs.Written.{AreDescribed, unplaced}
 
 -- ---- names that are one

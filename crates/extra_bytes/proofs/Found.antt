@@ -1,13 +1,11 @@
 -- The record of descriptors is found behind others.
-use Rattle.std.proofs.Common.{◌≡◌, ℕ, suc, arith, false, true, List, [], ◌∷◌, ◌++◌, map, option_map, Option, Some, cond, refl, ap, sym, ◌∙◌}
-use Rattle.std.specs.List.{All, find, flat_map}
+use Rattle.std.proofs.Common.{◌≡◌, suc, arith, false, true, List, [], ◌∷◌, ◌++◌, option_map, Some, cond, refl, ap, ◌∙◌}
+use Rattle.std.specs.List.{All, find}
 use Rattle.std.specs.Option.{unwrap_or}
-use Rattle.las_vlr.specs.ExtraBytes.{is_extra_bytes, extra_bytes_in}
+use Rattle.las_vlr.specs.ExtraBytes.{is_extra_bytes}
 use Rattle.las_vlr.specs.declared.entry.Vlr.{Vlr}
-use Rattle.cloud_points.specs.declared.extra.ExtraField.{ExtraField}
 use Rattle.extra_bytes.specs.Descriptors.{fields_of}
-use Rattle.extra_bytes.specs.Record.{RecordIsRead, extra_vlr, fields_among}
-use Rattle.extra_bytes.specs.Written.{descriptor_bytes}
+use Rattle.extra_bytes.specs.Record.{RecordIsRead, extra_vlr}
 use Rattle.extra_bytes.proofs.ReadBack.{written_are_read}
 
 found-last : (vlrs : List Vlr) (v : Vlr) → All (λ x. is_extra_bytes x ≡ false) vlrs → is_extra_bytes v ≡ true → find is_extra_bytes (vlrs ++ v ∷ []) ≡ Some v

@@ -4,6 +4,8 @@ pub mod Returning
 pub mod Fields
 pub mod Computed
 pub mod ReadBack
+pub mod Laying
+pub mod Sized
 pub mod Putting
 pub mod Places
 pub mod Found

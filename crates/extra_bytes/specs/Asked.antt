@@ -1,5 +1,5 @@
 -- The fields that a writer is asked for (`extra_dims`), with their places among the extra names and in the record.
-use Rattle.std.specs.Prelude.{◌≡◌, ℕ, ◌+◌, ◌≤◌, ◌==◌, ℤ, pos, Bool, true, false, List, [], ◌∷◌, length, sum_by, Option, Some, None, if◌then◌else◌}
+use Rattle.std.specs.Prelude.{◌≡◌, ℕ, ◌+◌, ◌≤◌, ◌==◌, pos, Bool, true, false, List, [], ◌∷◌, length, sum_by, Option, Some, None, if◌then◌else◌}
 use Rattle.std.specs.Int.Signed.{le_z_yes}
 use Rattle.std.specs.Option.{unwrap_or}
 use Rattle.std.specs.List.{All as Each}

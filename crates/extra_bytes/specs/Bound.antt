@@ -1,5 +1,5 @@
 -- Fields whose names have places among the extra names.
-use Rattle.std.specs.Prelude.{◌≡◌, ℕ, ◌==◌, ◌&&◌, Bool, List, [], ◌∷◌, length, is_none, Option, Some, None, if◌then◌else◌}
+use Rattle.std.specs.Prelude.{ℕ, ◌==◌, ◌&&◌, Bool, List, [], ◌∷◌, length, is_none, Option, Some, None, if◌then◌else◌}
 use Rattle.std.specs.Option.{unwrap_or}
 use Rattle.cloud_points.specs.ExtraNames.{place_in, added}
 use Rattle.cloud_points.specs.declared.extra.ExtraField.{ExtraField}

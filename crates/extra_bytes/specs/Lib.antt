@@ -2,6 +2,7 @@ pub mod Values
 pub mod Descriptors
 pub mod Laws
 pub mod Written
+pub mod Fields
 pub mod Rows
 pub mod Bound
 pub mod Record

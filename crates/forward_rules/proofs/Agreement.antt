@@ -82,9 +82,9 @@ goes_first names r = let a = asked names in λ i. record {
 }
 
 -- what is kept of no files
-pub begun_is : (opts : LasOpts) (f : Forwarding) → f.given ≡ given_of opts → f.goes ≡ asked opts.forward → f.begun ≡ false → f.first ≡ default_values → f.vlrs ≡ [] → f.evlrs ≡ [] → f ≡ forwarding_of opts []
+pub begun_is : (opts : LasOpts) (f : Forwarding) → f.given ≡ given_of opts → f.goes ≡ asked opts.forward → f.begun ≡ false → f.first ≡ default_values → f.vlrs ≡ [] → f.evlrs ≡ [] → f.extra ≡ [] → f ≡ forwarding_of opts []
 unfolding forwarding_of goes_over
-begun_is opts f given goes begun first vlrs evlrs = λ i. record { given = given i; goes = goes i; begun = begun i; first = first i; vlrs = vlrs i; evlrs = evlrs i }
+begun_is opts f given goes begun first vlrs evlrs extra = λ i. record { given = given i; goes = goes i; begun = begun i; first = first i; vlrs = vlrs i; evlrs = evlrs i; extra = extra i }
 
 -- after the first file
 started_first : (opts : LasOpts) (r : ReadFile) → started (forwarding_of opts []) r ≡ forwarding_of opts (r ∷ [])
@@ -96,6 +96,7 @@ started_first opts r = let a = asked opts.forward in λ i. record {
   first = r.values;
   vlrs = (if a.lists then r.vlrs else []);
   evlrs = (if a.lists then r.evlrs else []);
+  extra = [];
 }
 
 begun_before : (opts : LasOpts) (x : ReadFile) (rest : List ReadFile) (f : Forwarding) → f ≡ forwarding_of opts (x ∷ rest) → f.begun ≡ true
@@ -121,6 +122,7 @@ agreed_next opts r rest q = let a = asked opts.forward in λ i. record {
   first = r.values;
   vlrs = (if a.lists then r.vlrs else []);
   evlrs = (if a.lists then r.evlrs else []);
+  extra = [];
 }
 
 not_begun : (opts : LasOpts) (f : Forwarding) → f ≡ forwarding_of opts [] → f.begun ≡ false
@@ -154,7 +156,7 @@ evlrs_first true false first = refl
 evlrs_first false b first = refl
 
 -- the form that is decided by what is kept is the one of these files
-pub form_is : (opts : LasOpts) (reads : List ReadFile) → (let f = forwarding_of opts reads in picked_form f.given f.goes f.first (without_extra_bytes (kept f.goes.lists f.vlrs)) (kept f.goes.lists f.evlrs)) ≡ form_of opts reads
+pub form_is : (opts : LasOpts) (reads : List ReadFile) → (let f = forwarding_of opts reads in picked_form f.given f.goes f.first (without_extra_bytes (kept f.goes.lists f.vlrs)) (kept f.goes.lists f.evlrs) f.extra) ≡ form_of opts reads
 unfolding forwarding_of goes_over picked_form form_of
 form_is opts [] = let a = asked opts.forward in let d = default_values in λ i. record {
   format = format_in (given_or opts.minor 4) (picked_none same_format opts.format a.format d.format i);
@@ -170,6 +172,7 @@ form_is opts [] = let a = asked opts.forward in let d = default_values in λ i. 
   year = picked_none (λ x y. x == y) opts.year a.year d.year i;
   vlrs = without_extra_bytes (either_way a.lists [] i);
   evlrs = either_way a.lists [] i;
+  extra = [];
 }
   where
     scale : (a : Fields) (axis : ℕ) → picked (given_on opts.scale axis) (flag_on a.scale axis) (scale_on default_values.scale axis) (scale_on default_values.scale axis) ≡ decided same_scale (given_on opts.scale axis) (flag_on a.scale axis) [] (scale_on default_values.scale axis)
@@ -191,6 +194,7 @@ form_is opts (r ∷ rest) = let a = asked opts.forward in let d = default_values
   year = picked_first (λ x y. x == y) (λ x. x.values.year) opts.year a.year r rest d.year i;
   vlrs = without_extra_bytes (vlrs_first a.lists (list_all (same_lists (r.vlrs, r.evlrs)) (map (λ x. (x.vlrs, x.evlrs)) rest)) (r.vlrs, r.evlrs) i);
   evlrs = evlrs_first a.lists (list_all (same_lists (r.vlrs, r.evlrs)) (map (λ x. (x.vlrs, x.evlrs)) rest)) (r.vlrs, r.evlrs) i;
+  extra = [];
 }
   where
     scale : (a : Fields) (axis : ℕ) → picked (given_on opts.scale axis) (scale_goes a r rest axis) (scale_on r.values.scale axis) (scale_on default_values.scale axis) ≡ decided same_scale (given_on opts.scale axis) (flag_on a.scale axis) (map (λ x. scale_on x.values.scale axis) (r ∷ rest)) (scale_on default_values.scale axis)

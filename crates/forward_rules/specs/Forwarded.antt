@@ -69,4 +69,5 @@ form_of opts reads = record {
   year = decided (λ a b. a == b) opts.year (asked opts.forward).year (map (λ r. r.values.year) reads) default_values.year;
   vlrs = without_extra_bytes (decided_lists opts reads).0;
   evlrs = (decided_lists opts reads).1;
+  extra = [];
 }

@@ -3,6 +3,7 @@ use Rattle.std.specs.Prelude.{ℕ, ℤ, ◌==◌, Bool, true, false, ◌&&◌, i
 use Rattle.std.specs.List.{list_all}
 use Rattle.std.specs.Ordering.{int_eq}
 use Rattle.std.specs.Str.{bytes_eq}
+use Rattle.cloud_points.specs.declared.extra.ExtraField.{ExtraField}
 use Rattle.las_vlr.specs.declared.entry.Vlr.{Vlr}
 use Rattle.forward_rules.specs.declared.fields.Fields.{Fields}
 use Rattle.forward_rules.specs.declared.forwarding.Forwarding.{Forwarding}
@@ -104,6 +105,7 @@ forwarding_of opts reads = record {
   first = first_values reads;
   vlrs = first_vlrs (asked opts.forward).lists reads;
   evlrs = first_evlrs (asked opts.forward).lists reads;
+  extra = [];
 }
 
 -- a value that is given, or else goes over, or else is the default
@@ -123,9 +125,9 @@ picked_scales given goes first = picked_scale given goes first 0 ∷ picked_scal
 abbrev pub picked_offsets : GivenValues → Fields → HeaderValues → List ℤ
 picked_offsets given goes first = picked_offset given goes first 0 ∷ picked_offset given goes first 1 ∷ picked_offset given goes first 2 ∷ []
 
--- the form that is decided by what is kept, with these lists
-unfoldable pub picked_form : GivenValues → Fields → HeaderValues → List Vlr → List Vlr → LasForm
-picked_form given goes first vlrs evlrs = record {
+-- the form that is decided by what is kept, with these lists and extra dimensions
+unfoldable pub picked_form : GivenValues → Fields → HeaderValues → List Vlr → List Vlr → List ExtraField → LasForm
+picked_form given goes first vlrs evlrs extra = record {
   format = format_in (given_or given.minor 4) (picked given.format goes.format first.format default_values.format);
   minor = given_or given.minor 4;
   scale = picked_scales given goes first;
@@ -139,6 +141,7 @@ picked_form given goes first vlrs evlrs = record {
   year = picked given.year goes.year first.year default_values.year;
   vlrs = vlrs;
   evlrs = evlrs;
+  extra = extra;
 }
 
 -- a list, where it goes over

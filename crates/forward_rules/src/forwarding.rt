@@ -12,6 +12,7 @@ use crate::given::GivenValues;
 use crate::lists::without_extra_bytes;
 use crate::values::{HeaderValues, offset_on, same_format, same_scale, scale_on};
 use crate::{LasForm, LasOpts};
+use cloud_points::FieldList;
 use decimal_coords::Scale;
 use las_header::{Format, Header, takes_format};
 use las_vlr::VlrList;
@@ -33,6 +34,8 @@ pub struct Forwarding {
     /// The lists of the first file, where they are asked for.
     vlrs: VlrList,
     evlrs: VlrList,
+    /// No extra dimensions: none go over from a file.
+    extra: FieldList,
 }
 
 /// Whether the scale of an axis still goes over.
@@ -152,7 +155,7 @@ fn format_in(minor: u8, format: Format) -> Format
     }
 }
 
-/// The form with these lists.
+/// The form with these lists and extra dimensions.
 #[tactic(auto, unfolding(crate::specs::States::picked_form))]
 fn picked_form(
     given: &GivenValues,
@@ -160,8 +163,9 @@ fn picked_form(
     first: &HeaderValues,
     vlrs: VlrList,
     evlrs: VlrList,
+    extra: FieldList,
 ) -> LasForm
-    ensures { result ≡ picked_form given.now goes.now first.now vlrs evlrs }
+    ensures { result ≡ picked_form given.now goes.now first.now vlrs evlrs extra }
 {
     let default = HeaderValues::default();
     let minor = given.minor.unwrap_or(MINOR);
@@ -195,6 +199,7 @@ fn picked_form(
         year: picked(given.year, goes.year, first.year, default.year),
         vlrs,
         evlrs,
+        extra,
     }
 }
 
@@ -222,6 +227,7 @@ impl Forwarding {
             first: HeaderValues::default(),
             vlrs: VlrList::new(Vec::new(alloc)),
             evlrs: VlrList::new(Vec::new(alloc)),
+            extra: FieldList::none(alloc),
         })
     }
 
@@ -248,7 +254,8 @@ impl Forwarding {
 
     /// What a writer with these options writes around the points of these files: each value is the one that is given, or
     /// else the one that all files have, where it is asked for, or else the default. The version doesn't go over, nor does a
-    /// format that its files don't have. Both lists go over together, without the records that describe extra bytes.
+    /// format that its files don't have. Both lists go over together, without the records that describe extra bytes, and no
+    /// extra dimensions do.
     pub fn form(self) -> LasForm
         ensures { (opts : LasOpts) (reads : List ReadFile) → self ≡ forwarding_of opts reads
             → result ≡ form_of opts reads }
@@ -256,7 +263,8 @@ impl Forwarding {
         let lists = self.goes.lists;
         let vlrs = without_extra_bytes(kept(lists, self.vlrs));
         let evlrs = kept(lists, self.evlrs);
-        picked_form(&self.given, &self.goes, &self.first, vlrs, evlrs)
+        let extra = self.extra;
+        picked_form(&self.given, &self.goes, &self.first, vlrs, evlrs, extra)
     }
 
     /// Takes the values of the first file.

@@ -9,7 +9,6 @@ use Rattle.cloud_points.specs.declared.faults.PointFault.TheVariants.{Cut}
 use Rattle.cloud_points.specs.declared.point.Point.{Point}
 use Rattle.las_header.specs.declared.block.Header.{Header}
 use Rattle.las_header.specs.declared.form.Format.{Format}
-use Rattle.las_header.specs.Formats.{format_size}
 use Rattle.las_header.specs.Counts.{points_in}
 use Rattle.byte_numbers.proofs.Fronts.{number_front}
 use Rattle.las_header.specs.Headers.{header_of, minor_of, header_with as read_with}
@@ -31,14 +30,14 @@ use Rattle.las_reader.specs.Files.{cut_of, whole_records, las_with}
 use Rattle.las_reader.specs.Records.{point_of, points_from}
 use Rattle.forward_rules.specs.declared.form.LasForm.{LasForm}
 use Rattle.las_writer.specs.declared.totals.Totals.{Totals}
-use Rattle.las_writer.specs.Records.{records, refusal}
+use Rattle.las_writer.specs.Records.{record_size, records, refusal}
 use Rattle.cloud_points.specs.Queue.{up_to_limit}
 use Rattle.las_writer.specs.Totals.{totals_of}
-use Rattle.las_writer.specs.LasOutput.{IsForm, is_old, legacy, has_wide_counts, points_at, file_evlrs, evlrs_at, from_one, vlrs_bytes, evlrs_bytes, header_with, header_for, las_output}
+use Rattle.las_writer.specs.LasOutput.{IsForm, is_old, legacy, has_wide_counts, points_at, file_vlrs, file_evlrs, evlrs_at, from_one, vlrs_bytes, evlrs_bytes, header_with, header_for, las_output}
 use Rattle.las_writer.proofs.HeaderSizes.{all_length, header_length, header_sizes, same_minor}
 use Rattle.las_writer.proofs.Bounded.{start_small, totals_small}
 use Rattle.las_round_trip.specs.RoundTrip.{IsWritten, written_point, FilesAreReadBack}
-use Rattle.las_round_trip.proofs.Parts.{size_some, all_held, all_counted, records_length, points_again, all_whole}
+use Rattle.las_round_trip.proofs.Parts.{record_some, all_held, all_counted, records_length, points_again, all_whole}
 
 no_fault : (form : LasForm) (t : Totals) → IsForm form → HasNoFault (header_with form t)
 unfolding header_with
@@ -59,7 +58,7 @@ fits_block form t is =
     record {
       version = is.version;
       waveform = λ short. refl;
-      evlrs_at = λ short. ap (λ b. if length (if b then form.evlrs else []) == 0 then 0 else up_to_limit (points_at form + format_size form.format * t.count)) (none (omega (arith, short)));
+      evlrs_at = λ short. ap (λ b. if length (if b then form.evlrs else []) == 0 then 0 else up_to_limit (points_at form + record_size form * t.count)) (none (omega (arith, short)));
       evlrs = λ short. ap (λ b. length (if b then form.evlrs else [])) (none (omega (arith, short)));
       count = λ short. ap (λ b. if b then t.count else 0) (none (omega (arith, short)));
       returns = λ short. ap (λ b. if b then from_one t.returns else replicate 15 0) (none (omega (arith, short)));
@@ -98,16 +97,16 @@ header_again form points rest w =
     let again : header_of front ≡ Ok h = is_read_back h front (stands form points w) (no_fault form (totals_of form points) w.taken) in
     ap header_or (sym (header_of_front file) ∙ ap header_of taken ∙ again)
 
-list_again : (form : LasForm) (points : List Point) (rest : List ℕ) → IsWritten form points → vlrs_in (header_for form points) (header_block (header_for form points) ++ (vlrs_bytes form ++ rest)) ≡ Ok form.vlrs
+list_again : (form : LasForm) (points : List Point) (rest : List ℕ) → IsWritten form points → vlrs_in (header_for form points) (header_block (header_for form points) ++ (vlrs_bytes form ++ rest)) ≡ Ok (file_vlrs form)
 unfolding header_with
 list_again form points rest w =
     let front = header_block (header_for form points) in
     let size = front_length form points w in
-    let again = vlrs_again front rest form.vlrs (points_at form) w.taken.vlrs (omega (arith, size)) in
-    ap list_or (subst (λ n. vlrs_of n (points_at form) (length form.vlrs) (front ++ (vlrs_bytes form ++ rest)) ≡ Ok form.vlrs) size again)
+    let again = vlrs_again front rest (file_vlrs form) (points_at form) w.vlrs (omega (arith, size)) in
+    ap list_or (subst (λ n. vlrs_of n (points_at form) (length (file_vlrs form)) (front ++ (vlrs_bytes form ++ rest)) ≡ Ok (file_vlrs form)) size again)
 
 -- how long the file is, and how many points it counts
-file_length : (form : LasForm) (points : List Point) → IsWritten form points → length (las_output form points) ≡ points_at form + (format_size form.format * length points + length (evlrs_bytes form))
+file_length : (form : LasForm) (points : List Point) → IsWritten form points → length (las_output form points) ≡ points_at form + (record_size form * length points + length (evlrs_bytes form))
 file_length form points w =
     let front = header_block (header_for form points) in
     let v = vlrs_bytes form in
@@ -121,7 +120,7 @@ few_points (suc size) n h l = let e : suc size * n ≡ n + size * n = omega arit
 
 count_is : (form : LasForm) (points : List Point) → IsWritten form points → up_to_limit (length points) ≡ length points
 count_is form points w =
-    let few = few_points (format_size form.format) (length points) (size_some form.format) (omega (arith, file_length form points w, w.small)) in
+    let few = few_points (record_size form) (length points) (record_some form) (omega (arith, file_length form points w, w.small)) in
     omega (arith, few)
 
 -- EVLRs stand where the header says
@@ -148,7 +147,7 @@ extended_again form points w =
     let front = header_block (header_for form points) in
     let v = vlrs_bytes form in
     let r = records form points in
-    let at = points_at form + format_size form.format * length points in
+    let at = points_at form + record_size form * length points in
     let long : length (front ++ (v ++ r)) ≡ at = omega (arith, front_length form points w, length-append front (v ++ r), length-append v r, records_length form points (all_held form points w.held)) in
     let fits : at < 2 ^ 64 = omega (arith, file_length form points w, w.small) in
     let parts : las_output form points ≡ (front ++ (v ++ r)) ++ evlrs_bytes form = ap (λ l. front ++ l) (sym (append_assoc v r (evlrs_bytes form))) ∙ sym (append_assoc front (v ++ r) (evlrs_bytes form)) in
@@ -219,10 +218,10 @@ points_counted form points w =
 whole_is : (form : LasForm) (points : List Point) → IsWritten form points → whole_records (header_for form points) (las_output form points) ≡ length points
 unfolding header_with
 whole_is form points w =
-    let size = format_size form.format in
+    let size = record_size form in
     let n = length points in
     let behind : length (las_output form points) - points_at form ≡ size * n + length (evlrs_bytes form) = omega (arith, file_length form points w) in
-    ap (λ c. min c ((length (las_output form points) - points_at form) / size)) (points_counted form points w) ∙ ap (λ m. min n (m / size)) behind ∙ all_whole size n (length (evlrs_bytes form)) (size_some form.format)
+    ap (λ c. min c ((length (las_output form points) - points_at form) / size)) (points_counted form points w) ∙ ap (λ m. min n (m / size)) behind ∙ all_whole size n (length (evlrs_bytes form)) (record_some form)
 
 behind_lists : (form : LasForm) (points : List Point) → IsWritten form points → drop (points_at form) (las_output form points) ≡ records form points ++ evlrs_bytes form
 behind_lists form points w =
@@ -235,7 +234,7 @@ behind_lists form points w =
 points_read : (form : LasForm) (points : List Point) → IsWritten form points → points_from (point_of (header_for form points)) (header_for form points).record_length 0 (length points) (drop (header_for form points).points_at (las_output form points)) ≡ map (written_point form) points
 unfolding header_with point_of
 points_read form points w =
-    let none : format_size form.format * 0 ≡ 0 = omega arith in
+    let none : record_size form * 0 ≡ 0 = omega arith in
     points_again form (header_for form points) 0 points (drop (points_at form) (las_output form points)) (evlrs_bytes form) refl (all_held form points w.held)
     (ap (λ n. drop n (drop (points_at form) (las_output form points))) none ∙ behind_lists form points w)
 
@@ -253,8 +252,8 @@ files_again form points w =
     let h = header_for form points in
     let file = las_output form points in
     let rest = vlrs_bytes form ++ (records form points ++ evlrs_bytes form) in
-    let frame : frame_of file ≡ Ok (record { header = h; vlrs = form.vlrs; evlrs = file_evlrs form }) =
+    let frame : frame_of file ≡ Ok (record { header = h; vlrs = file_vlrs form; evlrs = file_evlrs form }) =
     ap (λ r. r >>= (λ x. vlrs_in x file >>= (λ vs. evlrs_in x file >>= (λ es. Ok (record { header = x; vlrs = vs; evlrs = es }))))) (header_again form points rest w)
     ∙ ap (λ r. r >>= (λ vs. evlrs_in h file >>= (λ es. Ok (record { header = h; vlrs = vs; evlrs = es })))) (list_again form points (records form points ++ evlrs_bytes form) w)
-    ∙ ap (λ r. r >>= (λ es. Ok (record { header = h; vlrs = form.vlrs; evlrs = es }))) (extended_again form points w) in
+    ∙ ap (λ r. r >>= (λ es. Ok (record { header = h; vlrs = file_vlrs form; evlrs = es }))) (extended_again form points w) in
     ap (λ r. r >>= (λ f. Ok (las_with f.header file))) frame ∙ ap Ok (las_is form points w)

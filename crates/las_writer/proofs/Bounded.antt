@@ -1,11 +1,19 @@
 -- The totals of points that have records are numbers of 64 bits.
-use Rattle.std.proofs.Common.{◌≡◌, ℕ, zero, suc, ◌+◌, ◌-◌, ◌*◌, ◌^◌, ◌<◌, ◌≤◌, ℤ, pos, ◌+ℤ◌, ◌*ℤ◌, Bool, true, false, cond, List, [], ◌∷◌, length, map, get_or, replicate, Option, None, Result, Ok, Err, if◌then◌else◌, refl, sym, subst, arith, length-append, FitsSigned}
+use Rattle.std.proofs.Common.{◌≡◌, ℕ, zero, suc, ◌+◌, ◌-◌, ◌*◌, ◌^◌, ◌<◌, ◌≤◌, ℤ, pos, ◌+ℤ◌, ◌*ℤ◌, Bool, true, false, cond, List, [], ◌∷◌, length, map, get_or, replicate, Option, None, Result, Ok, Err, if◌then◌else◌, refl, ap, sym, subst, ◌∙◌, arith, length-append, FitsSigned}
 use Rattle.std.specs.Prelude.{neg_ℤ, unsigned_abs, int_lt, ◌==◌}
 use Rattle.std.specs.Int.{w32, int_min, int_max}
 use Rattle.std.specs.List.{All, fold, flat_map, sum_by}
 use Rattle.std.proofs.lemmas.List.Sums.{sum_by-cons}
 use Rattle.las_vlr.specs.declared.entry.Vlr.{Vlr}
+use Rattle.las_vlr.specs.Limits.{AreHeldVlrs}
 use Rattle.las_vlr.specs.Written.{IsVlr, payload_size, vlr_bytes}
+use Rattle.extra_bytes.specs.Record.{extra_vlr}
+use Rattle.extra_bytes.specs.Written.{HasShortName}
+use Rattle.extra_bytes.proofs.Sized.{laid_short, record_fits}
+use Rattle.cloud_points.specs.declared.extra.ExtraField.{ExtraField}
+use Rattle.las_header.specs.Formats.{format_size}
+use Rattle.las_header.specs.Versions.{block_size}
+use Rattle.std.proofs.lemmas.Grind.{flat_map-append}
 use Rattle.las_writer.proofs.FirstItems.{vlr_length}
 use Rattle.std.proofs.lemmas.Int.{ints, unsigned_abs-mul}
 use Rattle.std.proofs.lemmas.Nat.{mul-le}
@@ -23,7 +31,7 @@ use Rattle.las_writer.specs.Laws.{HasRaws}
 use Rattle.las_writer.specs.declared.faults.RecordFault.{RecordFault}
 use Rattle.las_writer.specs.Records.{fits, grid_for, written, bytes_or_none, point_record, raw_number, unplaced, refused_or, refusal_from, refusal}
 use Rattle.las_writer.specs.Totals.{raws, number_on, totals_of}
-use Rattle.las_writer.specs.LasOutput.{IsForm, points_at, bound, bounds}
+use Rattle.las_writer.specs.LasOutput.{IsForm, extra_vlrs, points_at, bound, bounds}
 use Rattle.las_writer.specs.Sizes.{HasSmallTotals}
 use Rattle.las_writer.proofs.HeaderSizes.{all_mapped, counts_small}
 use Rattle.las_writer.proofs.Raws.{raws_are}
@@ -151,5 +159,23 @@ vlrs_length [] h = omega arith
 vlrs_length (v ∷ vlrs) h =
     omega (arith, length-append (vlr_bytes v) (flat_map vlr_bytes vlrs), vlr_length v (All-head IsVlr v vlrs h).sizes, vlrs_length vlrs (All-tail IsVlr v vlrs h), sum_by-cons payload_size v vlrs)
 
+-- the VLR that describes the extra dimensions is within the limits
+pub extra_held : (form : LasForm) → IsForm form → AreHeldVlrs (extra_vlrs form.extra)
+extra_held form is = by form.extra (laid_short (format_size form.format) form.extra is.extra) is.few
+  where
+    by : (fields : List ExtraField) → All HasShortName fields → length fields ≤ 8 → AreHeldVlrs (extra_vlrs fields)
+    by [] short few = record { count = omega arith; payloads = omega arith; each = All-nil IsVlr }
+    by (f ∷ fields) short few =
+        let vlr = extra_vlr (f ∷ fields) in
+        let fits = record_fits (f ∷ fields) short few in
+        record { count = omega arith; payloads = omega (arith, sum_by-cons payload_size vlr [], fits.short); each = All-cons IsVlr vlr [] fits (All-nil IsVlr) }
+
+-- where the points begin is behind both parts of the VLRs
+pub start_parts : (form : LasForm) → block_size form.minor + (length (flat_map vlr_bytes form.vlrs) + length (flat_map vlr_bytes (extra_vlrs form.extra))) ≡ points_at form
+start_parts form =
+    ap (λ n. block_size form.minor + n) (sym (length-append (flat_map vlr_bytes form.vlrs) (flat_map vlr_bytes (extra_vlrs form.extra))) ∙ ap length (sym (flat_map-append vlr_bytes form.vlrs (extra_vlrs form.extra))))
+
 pub start_small : (form : LasForm) → IsForm form → points_at form < 2 ^ 32
-start_small form is = omega (arith, block_is_short form.minor, is.vlrs.count, is.vlrs.payloads, vlrs_length form.vlrs is.vlrs.each)
+start_small form is =
+    let extra = extra_held form is in
+    omega (arith, start_parts form, block_is_short form.minor, is.vlrs.count, is.vlrs.payloads, vlrs_length form.vlrs is.vlrs.each, extra.count, extra.payloads, vlrs_length (extra_vlrs form.extra) extra.each)

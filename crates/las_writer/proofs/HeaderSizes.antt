@@ -1,5 +1,5 @@
 -- The sizes of a written header.
-use Rattle.std.proofs.Common.{◌≡◌, ℕ, zero, suc, ◌+◌, ◌-◌, ◌*◌, ◌/◌, ◌%◌, ◌^◌, ◌<◌, min, Bool, true, false, List, [], ◌∷◌, ◌++◌, length, map, replicate, eqb-true, refl, ◌∙◌, arith, length-append}
+use Rattle.std.proofs.Common.{◌≡◌, ℕ, zero, suc, ◌+◌, ◌-◌, ◌*◌, ◌/◌, ◌%◌, ◌^◌, ◌<◌, ◌≤◌, min, Bool, true, false, List, [], ◌∷◌, ◌++◌, length, map, replicate, eqb-true, refl, ◌∙◌, arith, length-append}
 use Rattle.std.specs.Prelude.{slice_index, nat_lt, ◌==◌, ◌&&◌, if◌then◌else◌}
 use Rattle.std.specs.Int.{to_le_bytes, w16, w32, w64}
 use Rattle.std.specs.List.{All, flat_map}
@@ -13,14 +13,16 @@ use Rattle.las_header.specs.Written.{nano_bytes, scale_bytes, file_part, record_
 use Rattle.las_header.specs.Versions.{block_size}
 use Rattle.las_header.proofs.Standing.{HasSizes, block_is_short, block_length}
 use Rattle.las_vlr.specs.declared.entry.Vlr.{Vlr}
+use Rattle.cloud_points.specs.declared.extra.ExtraField.{ExtraField}
 use Rattle.cloud_points.specs.declared.point.Point.{Point}
+use Rattle.extra_bytes.proofs.Sized.{fields_small}
 use Rattle.forward_rules.specs.declared.form.LasForm.{LasForm}
 use Rattle.las_writer.specs.declared.totals.Totals.{Totals}
 use Rattle.las_writer.specs.Sizes.{HasFieldSizes, HasSmallTotals}
 use Rattle.cloud_points.specs.Queue.{up_to_limit}
 use Rattle.las_writer.specs.Totals.{returns_from, totals_of}
-use Rattle.las_writer.specs.Records.{grid_for}
-use Rattle.las_writer.specs.LasOutput.{IsForm, is_old, with_text_systems, legacy, bound, bounds, points_at, has_wide_counts, file_evlrs, evlrs_at, from_one, header_with}
+use Rattle.las_writer.specs.Records.{grid_for, record_size}
+use Rattle.las_writer.specs.LasOutput.{IsForm, is_old, with_text_systems, legacy, bound, bounds, points_at, has_wide_counts, extra_vlrs, file_evlrs, evlrs_at, from_one, header_with}
 
 pub flat_length : {A : Type 0} (f : A → List ℕ) (width : ℕ) (items : List A) → ((x : A) → length (f x) ≡ width) → length (flat_map f items) ≡ width * length items
 flat_length f width [] h = omega arith
@@ -123,18 +125,36 @@ bounds_length form t = by (t.count == 0)
 evlrs_at_small : (form : LasForm) (count : ℕ) → evlrs_at form count < 2 ^ 64
 evlrs_at_small form count = by (length (file_evlrs form) == 0)
   where
-    by : (b : Bool) → (if b then 0 else up_to_limit (points_at form + format_size form.format * count)) < 2 ^ 64
+    by : (b : Bool) → (if b then 0 else up_to_limit (points_at form + record_size form * count)) < 2 ^ 64
     by true = omega arith
     by false = omega arith
 
-size_small : (format : Format) → format_size format < 2 ^ 16
-size_small F0 = omega arith
-size_small F1 = omega arith
-size_small F2 = omega arith
-size_small F3 = omega arith
-size_small F6 = omega arith
-size_small F7 = omega arith
-size_small F8 = omega arith
+pub format_small : (format : Format) → format_size format ≤ 38
+format_small F0 = omega arith
+format_small F1 = omega arith
+format_small F2 = omega arith
+format_small F3 = omega arith
+format_small F6 = omega arith
+format_small F7 = omega arith
+format_small F8 = omega arith
+
+pub format_long : (format : Format) → 12 ≤ format_size format
+format_long F0 = omega arith
+format_long F1 = omega arith
+format_long F2 = omega arith
+format_long F3 = omega arith
+format_long F6 = omega arith
+format_long F7 = omega arith
+format_long F8 = omega arith
+
+-- no record is longer than 102 bytes
+pub record_small : (form : LasForm) → IsForm form → record_size form ≤ 102
+record_small form is = omega (arith, is.few, fields_small form.extra, format_small form.format)
+
+-- at most one VLR describes the extra dimensions
+one_more_vlr : (vlrs : List Vlr) (fields : List ExtraField) → length (vlrs ++ extra_vlrs fields) ≤ suc (length vlrs)
+one_more_vlr vlrs [] = omega (arith, length-append vlrs (extra_vlrs []))
+one_more_vlr vlrs (f ∷ fields) = omega (arith, length-append vlrs (extra_vlrs (f ∷ fields)))
 
 pub all_mapped : {A : Type 0} (P : ℕ → Type 0) (f : A → ℕ) (items : List A) → ((x : A) → P (f x)) → All P (map f items)
 all_mapped P f [] h = λ k d l. absurd (omega arith)
@@ -174,8 +194,8 @@ header_sizes form t fields is start small = record {
   recorded = record {
     header_size = omega (arith, block_is_short form.minor);
     points_at = start;
-    vlrs = omega (arith, is.vlrs.count);
-    record_length = size_small form.format;
+    vlrs = omega (arith, is.vlrs.count, one_more_vlr form.vlrs form.extra);
+    record_length = omega (arith, record_small form is);
     legacy_count = legacy_small form.format t.count t.count;
     five_returns = refl;
     legacy_returns = all_mapped (λ n. n < 2 ^ 32) (λ number. legacy form.format t.count (slice_index t.returns number)) (1 ∷ 2 ∷ 3 ∷ 4 ∷ 5 ∷ []) (λ number. legacy_small form.format t.count (slice_index t.returns number));

@@ -1,5 +1,5 @@
 -- The raw numbers that stand in records.
-use Rattle.std.proofs.Common.{◌≡◌, ℕ, ◌-◌, ◌^◌, ◌<◌, ℤ, pos, List, [], ◌∷◌, ◌++◌, length, drop, Bool, true, false, Result, Ok, Err, if◌then◌else◌, refl, ap, sym, ◌∙◌, arith, append_assoc, length-append, FitsSigned}
+use Rattle.std.proofs.Common.{◌≡◌, ℕ, ◌-◌, ◌^◌, ◌<◌, ℤ, pos, List, [], ◌∷◌, ◌++◌, length, drop, Bool, true, false, Result, Ok, Err, if◌then◌else◌, refl, ap, sym, subst, ◌∙◌, arith, append_assoc, length-append, FitsSigned}
 use Rattle.std.specs.Prelude.{neg_ℤ}
 use Rattle.std.specs.Int.{w32, to_le_bytes, cast_signed, cast_unsigned}
 use Rattle.std.proofs.lemmas.Int.{ints, to_z-of_z}
@@ -21,7 +21,8 @@ use Rattle.point_formats.specs.Formats.{Item, Coordinate, items}
 use Rattle.point_formats.specs.Encoded.{coordinate_bytes, items_bytes, encoded}
 use Rattle.point_formats.proofs.Appending.{joined}
 use Rattle.byte_numbers.proofs.Written.{number_read}
-use Rattle.las_writer.specs.Records.{grid_for, raw_number}
+use Rattle.extra_bytes.specs.Fields.{fields_bytes}
+use Rattle.las_writer.specs.Records.{grid_for, or_refused, raw_number}
 use Rattle.las_writer.specs.Laws.{HasRaws, RawNumbersAreSteps}
 
 chosen : (t : Bool) (z : ℤ) (f : ℤ → List ℕ) (bytes : List ℕ) (e : EncodeFault) → ((if t then Ok z else Err e) >>= (λ n. Ok (f n))) ≡ Ok bytes → (t ≡ true) × (f z ≡ bytes)
@@ -67,31 +68,35 @@ parts_of (Err e) b bytes h = absurd (cc)
 parts_of (Ok first) (Err e) bytes h = absurd (cc)
 parts_of (Ok first) (Ok others) bytes h = record { first = first; others = others; first_is = refl; others_is = refl; bytes_are = cc }
 
-three : (grid : Grid) (p : Point) (rest : List Item) (bytes : List ℕ) → items_bytes grid p (Coordinate X 0 ∷ Coordinate Y 1 ∷ Coordinate Z 2 ∷ rest) ≡ Ok bytes → HasRaws grid p bytes
-three grid p rest bytes h =
+three : (grid : Grid) (p : Point) (rest : List Item) (bytes more : List ℕ) → items_bytes grid p (Coordinate X 0 ∷ Coordinate Y 1 ∷ Coordinate Z 2 ∷ rest) ≡ Ok bytes → HasRaws grid p (bytes ++ more)
+three grid p rest bytes more h =
     let a = parts_of (coordinate_bytes grid X 0 p.x) (items_bytes grid p (Coordinate Y 1 ∷ Coordinate Z 2 ∷ rest)) bytes h in
     let b = parts_of (coordinate_bytes grid Y 1 p.y) (items_bytes grid p (Coordinate Z 2 ∷ rest)) a.others a.others_is in
     let c = parts_of (coordinate_bytes grid Z 2 p.z) (items_bytes grid p rest) b.others b.others_is in
-    let x = coordinate_read grid X 0 p.x 0 [] a.first a.others a.first_is refl in
-    let y = coordinate_read grid Y 1 p.y 4 a.first b.first b.others b.first_is x.four in
+    let x = coordinate_read grid X 0 p.x 0 [] a.first (a.others ++ more) a.first_is refl in
+    let y = coordinate_read grid Y 1 p.y 4 a.first b.first (b.others ++ more) b.first_is x.four in
     let eight : length (a.first ++ b.first) ≡ 8 = omega (arith, length-append a.first b.first, x.four, y.four) in
-    let z = coordinate_read grid Z 2 p.z 8 (a.first ++ b.first) c.first c.others c.first_is eight in
-    let two : bytes ≡ a.first ++ (b.first ++ b.others) = a.bytes_are ∙ ap (λ l. a.first ++ l) b.bytes_are in
-    let all : bytes ≡ (a.first ++ b.first) ++ (c.first ++ c.others) = two ∙ ap (λ l. a.first ++ (b.first ++ l)) c.bytes_are ∙ sym (append_assoc a.first b.first (c.first ++ c.others)) in
+    let z = coordinate_read grid Z 2 p.z 8 (a.first ++ b.first) c.first (c.others ++ more) c.first_is eight in
+    let one : bytes ++ more ≡ a.first ++ (a.others ++ more) = ap (λ l. l ++ more) a.bytes_are ∙ append_assoc a.first a.others more in
+    let two : bytes ++ more ≡ a.first ++ (b.first ++ (b.others ++ more)) = one ∙ ap (λ l. a.first ++ l) (ap (λ l. l ++ more) b.bytes_are ∙ append_assoc b.first b.others more) in
+    let all : bytes ++ more ≡ (a.first ++ b.first) ++ (c.first ++ (c.others ++ more)) =
+    two ∙ ap (λ l. a.first ++ (b.first ++ l)) (ap (λ l. l ++ more) c.bytes_are ∙ append_assoc c.first c.others more) ∙ sym (append_assoc a.first b.first (c.first ++ (c.others ++ more))) in
     record {
-      x = record { is = ap (raw_number 0) a.bytes_are ∙ x.number; small = x.small };
+      x = record { is = ap (raw_number 0) one ∙ x.number; small = x.small };
       y = record { is = ap (raw_number 1) two ∙ y.number; small = y.small };
       z = record { is = ap (raw_number 2) all ∙ z.number; small = z.small };
     }
 
-raws_in : (format : Format) (grid : Grid) (p : Point) (bytes : List ℕ) → encoded format grid p ≡ Ok bytes → HasRaws grid p bytes
-raws_in F0 grid p bytes h = three grid p (drop 3 (items F0)) bytes h
-raws_in F1 grid p bytes h = three grid p (drop 3 (items F1)) bytes h
-raws_in F2 grid p bytes h = three grid p (drop 3 (items F2)) bytes h
-raws_in F3 grid p bytes h = three grid p (drop 3 (items F3)) bytes h
-raws_in F6 grid p bytes h = three grid p (drop 3 (items F6)) bytes h
-raws_in F7 grid p bytes h = three grid p (drop 3 (items F7)) bytes h
-raws_in F8 grid p bytes h = three grid p (drop 3 (items F8)) bytes h
+raws_in : (format : Format) (grid : Grid) (p : Point) (bytes more : List ℕ) → encoded format grid p ≡ Ok bytes → HasRaws grid p (bytes ++ more)
+raws_in F0 grid p bytes more h = three grid p (drop 3 (items F0)) bytes more h
+raws_in F1 grid p bytes more h = three grid p (drop 3 (items F1)) bytes more h
+raws_in F2 grid p bytes more h = three grid p (drop 3 (items F2)) bytes more h
+raws_in F3 grid p bytes more h = three grid p (drop 3 (items F3)) bytes more h
+raws_in F6 grid p bytes more h = three grid p (drop 3 (items F6)) bytes more h
+raws_in F7 grid p bytes more h = three grid p (drop 3 (items F7)) bytes more h
+raws_in F8 grid p bytes more h = three grid p (drop 3 (items F8)) bytes more h
 
 pub raws_are : RawNumbersAreSteps
-raws_are form p bytes h = raws_in form.format (grid_for form) p bytes h
+raws_are form p bytes h =
+    let parts = parts_of (encoded form.format (grid_for form) p) (or_refused (fields_bytes form.extra p)) bytes h in
+    subst (HasRaws (grid_for form) p) (sym parts.bytes_are) (raws_in form.format (grid_for form) p parts.first parts.others parts.first_is)

@@ -118,4 +118,6 @@ forms_are_taken opts reads o good =
       offsets = three_good (decided_offset opts reads 0) (decided_offset opts reads 1) (decided_offset opts reads 2) (offset_taken opts reads 0 o good) (offset_taken opts reads 1 o good) (offset_taken opts reads 2 o good);
       vlrs = filtered_held IsVlr (λ v. not (is_extra_bytes v)) (decided_lists opts reads).0 lists.vlrs;
       evlrs = lists.evlrs;
+      extra = λ k f e. absurd (cc);
+      few = omega arith;
     }

@@ -1,7 +1,10 @@
 -- The file of a LAS writer: the header block, the VLRs, the records and, in LAS 1.4, the EVLRs.
-use Rattle.std.specs.Prelude.{◌≡◌, ℕ, ◌+◌, ◌*◌, ◌/◌, ◌%◌, ◌-◌, ◌^◌, ℤ, ◌==◌, min, nat_lt, Bool, true, ◌&&◌, if◌then◌else◌, List, [], ◌∷◌, ◌++◌, length, map, replicate, slice_index, codes}
+use Rattle.std.specs.Prelude.{◌≡◌, ℕ, ◌+◌, ◌*◌, ◌/◌, ◌%◌, ◌-◌, ◌^◌, ◌≤◌, ℤ, ◌==◌, min, nat_lt, Bool, true, ◌&&◌, if◌then◌else◌, List, [], ◌∷◌, ◌++◌, length, map, replicate, slice_index, codes}
 use Rattle.std.specs.List.{All, flat_map}
 use Rattle.cloud_points.specs.declared.point.Point.{Point}
+use Rattle.cloud_points.specs.declared.extra.ExtraField.{ExtraField}
+use Rattle.extra_bytes.specs.Record.{extra_vlr}
+use Rattle.extra_bytes.specs.Fields.{AreLaid}
 use Rattle.ieee_words.specs.NearWord.{near_word}
 use Rattle.las_header.specs.declared.block.Header.{Header}
 use Rattle.las_header.specs.declared.form.Format.{Format}
@@ -16,18 +19,20 @@ use Rattle.point_formats.specs.declared.grid.Grid.{Grid}
 use Rattle.point_formats.specs.Grids.{coordinate}
 use Rattle.forward_rules.specs.declared.form.LasForm.{LasForm}
 use Rattle.las_writer.specs.declared.totals.Totals.{Totals}
-use Rattle.las_writer.specs.Records.{grid_for, records}
+use Rattle.las_writer.specs.Records.{grid_for, record_size, records}
 use Rattle.cloud_points.specs.Queue.{up_to_limit}
 use Rattle.las_writer.specs.Totals.{number_on, totals_of}
 
--- what a writer takes: version 1.2, 1.3 or 1.4, a format of that version, offsets below 10 ^ 9 in size, and lists within the limits of
--- those that are read
+-- what a writer takes: version 1.2, 1.3 or 1.4, a format of that version, offsets below 10 ^ 9 in size, lists within the limits of those
+-- that are read, and at most eight extra dimensions, right behind the fields of the format
 pub record IsForm (form : LasForm) : Type 0 where
   pub version : is_version form.minor ≡ true
   pub format : takes_format form.minor form.format ≡ true
   pub offsets : All IsOffset form.offset
   pub vlrs : AreHeldVlrs form.vlrs
   pub evlrs : AreHeldEvlrs form.evlrs
+  pub extra : AreLaid (format_size form.format) form.extra
+  pub few : length form.extra ≤ 8
 
 -- LAS 1.4 alone has EVLRs, and counts of 64 bits
 abbrev pub has_wide_counts : ℕ → Bool
@@ -62,8 +67,17 @@ abbrev pub bounds : Grid → Totals → List ℕ
 bounds grid t = if t.count == 0 then replicate 6 0 else bound grid 0 t.greatest ∷ bound grid 0 t.least
     ∷ bound grid 1 t.greatest ∷ bound grid 1 t.least ∷ bound grid 2 t.greatest ∷ bound grid 2 t.least ∷ []
 
+-- the VLR that describes extra dimensions, where there are some
+abbrev pub extra_vlrs : List ExtraField → List Vlr
+extra_vlrs [] = []
+extra_vlrs fields = extra_vlr fields ∷ []
+
+-- the VLRs of the file, that one behind all others
+abbrev pub file_vlrs : LasForm → List Vlr
+file_vlrs form = form.vlrs ++ extra_vlrs form.extra
+
 abbrev pub vlrs_bytes : LasForm → List ℕ
-vlrs_bytes form = flat_map vlr_bytes form.vlrs
+vlrs_bytes form = flat_map vlr_bytes (file_vlrs form)
 
 -- the EVLRs of the file
 abbrev pub file_evlrs : LasForm → List Vlr
@@ -78,7 +92,7 @@ points_at form = block_size form.minor + length (vlrs_bytes form)
 
 -- where the EVLRs begin, behind so many points; 0 without EVLRs
 abbrev pub evlrs_at : LasForm → ℕ → ℕ
-evlrs_at form count = if length (file_evlrs form) == 0 then 0 else up_to_limit (points_at form + format_size form.format * count)
+evlrs_at form count = if length (file_evlrs form) == 0 then 0 else up_to_limit (points_at form + record_size form * count)
 
 -- the header with these totals
 unfoldable pub header_with : LasForm → Totals → Header
@@ -95,9 +109,9 @@ header_with form t = record {
   year = form.year;
   header_size = block_size form.minor;
   points_at = points_at form;
-  vlrs = length form.vlrs;
+  vlrs = length (file_vlrs form);
   format = form.format;
-  record_length = format_size form.format;
+  record_length = record_size form;
   legacy_count = legacy form.format t.count t.count;
   legacy_returns = legacy_returns form.format t.count t.returns;
   scale = form.scale;

@@ -1,15 +1,18 @@
 -- The records of a LAS writer.
-use Rattle.std.specs.Prelude.{ℕ, ◌+◌, ◌*◌, ℤ, Bool, true, false, List, [], ◌∷◌, Option, Some, None, Result, Ok, Err}
+use Rattle.std.specs.Prelude.{ℕ, ◌+◌, ◌*◌, ℤ, Bool, true, false, List, [], ◌∷◌, ◌++◌, Option, Some, None, Result, Ok, Err}
 use Rattle.std.specs.List.{flat_map}
 use Rattle.std.specs.Int.{w32, cast_signed}
+use Rattle.cloud_points.specs.declared.dims.Dim.{Dim}
 use Rattle.cloud_points.specs.declared.point.Point.{Point}
 use Rattle.byte_numbers.specs.Bytes.{number_at}
 use Rattle.las_header.specs.Versions.{fits_count}
-use Rattle.las_header.specs.declared.form.Format.{Format}
+use Rattle.las_header.specs.Formats.{format_size}
+use Rattle.las_header.specs.Steps.{◌>>=◌}
 use Rattle.point_formats.specs.declared.encoding.EncodeFault.{EncodeFault}
 use Rattle.point_formats.specs.declared.encoding.EncodeFault.TheVariants as encode
 use Rattle.point_formats.specs.declared.grid.Grid.{Grid}
 use Rattle.point_formats.specs.Encoded.{encoded}
+use Rattle.extra_bytes.specs.Fields.{fields_bytes, fields_size}
 use Rattle.forward_rules.specs.declared.form.LasForm.{LasForm}
 use Rattle.las_writer.specs.declared.faults.RecordFault.{RecordFault}
 use Rattle.las_writer.specs.declared.faults.RecordFault.TheVariants.{TooMany, NotHeld, ValueOutOfRange}
@@ -18,9 +21,18 @@ use Rattle.las_writer.specs.declared.faults.RecordFault.TheVariants.{TooMany, No
 abbrev pub grid_for : LasForm → Grid
 grid_for form = record { scale = form.scale; offset = form.offset }
 
--- the record of a point, or why it has none
+-- the bytes of the extra dimensions, where a number that leaves its field is told as one that leaves the format's
+abbrev pub or_refused : Result (List ℕ) Dim → Result (List ℕ) EncodeFault
+or_refused (Ok bytes) = Ok bytes
+or_refused (Err dim) = Err (encode.ValueOutOfRange dim)
+
+-- the record of a point, the fields of the format and behind them the extra dimensions, or why it has none
 abbrev pub written : LasForm → Point → Result (List ℕ) EncodeFault
-written form p = encoded form.format (grid_for form) p
+written form p = encoded form.format (grid_for form) p >>= (λ fields. or_refused (fields_bytes form.extra p) >>= (λ extra. Ok (fields ++ extra)))
+
+-- the length of each record
+abbrev pub record_size : LasForm → ℕ
+record_size form = format_size form.format + fields_size form.extra
 
 abbrev pub bytes_or_none : Result (List ℕ) EncodeFault → List ℕ
 bytes_or_none (Ok bytes) = bytes
@@ -54,10 +66,6 @@ abbrev pub unplaced : Bool → Result (List ℕ) EncodeFault → Option RecordFa
 unplaced false w = Some TooMany
 unplaced true (Ok bytes) = None
 unplaced true (Err f) = Some (fault_of f)
-
--- the same in a file of this version and format, on this grid, behind so many that are written
-abbrev pub unplaced_in : ℕ → Format → Grid → ℕ → Point → Option RecordFault
-unplaced_in minor format grid k p = unplaced (fits_count minor (k + 1)) (encoded format grid p)
 
 -- the refusal of a point with this number, or else one of those behind it
 abbrev pub refused_or : ℕ → Option RecordFault → Option (ℕ × RecordFault) → Option (ℕ × RecordFault)

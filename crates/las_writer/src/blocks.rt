@@ -5,12 +5,14 @@ ghost use Rattle.std.specs.List.{All};
 ghost use Rattle.las_header.specs.Formats.{format_size};
 ghost use Rattle.las_header.specs.Offsets.{IsOffset};
 ghost use Rattle.point_formats.specs.Grids.{IsNear, coordinate};
-ghost use Rattle.las_writer.specs.LasOutput.{IsForm, has_wide_counts, is_old, with_text_systems, legacy, legacy_returns, from_one, bound, bounds, points_at, file_evlrs, evlrs_at, header_with};
+ghost use Rattle.las_writer.specs.LasOutput.{IsForm, has_wide_counts, is_old, with_text_systems, legacy, legacy_returns, from_one, bound, bounds, points_at, file_vlrs, file_evlrs, evlrs_at, header_with};
+ghost use Rattle.las_writer.specs.Records.{record_size};
 
 use crate::Totals;
 use crate::records::grid_for;
 use crate::totals::RETURNS;
 use decimal_coords::real;
+use extra_bytes::fields_size;
 use forward_rules::LasForm;
 use ieee_words::near;
 use las_header::{Format, Header, block_size};
@@ -36,6 +38,27 @@ pub(crate) fn file_evlrs(form: &LasForm) -> &[Vlr]
     } else {
         &[]
     }
+}
+
+/// How many VLRs the file has: that of the extra dimensions stands behind all others.
+fn vlr_count(form: &LasForm) -> u32
+    requires { IsForm form.now }
+    ensures { result ≡ length (file_vlrs form.now) }
+{
+    let count = form.vlrs.as_slice().len() as u32;
+    if form.extra.as_slice().is_empty() {
+        count
+    } else {
+        count + 1
+    }
+}
+
+/// The length of each record.
+fn record_size(form: &LasForm) -> u16
+    requires { IsForm form.now }
+    ensures { result ≡ record_size form.now }
+{
+    form.format.size() + fields_size(form.extra.as_slice()) as u16
 }
 
 /// Whether a format is one of 0 to 3, which have counts of 32 bits too.
@@ -103,13 +126,14 @@ fn bounds(grid: &Grid, totals: &Totals) -> [u64; 6]
 
 /// Where the EVLRs begin, behind so many points from a place on.
 fn evlrs_at(form: &LasForm, start: u32, count: u64) -> u64
-    requires { start ≡ points_at form.now }
+    requires start { start ≡ points_at form.now }
+    requires form { IsForm form.now }
     ensures { result ≡ evlrs_at form.now count }
 {
     if file_evlrs(form).is_empty() {
         return 0;
     }
-    let size = form.format.size() as u64;
+    let size = record_size(form) as u64;
     count.saturating_mul(size).saturating_add(start as u64)
 }
 
@@ -137,9 +161,9 @@ pub(crate) fn header_with(form: &LasForm, start: u32, totals: &Totals) -> Header
         year: form.year,
         header_size: block_size(form.minor) as u16,
         points_at: start,
-        vlrs: form.vlrs.as_slice().len() as u32,
+        vlrs: vlr_count(form),
         format,
-        record_length: format.size(),
+        record_length: record_size(form),
         legacy_count: legacy(format, count, count),
         legacy_returns: legacy_returns(format, count, all),
         scale: form.scale,

@@ -8,15 +8,16 @@ ghost use Rattle.file_devices.specs.Content.{Appends, AppendsPart, Patches};
 ghost use Rattle.file_devices.specs.Told.{IsAsTold};
 ghost use Rattle.las_header.specs.Versions.{block_size};
 ghost use Rattle.las_header.specs.Written.{header_block};
+ghost use Rattle.las_vlr.specs.Limits.{AreHeldVlrs};
 ghost use Rattle.las_writer.specs.Records.{fits, written, records, refusal, unplaced};
 ghost use Rattle.las_writer.specs.Totals.{totals_of};
-ghost use Rattle.las_writer.specs.LasOutput.{IsForm, points_at, vlrs_bytes, header_with, las_unfinished, las_output};
+ghost use Rattle.las_writer.specs.LasOutput.{IsForm, points_at, vlrs_bytes, header_with, extra_vlrs, las_unfinished, las_output};
 ghost use Rattle.las_writer.specs.Holding.{holds_las, IsRefused, put_fault, IsPutFault};
 
 use crate::blocks::{file_evlrs, header_with};
 use crate::faults::Unpatched;
 use crate::known::known_fields;
-use crate::lists::{points_at, put_evlrs, put_vlrs};
+use crate::lists::{extra_vlrs, points_at, put_evlrs, put_vlrs};
 use crate::records::{CHUNK_ROOM, put_chunk};
 use crate::{ChunkErr, FinishErr, LasBeginErr, PutFault, RecordFault, Totals};
 use byte_numbers::{known_u32, known_u64};
@@ -24,6 +25,7 @@ use cloud_points::{MOST_POINTS, Point};
 use file_devices::{Failed, FileSink, Sink};
 use forward_rules::LasForm;
 use las_header::{LONGEST_BLOCK, write_header};
+use las_vlr::Vlr;
 use std::alloc::Global;
 use std::marker::Model;
 
@@ -42,7 +44,7 @@ pub struct WriterParts<K> {
     buffer: Vec<u8>,
     ghost decided: { IsForm form },
     ghost behind: { start ≡ points_at form },
-    ghost room: { 2432 ≤ vec_len buffer },
+    ghost room: { 6528 ≤ vec_len buffer },
 }
 
 impl<K: FileSink> Model for LasWriter<K> {
@@ -134,14 +136,17 @@ fn patch_header<K: FileSink>(
     }
 }
 
-/// Appends what stands in front of the points.
+/// Appends what stands in front of the points; `extra` is the VLR that describes the extra dimensions, where there are some.
 fn put_front<K: Sink>(
     form: &LasForm,
+    extra: &[Vlr],
     start: u32,
     totals: &Totals,
     sink: &mut K,
 ) -> Result<(), Failed>
     requires form { IsForm form.now }
+    requires extra { extra.now ≡ extra_vlrs form.now.extra }
+    requires held { AreHeldVlrs extra.now }
     requires start { start ≡ points_at form.now }
     ensures ok { OnOk result (Appends (K.bytes sink.old)
         (header_block (header_with form.now totals.now) ++ vlrs_bytes form.now) (K.bytes sink.new)) }
@@ -151,16 +156,18 @@ fn put_front<K: Sink>(
     ensures cause { HasCause (K.faults sink.old) (K.faults sink.new) result }
 {
     put_header(form, start, totals, sink)?;
-    put_vlrs(form.vlrs.as_slice(), sink)
+    put_vlrs(form.vlrs.as_slice(), sink)?;
+    put_vlrs(extra, sink)
 }
 
 impl<K: FileSink> LasWriter<K> {
     /// A writer onto a sink to which nothing was appended; it appends a header without points, and the VLRs.
     ///
     /// The form is of version 1.2, 1.3 or 1.4, its format is one of the version, its offsets are below 10^18 nanounits
-    /// in size, and its lists are within the limits of those that are read. A refusal gives the sink back. It is
-    /// `Memory` where there is none for the records of a chunk, and the sink is then as it was; it is `Failed` only
-    /// where the sink failed, and a beginning was appended then.
+    /// in size, and its lists are within the limits of those that are read. Its extra dimensions stand one right behind another
+    /// behind the fields of the format, at most eight of them, with new names of at most 32 bytes and offset 0; a VLR that describes
+    /// them stands behind all others. A refusal gives the sink back. It is `Memory` where there is none for the records of a chunk
+    /// or that VLR, and the sink is then as it was; it is `Failed` only where the sink failed, and a beginning was appended then.
     pub fn begin(alloc: Global, sink: K, form: LasForm) -> Result<LasWriter<K>, (K, LasBeginErr)>
         requires { IsForm form }
         ensures ok { IfOk result (λ w. Appends (K.bytes sink) (las_unfinished form []) (K.bytes w.sink)) }
@@ -177,10 +184,13 @@ impl<K: FileSink> LasWriter<K> {
         let Ok(buffer) = vec![in alloc; 0u8; CHUNK_ROOM] else {
             return Err((sink, LasBeginErr::Memory));
         };
-        let start = points_at(form.minor, form.vlrs.as_slice());
+        let Ok(extra) = extra_vlrs(alloc, &form) else {
+            return Err((sink, LasBeginErr::Memory));
+        };
+        let start = points_at(form.minor, form.vlrs.as_slice(), extra.as_slice());
         let totals = Totals::none();
         let mut sink = sink;
-        match put_front(&form, start, &totals, &mut sink) {
+        match put_front(&form, extra.as_slice(), start, &totals, &mut sink) {
             Ok(()) => Ok(LasWriter {
                 parts: WriterParts {
                     sink,

@@ -5,7 +5,7 @@ use Rattle.cloud_points.specs.declared.point.Point.{Point}
 use Rattle.cloud_points.specs.declared.faults.PointFault.{PointFault}
 use Rattle.cloud_points.specs.Queue.{up_to_limit}
 use Rattle.expr_lang.specs.Formula.{Formula}
-use Rattle.las_writer.specs.Records.{unplaced_in}
+use Rattle.las_writer.specs.Records.{fits, unplaced, written}
 use Rattle.las_writer.specs.declared.judging.PointPlaces.{PointPlaces}
 use Rattle.stage_meanings.specs.Conditions.{passes}
 use Rattle.stage_meanings.specs.Filters.{first_from, is_true, point_fault, positions, refused_by}
@@ -15,7 +15,7 @@ use Rattle.stage_kinds.specs.Files.{chosen, reason_of_record}
 -- why a point has no place behind so many that are written; where there are no places to look at each has one
 abbrev pub by_places : Option PointPlaces → ℕ → Point → Option Reason
 by_places None k p = None
-by_places (Some q) k p = option_map reason_of_record (unplaced_in q.minor q.format q.grid k p)
+by_places (Some q) k p = option_map reason_of_record (unplaced (fits q.form.now k) (written q.form.now p))
 
 -- the first of the points of a view that is refused, by its number behind m others; of the view k are written before
 abbrev pub refused_behind : Option PointPlaces → Option (Formula Dim) → ℕ → ℕ → List Point → Option (ℕ × Reason)

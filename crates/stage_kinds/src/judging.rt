@@ -19,7 +19,7 @@ use stream_filters::passes;
 use whole_filters::{Rows, Views};
 
 /// The places in a file of this form; None where each point has one.
-fn places_of(form: &FileForm) -> Option<PointPlaces>
+fn places_of(form: &FileForm) -> Option<PointPlaces<'_>>
     requires { IsFileForm form.now }
     ensures { (k : ℕ) (p : point_type.Point) → by_places result k p ≡ unwritten form.now k p }
 {
@@ -30,7 +30,7 @@ fn places_of(form: &FileForm) -> Option<PointPlaces>
 }
 
 /// Why a point has no place behind so many that are written; None exactly where it has one.
-fn refusal(places: &Option<PointPlaces>, written: u64, point: &Point) -> Option<Reason>
+fn refusal(places: &Option<PointPlaces<'_>>, written: u64, point: &Point) -> Option<Reason>
     ensures { result ≡ by_places places.now written point.now }
 {
     let fault = places.as_ref()?.refusal(written, point)?;
@@ -40,7 +40,7 @@ fn refusal(places: &Option<PointPlaces>, written: u64, point: &Point) -> Option<
 /// Whether a point is to be written behind so many others. It is refused exactly where its `where` has no value, or holds and the point
 /// has no place.
 fn judge(
-    places: &Option<PointPlaces>,
+    places: &Option<PointPlaces<'_>>,
     only: &Option<Bound>,
     written: u64,
     p: &Point,
@@ -69,7 +69,7 @@ fn one_more_if(more: bool, count: u64) -> u64
 /// Judges the points of a view, behind so many others. It answers how many stand before the next one, and how many of the view are to
 /// be written; the numbers stand at the greatest u64. It is refused exactly where one of them is, at the first one.
 fn judge_view(
-    places: &Option<PointPlaces>,
+    places: &Option<PointPlaces<'_>>,
     only: &Option<Bound>,
     view: &Rows,
     before: u64,
@@ -94,7 +94,7 @@ fn judge_view(
 /// Judges the points of all complete views, and answers how many are to be written, up to the greatest u64. It is refused exactly where
 /// a point's `where` has no value, or holds and the point has no place behind those of its view: with the fault of the first such one.
 fn judge_views(
-    places: &Option<PointPlaces>,
+    places: &Option<PointPlaces<'_>>,
     only: &Option<Bound>,
     views: &Views,
 ) -> Result<u64, PointFault>

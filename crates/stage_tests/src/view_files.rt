@@ -5,7 +5,7 @@ ghost use Rattle.las_writer.specs.LasOutput.{IsForm};
 ghost use Rattle.stage_kinds.specs.Files.{IsFileForm};
 
 use crate::stages::{Made, Stage, drop_stage, make, text_form};
-use cloud_points::{Dim, Layout, Make, Point, PointFault, Spread};
+use cloud_points::{Dim, FieldList, Layout, Make, Point, PointFault, Spread};
 use decimal_coords::Scale;
 use file_devices::SureOut;
 use forward_rules::LasForm;
@@ -74,6 +74,7 @@ fn las_form(alloc: Global) -> Option<LasForm>
         year: 0,
         vlrs: VlrList::new(Vec::new(alloc)),
         evlrs: VlrList::new(Vec::new(alloc)),
+        extra: FieldList::none(alloc),
     })
 }
 

@@ -1,6 +1,6 @@
 //! Files that are written onto sinks in memory.
 
-use crate::samples::{BOUNDS, new_point, old_points, plain};
+use crate::samples::{BOUNDS, at_height, new_point, old_points, plain, with_heights};
 use cloud_points::{Dim, MOST_POINTS, Point};
 use decimal_coords::Scale;
 use file_devices::{MemOut, SureOut};
@@ -65,6 +65,45 @@ const NEW: [(usize, &[u8]); 4] = [
         ],
     ),
 ];
+
+/// Pieces of a file of two points in format 0 with heights of 2.50 and -0.01 in steps of 0.1: where the points begin, the VLR and the
+/// length of a record, the user and the number of the VLR, its descriptor and the word of 0.1 in it, and the heights.
+const HIGH: [(usize, &[u8]); 7] = [
+    (96, &[0x6D, 2, 0, 0, 1, 0, 0, 0, 0, 0x16, 0]),
+    (375, b"\0\0LASF_Spec\0"),
+    (393, &[4, 0, 0xC0, 0]),
+    (429, b"\0\0\x04\x08Height\0"),
+    (541, &[0x9A, 0x99, 0x99, 0x99, 0x99, 0x99, 0xB9, 0x3F]),
+    (641, &[0x19, 0]),
+    (663, &[0, 0]),
+];
+
+/// The bytes of a file with heights of these points.
+fn with_these_heights(alloc: Global, points: [Point; 2]) -> Option<Vec<u8>> {
+    let sink = SureOut::new(alloc, 1000).ok()?;
+    let form = with_heights(alloc, Scale::new(10_000_000)?)?;
+    let Ok(mut writer) = LasWriter::begin(alloc, sink, form) else {
+        return None;
+    };
+    let put = writer.put_all(&points).is_ok();
+    let refused = writer.put(&at_height(points[0], 10_000_000_000_000));
+    let finished = writer.finish().is_ok();
+    let sink = writer.release();
+    if !put || !finished || refused != Err(PutFault::ValueOutOfRange(Dim::Extra(0))) {
+        return None;
+    }
+    Vec::from_slice(alloc, sink.bytes()?).ok()
+}
+
+#[test]
+fn extra_dimensions_stand_behind_the_format(rt: HostRuntime) {
+    let [first, second] = old_points();
+    let points = [
+        at_height(first, 2_500_000_000),
+        at_height(second, -10_000_000),
+    ];
+    assert!(rt; has(with_these_heights(rt.alloc(), points), 665, &HIGH));
+}
 
 /// The bytes of the file of these points, written in one chunk.
 fn written(alloc: Global, minor: u8, format: Format, points: &[Point]) -> Option<Vec<u8>> {

@@ -1,12 +1,13 @@
 //! Forms and points to write.
 
-ghost use Rattle.std.specs.Prelude.{◌≡◌, true, IfOk};
+ghost use Rattle.std.specs.Prelude.{◌≡◌, ◌≤◌, length, true, IfOk, IfSome};
+ghost use Rattle.extra_bytes.specs.Fields.{AreLaid};
 ghost use Rattle.forward_rules.specs.Forwarded.{given_or};
 ghost use Rattle.forward_rules.specs.Options.{AreGoodOptions};
 ghost use Rattle.las_header.specs.Versions.{is_version, takes_format};
 ghost use Rattle.las_writer.specs.LasOutput.{IsForm};
 
-use cloud_points::Point;
+use cloud_points::{ExtraField, ExtraKind, FieldList, Point};
 use decimal_coords::Scale;
 use file_devices::Name;
 use forward_rules::{LasForm, LasOpts, NameList};
@@ -34,7 +35,8 @@ fn text(start: &[u8]) -> [u8; 32] {
 pub(crate) fn plain(alloc: Global, minor: u8, format: Format, scale: Scale) -> LasForm
     requires version { is_version minor ≡ true }
     requires format { takes_format minor format ≡ true }
-    ensures { IsForm result }
+    ensures form { IsForm result }
+    ensures same { result.format ≡ format }
 {
     LasForm {
         format,
@@ -50,7 +52,41 @@ pub(crate) fn plain(alloc: Global, minor: u8, format: Format, scale: Scale) -> L
         year: 0,
         vlrs: VlrList::new(Vec::new(alloc)),
         evlrs: VlrList::new(Vec::new(alloc)),
+        extra: FieldList::none(alloc),
     }
+}
+
+/// Heights in 16 bits and steps of 0.1, right behind the fields of format 0.
+fn heights(alloc: Global) -> Option<FieldList>
+    ensures { IfSome result (λ fields. AreLaid 20 fields × (length fields ≤ 8)) }
+{
+    let field = ExtraField {
+        name: Name::new(String::from_str(alloc, "Height").ok()?),
+        place: 0,
+        kind: ExtraKind::I16,
+        at: 20,
+        scale: Scale::new(100_000_000)?,
+        offset: 0,
+    };
+    let mut fields = Vec::new(alloc);
+    fields.push(field).ok()?;
+    Some(FieldList::new(fields))
+}
+
+/// The form of such a file in format 0, with heights.
+pub(crate) fn with_heights(alloc: Global, scale: Scale) -> Option<LasForm>
+    ensures { IfSome result IsForm }
+{
+    let mut form = plain(alloc, 4, Format::F0, scale);
+    form.extra = heights(alloc)?;
+    Some(form)
+}
+
+/// A point at this height, in nanounits.
+pub(crate) fn at_height(point: Point, nano: i64) -> Point {
+    let mut high = point;
+    high.extra[0] = nano;
+    high
 }
 
 /// Options that forward these names, and give a minor version and a source id.
