@@ -204,6 +204,28 @@ def tile(raw, north):
     return data + b"".join(record6(point, 10, 2, 0, 0) for point in raw), points
 
 
+# Each with its height above the ground, which rises to the east: one tree.
+TREES = [(200 * i, 200 * j, max(0, 1800 - 250 * ((i - 4) ** 2 + (j - 2) ** 2))) for j in range(5) for i in range(8)]
+HEIGHT = struct.pack("<2xBB32s76xd40x32s", 3, 8, b"HeightAboveGround", 0.01, b"an example")
+
+
+def trees():
+    """Points in format 6, each with its height behind it, 16 bits in steps of 0.01, and a VLR that describes these extra bytes."""
+    scale, offset = [Fraction(1, 100)] * 3, [Fraction(500000), Fraction(4800000), Fraction(0)]
+    raw = [(x, y, 9500 + x // 10 + height) for x, y, height in TREES]
+    points, note = grid(raw, scale, offset), vlr(4, HEIGHT, b"LASF_Spec")
+    data = header(4, 6, 32, points, scale, offset, 375 + len(note), 1) + note
+    data += b"".join(record6(point, 10, 5, 0, 0) + struct.pack("<H", height) for point, (_, _, height) in zip(raw, TREES))
+    return data, [(*point, Fraction(height, 100)) for point, (_, _, height) in zip(points, TREES)]
+
+
+def heights(points):
+    """These points of the trees with their heights in two places."""
+    lines = ['"X","Y","Z","HeightAboveGround"']
+    lines += [",".join([*map(places, point[:3]), places(point[3], 2)]) for point in points]
+    return "".join(line + "\n" for line in lines)
+
+
 def ground_of(name):
     """The pipeline that each.sh makes for a file."""
     stages = [
@@ -264,6 +286,8 @@ def main():
     ring = [point for point in ground if not lies_in(point, gap)]
     south_data, south_points = tile(SOUTH, 4800000)
     north_data, north_points = tile(NORTH, 4801000)
+    trees_data, tree_points = trees()
+    tall = [point for point in tree_points if point[3] > 8]
     tiles_data, _ = tile(SOUTH + [(x, y + 1000000, z) for x, y, z in NORTH], 4800000)
     reader, head, writer, las_writer = "readers.las", "filters.head", "writers.text", "writers.las"
 
@@ -384,6 +408,12 @@ def main():
             "",
             {"grid.las": joined6(hill_points, coast_points)},
         ),
+        "heights": (
+            0,
+            report((reader, len(TREES)), ("filters.expression", len(tall)), (writer, len(tall), len(tall))),
+            "",
+            {"tall.txt": heights(tall)},
+        ),
         "whole": (0, report((reader, every)), "", {}),
         "named": (0, report((reader, 5), (writer, 5, 5)), "", {"coast.asc": text(coast_points)}),
         "old": (0, report((reader, 2), (las_writer, 2, 2)), "", {"new.las": small(4)}),
@@ -452,7 +482,7 @@ def main():
     }
 
     files = {"hill.las": hill_data, "coast.las": coast_data, "old.las": small(2), "older.las": small(1)}
-    files |= {"south.las": south_data, "north.las": north_data}
+    files |= {"south.las": south_data, "north.las": north_data, "trees.las": trees_data}
     for name, (code, printed, said, kept) in runs.items():
         for file, content in [("code", f"{code}\n"), ("printed", printed), ("said", said), *kept.items()]:
             files[f"expected/{name}/{file}"] = content if isinstance(content, bytes) else content.encode()

@@ -1,8 +1,15 @@
 -- The forms of files that are written, by the options of their writers.
-use Rattle.std.specs.Prelude.{ℕ, List, map}
+use Rattle.std.specs.Prelude.{ℕ, Bool, List, map}
 use Rattle.std.specs.Option.{unwrap_or}
+use Rattle.cloud_points.specs.declared.dims.Dim.{Dim}
 use Rattle.expr_eval.specs.Bindings.{dim_of}
+use Rattle.extra_bytes.specs.Asked.{asked_fields}
+use Rattle.forward_rules.specs.Forwarded.{ReadFile, form_of}
+use Rattle.forward_rules.specs.declared.form.LasForm.{LasForm}
+use Rattle.las_header.specs.Formats.{format_size}
+use Rattle.name_binding.specs.Binding.{asked_in}
 use Rattle.option_texts.specs.declared.columns.NamedColumn.{NamedColumn}
+use Rattle.stage_options.specs.declared.options.LasWriterOptions.{LasWriterOptions}
 use Rattle.stage_options.specs.declared.options.TextOptions.{TextOptions}
 use Rattle.text_writer.specs.declared.form.Column.{Column}
 use Rattle.text_writer.specs.declared.form.TextForm.{TextForm}
@@ -19,3 +26,7 @@ text_form names o = record {
   quote_header = o.quote_header;
   write_header = o.write_header;
 }
+
+-- what a LAS writer with these options writes behind files that are read, where the points that it takes have these dimensions
+abbrev pub las_form : (Dim → Bool) → List (List ℕ) → List ReadFile → LasWriterOptions → LasForm
+las_form has names reads o = record (form_of o.fields reads) { extra = asked_fields names (format_size (form_of o.fields reads).format) (asked_in has names o.extra) }

@@ -3,6 +3,7 @@ use Rattle.std.specs.Prelude.{ℕ, Bool, true, false, List, [], map, Option, Non
 use Rattle.cloud_points.specs.declared.point.Point.{Point}
 use Rattle.cloud_points.specs.declared.faults.PointFault.{PointFault}
 use Rattle.cloud_points.specs.declared.dims.Dim.{Dim}
+use Rattle.cloud_points.specs.declared.extra.ExtraField.{ExtraField}
 use Rattle.cloud_points.specs.Flows.{Flow}
 use Rattle.cloud_points.specs.Queue.{up_to_limit}
 use Rattle.expr_lang.specs.Formula.{Formula}
@@ -12,7 +13,7 @@ use Rattle.name_binding.specs.Ferries.{with_targets, ferries_bound}
 use Rattle.stage_options.specs.declared.options.Options.{Options}
 use Rattle.stage_options.specs.declared.options.Options.TheVariants.{ReadersLas, FiltersRange, FiltersCrop, FiltersAssign, FiltersFerry, FiltersExpression, FiltersDecimation, FiltersHead, FiltersReturns, FiltersMerge, FiltersSort, FiltersTail, FiltersGroupby, FiltersSplitter, FiltersVoxeldownsize, WritersLas, WritersText}
 use Rattle.stage_options.specs.Values.{is_numbered}
-use Rattle.forward_rules.specs.Forwarded.{ReadFile, form_of}
+use Rattle.forward_rules.specs.Forwarded.{ReadFile}
 use Rattle.forward_rules.specs.declared.form.LasForm.{LasForm}
 use Rattle.las_writer.specs.LasOutput.{las_output}
 use Rattle.las_writer.specs.Records.{fits, written}
@@ -26,7 +27,7 @@ use Rattle.text_writer.specs.TextOutput.{text_output}
 use Rattle.tile_filters.specs.Gathered.{gathered}
 use Rattle.whole_filters.specs.declared.gathering.Gathering.{Gathering}
 use Rattle.whole_filters.specs.declared.gathering.Gathering.TheVariants.{Sort, Tail, GroupBy, Squares, Voxels}
-use Rattle.answer_model.specs.Forms.{text_form}
+use Rattle.answer_model.specs.Forms.{las_form, text_form}
 
 -- what a stage makes of the flow that it takes: it judges its points one after the other; or it needs whole views; or it needs them, and
 -- gives them on where no point passes against which there is a reason, which may look at how many of its view passed before it
@@ -42,10 +43,13 @@ pub record Row : Type 0 where
   pub writes : Point → Bool
   pub bytes : List Point → List ℕ
 
--- where a stage stands: the extra names of the stages before it, and the files that are read below it
+-- where a stage stands: the extra names of the stages before it, the files that are read below it, the dimensions of the points that it
+-- takes, and the fields that it takes of its own file
 pub record Setting : Type 0 where
   pub names : List (List ℕ)
   pub reads : List ReadFile
+  pub dims : Dim → Bool
+  pub fields : List ExtraField
 
 -- a filter, which has no file
 abbrev pub filters : Filtering → Row
@@ -94,7 +98,7 @@ row_of (FiltersTail o) s = gathers (Tail o.count)
 row_of (FiltersGroupby o) s = gathers (GroupBy (dim_of s.names o.dimension))
 row_of (FiltersSplitter o) s = gathers (Squares (squares_of o))
 row_of (FiltersVoxeldownsize o) s = gathers (Voxels (edge_of o.cell))
-row_of (WritersLas o) s = writes (is_numbered o.filename) s.names (unplaced_in (form_of o.fields s.reads)) (las_output (form_of o.fields s.reads)) o.only
+row_of (WritersLas o) s = writes (is_numbered o.filename) s.names (unplaced_in (las_form s.dims s.names s.reads o)) (las_output (las_form s.dims s.names s.reads o)) o.only
 row_of (WritersText o) s = writes (is_numbered o.filename) s.names (λ k p. None) (text_output (text_form s.names o)) o.only
 
 -- a filter that needs whole views has no fault

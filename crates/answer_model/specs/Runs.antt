@@ -42,7 +42,7 @@ file_at (Some bytes) place = Ok bytes
 abbrev pub las_file_of : List ℕ → Result LasFile LasFault
 las_file_of bytes = do
   frame ← frame_of bytes
-  Ok (record { read = read_file frame.header frame.vlrs frame.evlrs; las = las_with frame.header bytes })
+  Ok (record { read = read_file frame.header frame.vlrs frame.evlrs; las = λ fields. las_with frame.header fields bytes })
 
 -- the same of the file of stage i
 abbrev pub las_read : ℕ → Result LasFile LasFault → Result LasFile Refusal
@@ -51,12 +51,12 @@ las_read i (Err (In_header f)) = Err (Data i (fault.Header f))
 las_read i (Err (In_list f)) = Err (Data i (fault.Vlr f))
 
 -- the same of a file that may be there
-abbrev pub las_at : ℕ → Option (List ℕ) → Result LasFile Refusal
-las_at i file = and_then (file_at file (Stage i)) (λ bytes. las_read i (las_file_of bytes))
+abbrev pub opened_at : ℕ → Option (List ℕ) → Result LasFile Refusal
+opened_at i file = and_then (file_at file (Stage i)) (λ bytes. las_read i (las_file_of bytes))
 
 -- why the file of stage i, which does this, can't be read; only a reader has one
 abbrev pub unread : Names → ℕ → Role → Option Refusal
-unread m i (Reads name) = why (las_at i (m name))
+unread m i (Reads name) = why (opened_at i (m name))
 unread m i _ = None
 
 abbrev pub unread_at : Names → List StageSpec → ℕ → Option Refusal
@@ -64,7 +64,7 @@ unread_at m stages i = unread m i (role_at stages i)
 
 -- a file without points, of which nothing is said
 abbrev pub no_file : LasFile
-no_file = record { read = record { values = default_values; vlrs = []; evlrs = [] }; las = record { points = []; fault = None } }
+no_file = record { read = record { values = default_values; record_length = 0; vlrs = []; evlrs = [] }; las = λ fields. record { points = []; fault = None } }
 
 -- what was read, or nothing
 abbrev pub file_or : Result LasFile Refusal → LasFile
@@ -72,7 +72,7 @@ file_or (Ok file) = file
 file_or (Err r) = no_file
 
 abbrev pub holds : Names → ℕ → Role → LasFile
-holds m i (Reads name) = file_or (las_at i (m name))
+holds m i (Reads name) = file_or (opened_at i (m name))
 holds m i _ = no_file
 
 -- what the readers' files hold

@@ -1,18 +1,25 @@
 -- What each stage of a tree gives on, and its fault, on whole flows.
-use Rattle.std.specs.Prelude.{◌≡◌, ℕ, ◌+◌, ◌<◌, Bool, true, false, ◌||◌, cond, List, [], ◌∷◌, ◌++◌, map, filter, flat_map, take, length, slice_index_or, Option, Some, None, Result, Ok, Err}
+use Rattle.std.specs.Prelude.{◌≡◌, ℕ, ◌+◌, ◌<◌, Bool, true, false, ◌||◌, cond, if◌then◌else◌, List, [], ◌∷◌, ◌++◌, map, filter, flat_map, length, slice_index_or, Option, Some, None, Result, Ok, Err}
 use Rattle.std.proofs.Common.{zero, suc}
 use Rattle.std.specs.List.{range_with_len, list_any}
 use Rattle.cloud_points.specs.declared.dims.Dim.{Dim}
+use Rattle.cloud_points.specs.declared.dims.Dim.TheVariants.{Extra}
+use Rattle.cloud_points.specs.declared.extra.ExtraField.{ExtraField}
 use Rattle.cloud_points.specs.declared.point.Point.{Point}
 use Rattle.cloud_points.specs.declared.faults.PointFault.{PointFault}
 use Rattle.cloud_points.specs.Flows.{Flow, all_of, points, empty_flow, join_all}
+use Rattle.cloud_points.specs.Layouts.{is_same}
 use Rattle.cloud_points.specs.Queue.{up_to_limit}
+use Rattle.extra_bytes.specs.Bound.{bound_fields, fields_fault, names_with}
+use Rattle.extra_bytes.specs.Record.{fields_among}
+use Rattle.las_header.specs.Formats.{format_size}
 use Rattle.point_formats.specs.Layouts.{dims_of, is_among}
 use Rattle.las_reader.specs.Files.{Las}
 use Rattle.las_reader.specs.Flows.{las_flow, las_fault}
 use Rattle.forward_rules.specs.Forwarded.{ReadFile}
 use Rattle.stage_names.specs.declared.faults.PipeFault.{PipeFault}
 use Rattle.stage_names.specs.declared.kinds.KindName.TheVariants as kind
+use Rattle.stage_names.specs.Faults.{or_else}
 use Rattle.pipeline_json.specs.Lists.{has}
 use Rattle.name_binding.specs.Binding.{binding_fault}
 use Rattle.name_binding.specs.Ferries.{names_behind, adds}
@@ -24,10 +31,10 @@ use Rattle.stage_options.specs.declared.stage.StageSpec.{StageSpec}
 use Rattle.run_report.specs.declared.report.StageCount.{StageCount}
 use Rattle.answer_model.specs.Rows.{Row, Setting, row_of, value_on, fault_on}
 
--- a file that is read: what a writer may take over, and its points
+-- a file that is read: what a writer may take over, and its points with the values of given fields in extra dimensions
 pub record LasFile : Type 0 where
   pub read : ReadFile
-  pub las : Las
+  pub las : List ExtraField → Las
 
 -- the readers' files, by the reader's number
 abbrev pub Opened : Type 0
@@ -35,7 +42,7 @@ Opened = ℕ → LasFile
 
 -- stage k; at a number that no stage has stands a reader
 abbrev pub stage_at : List StageSpec → ℕ → StageSpec
-stage_at stages k = slice_index_or stages k (record { kind = kind.ReadersLas; ins = []; options = ReadersLas (record { filename = [] }) })
+stage_at stages k = slice_index_or stages k (record { kind = kind.ReadersLas; ins = []; options = ReadersLas (record { filename = []; extra = false }) })
 
 -- its options, and what it does with files
 abbrev pub options_at : List StageSpec → ℕ → Options
@@ -61,21 +68,45 @@ reads_with stages opened k lists = cond (is_reading (role_at stages k)) ((opened
 abbrev pub reads_at : List StageSpec → Opened → ℕ → List ReadFile
 reads_at stages opened k = fold_at [] (reads_with stages opened) stages k
 
--- the extra names behind stages, and those of the stages before stage k
-abbrev pub names_after : List (List ℕ) → List StageSpec → List (List ℕ)
-names_after names [] = names
-names_after names (s ∷ later) = names_after (names_behind names s.options) later
+-- the fields that a stage with these options takes of the file that it reads: those that its VLRs describe, where they are asked for
+abbrev pub fields_found : Options → ReadFile → List ExtraField
+fields_found (ReadersLas o) read = if o.extra then fields_among read.vlrs (format_size read.values.format) read.record_length else []
+fields_found _ read = []
 
-abbrev pub names_at : List StageSpec → ℕ → List (List ℕ)
-names_at stages k = names_after [] (take k stages)
+abbrev pub found_at : List StageSpec → Opened → ℕ → List ExtraField
+found_at stages opened k = fields_found (options_at stages k) (opened k).read
+
+-- the extra names behind a stage that takes these fields: its ferries' targets are added to those before it, and then the names of the fields
+abbrev pub names_past : List (List ℕ) → Options → List ExtraField → List (List ℕ)
+names_past names o found = names_with (names_behind names o) found
+
+-- the extra names of the stages before stage k
+abbrev pub names_at : List StageSpec → Opened → ℕ → List (List ℕ)
+names_at stages opened zero = []
+names_at stages opened (suc k) = names_past (names_at stages opened k) (options_at stages k) (found_at stages opened k)
+
+-- the fields that a stage takes, with the places of their names
+abbrev pub fields_past : List (List ℕ) → Options → List ExtraField → List ExtraField
+fields_past names o found = bound_fields (names_behind names o) found
+
+abbrev pub fields_at : List StageSpec → Opened → ℕ → List ExtraField
+fields_at stages opened k = fields_past (names_at stages opened k) (options_at stages k) (found_at stages opened k)
+
+-- a dimension is that of one of these fields
+abbrev pub is_of_fields : List ExtraField → Dim → Bool
+is_of_fields fields dim = list_any (λ (f : ExtraField). is_same (Extra f.place) dim) fields
+
+-- a stage gives its points a dimension: a ferry its targets, and a reader the fields that it takes
+abbrev pub gives_dim : List (List ℕ) → Options → List ExtraField → Dim → Bool
+gives_dim names o found dim = adds names o dim || is_of_fields (fields_past names o found) dim
 
 -- the dimensions of the points that stage k takes: a reader's those of its file's format, another stage's those of any input
 abbrev pub dims_joined : List StageSpec → Opened → ℕ → List (Dim → Bool) → Dim → Bool
 dims_joined stages opened k sets dim = cond (is_reading (role_at stages k)) (is_among dim (dims_of (opened k).read.values.format)) (list_any (λ set. set dim) sets)
 
--- those of the points that it gives on: a ferry adds its targets
+-- those of the points that it gives on
 abbrev pub dims_with : List StageSpec → Opened → ℕ → List (Dim → Bool) → Dim → Bool
-dims_with stages opened k sets dim = dims_joined stages opened k sets dim || adds (names_at stages k) (options_at stages k) dim
+dims_with stages opened k sets dim = dims_joined stages opened k sets dim || gives_dim (names_at stages opened k) (options_at stages k) (found_at stages opened k) dim
 
 abbrev pub dims_at : List StageSpec → Opened → ℕ → Dim → Bool
 dims_at stages opened k = fold_at (λ dim. false) (dims_with stages opened) stages k
@@ -83,13 +114,17 @@ dims_at stages opened k = fold_at (λ dim. false) (dims_with stages opened) stag
 abbrev pub dims_taken : List StageSpec → Opened → ℕ → Dim → Bool
 dims_taken stages opened k dim = dims_joined stages opened k (map (dims_at stages opened) ((stage_at stages k).ins)) dim
 
--- the fault of stage k's options, behind the extra names of the stages before it and beside the points that it takes
+-- the fault of the options of stage k, behind these extra names and beside points with these dimensions, or else of the fields that it
+-- takes
+abbrev pub unbound : ℕ → List (List ℕ) → (Dim → Bool) → Options → List ExtraField → Option PipeFault
+unbound k names has o found = or_else (binding_fault k names has o) (fields_fault k (names_behind names o) found)
+
 abbrev pub unbound_at : List StageSpec → Opened → ℕ → Option PipeFault
-unbound_at stages opened k = binding_fault k (names_at stages k) (dims_taken stages opened k) (options_at stages k)
+unbound_at stages opened k = unbound k (names_at stages opened k) (dims_taken stages opened k) (options_at stages k) (found_at stages opened k)
 
 -- where stage k stands
 abbrev pub setting_at : List StageSpec → Opened → ℕ → Setting
-setting_at stages opened k = record { names = names_at stages k; reads = reads_at stages opened k }
+setting_at stages opened k = record { names = names_at stages opened k; reads = reads_at stages opened k; dims = dims_taken stages opened k; fields = fields_at stages opened k }
 
 -- ---- values
 
@@ -100,8 +135,12 @@ row_at stages opened k = row_of (options_at stages k) (setting_at stages opened 
 abbrev pub value_of : Role → Row → Las → Flow Point → Flow Point
 value_of role row las flow = cond (is_reading role) (las_flow las) (value_on row flow)
 
+-- what its file holds, with the fields that it takes
+abbrev pub las_at : List StageSpec → Opened → ℕ → Las
+las_at stages opened k = (opened k).las (fields_at stages opened k)
+
 abbrev pub value_with : List StageSpec → Opened → ℕ → List (Flow Point) → Flow Point
-value_with stages opened k flows = value_of (role_at stages k) (row_at stages opened k) (opened k).las (join_all flows)
+value_with stages opened k flows = value_of (role_at stages k) (row_at stages opened k) (las_at stages opened k) (join_all flows)
 
 -- what stage k gives on
 abbrev pub stage_value : List StageSpec → Opened → ℕ → Flow Point
@@ -114,7 +153,7 @@ stage_input stages opened k = join_all (map (stage_value stages opened) ((stage_
 -- the fault of a stage: of a reader that of its file, of another one that on the flow that it takes
 abbrev pub stage_fault : List StageSpec → Opened → ℕ → Option PointFault
 stage_fault stages opened k =
-    cond (is_reading (role_at stages k)) (las_fault (opened k).las) (fault_on (row_at stages opened k) (stage_input stages opened k))
+    cond (is_reading (role_at stages k)) (las_fault (las_at stages opened k)) (fault_on (row_at stages opened k) (stage_input stages opened k))
 
 -- the least of so many numbers from k on at which there is one
 abbrev pub or_later : {A : Type 0} → ℕ → Option A → Option (ℕ × A) → Option (ℕ × A)

@@ -10,7 +10,7 @@ ghost use Rattle.pipeline_json.specs.Trees.{IsTree};
 ghost use Rattle.stage_options.specs.Shapes.{shapes};
 ghost use Rattle.stage_options.specs.declared.stage.StageSpec.{StageSpec};
 ghost use Rattle.answer_model.specs.Laws.{IsLeastFault};
-ghost use Rattle.answer_model.specs.Values.{Opened, IsDown, role_at, row_at, reads_at, reads_with, dims_at, dims_with, stage_at, value_of, stage_value, stage_input, stage_fault, least_fault};
+ghost use Rattle.answer_model.specs.Values.{Opened, IsDown, las_at, role_at, row_at, reads_at, reads_with, dims_at, dims_with, stage_at, value_of, stage_value, stage_input, stage_fault, least_fault};
 
 pub use examples::{cut_inputs_run_on, inputs_are_joined, inputs_are_merged};
 
@@ -19,7 +19,7 @@ pub use examples::{cut_inputs_run_on, inputs_are_joined, inputs_are_merged};
 pub fn values_follow_inputs()
     ensures trees { (stages : List StageSpec) → IsTree (shapes stages) → IsDown stages }
     ensures values { (stages : List StageSpec) (opened : Opened) → IsDown stages → (k : ℕ)
-        → stage_value stages opened k ≡ value_of (role_at stages k) (row_at stages opened k) (opened k).las (stage_input stages opened k) }
+        → stage_value stages opened k ≡ value_of (role_at stages k) (row_at stages opened k) (las_at stages opened k) (stage_input stages opened k) }
     ensures reads { (stages : List StageSpec) (opened : Opened) → IsDown stages → (k : ℕ)
         → reads_at stages opened k ≡ reads_with stages opened k (map (reads_at stages opened) ((stage_at stages k).ins)) }
     ensures dims { (stages : List StageSpec) (opened : Opened) → IsDown stages → (k : ℕ)

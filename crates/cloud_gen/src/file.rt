@@ -55,7 +55,7 @@ fn generated_form(alloc: Global) -> Result<LasForm, AllocError>
 {
     let options = generated_options(alloc);
     let forwarding = Forwarding::begin(alloc, &options)?;
-    Ok(forwarding.form())
+    Ok(forwarding.form(alloc))
 }
 
 /// The points from a place to another one, which is at most 64 further.

@@ -1,8 +1,8 @@
 -- Fields that are asked for are such as descriptors describe.
-use Rattle.std.proofs.Common.{◌≡◌, ℕ, zero, suc, ◌+◌, ◌≤◌, ◌<◌, ◌&&◌, ◌||◌, not, Bool, true, false, true≢false, List, [], ◌∷◌, ◌++◌, length, get_or, nat_lt, cond, Option, Some, None, is_some, inl, inr, refl, ap, subst, sym, ◌∙◌, arith}
+use Rattle.std.proofs.Common.{◌≡◌, ℕ, zero, suc, ◌+◌, ◌≤◌, ◌<◌, ◌&&◌, ◌||◌, not, Bool, true, false, true≢false, List, [], ◌∷◌, ◌++◌, length, get_or, nat_lt, cond, if◌then◌else◌, slice_index_or, Result, Ok, Err, IfOk, OnOk, Option, Some, None, is_some, inl, inr, refl, ap, subst, sym, ◌∙◌, arith}
 use Rattle.std.specs.List.{All, find, position_or_len}
 use Rattle.std.specs.Str.{bytes_eq, str_to_ascii_lowercase}
-use Rattle.std.specs.Prelude.{⊤}
+use Rattle.std.specs.Prelude.{⊤, sum_by}
 use Rattle.std.proofs.lemmas.Bool.Decides.{leb_tells}
 use Rattle.std.proofs.lemmas.List.Folds.{list_any-append}
 use Rattle.std.proofs.lemmas.List.Sums.{passes_at_first, sum_by-cons}
@@ -18,8 +18,15 @@ use Rattle.stage_names.specs.declared.faults.PipeFault.{PipeFault}
 use Rattle.stage_names.specs.declared.faults.PipeFault.TheVariants.{DimUnknown}
 use Rattle.stage_names.specs.Faults.{or_else}
 use Rattle.text_bytes.specs.Bytes.{is_name}
-use Rattle.extra_bytes.specs.Asked.{AreShortOwn, AskedAreDescribed, asked_fault, asked_field, asked_fields, asked_size, field_unknown, held_at, is_extra}
+use Rattle.std.specs.Option.{unwrap_or}
+use Rattle.std.proofs.lemmas.List.Elements.{All-cons, All-head, All-nil, All-tail}
+use Rattle.cloud_points.specs.ExtraNames.{DifferentNames, place_in}
+use Rattle.cloud_points.specs.declared.dims.Dim.TheVariants.{Extra}
+use Rattle.cloud_points.specs.declared.extra.ExtraKind.TheVariants.{I64}
+use Rattle.extra_bytes.proofs.Sized.{HasPlace, described_laid}
+use Rattle.extra_bytes.specs.Asked.{AreShortOwn, AskedAreLaid, all_from, asked_fault, asked_field, asked_fields, field_unknown, held_at, is_extra}
 use Rattle.extra_bytes.specs.Descriptors.{has_name}
+use Rattle.extra_bytes.specs.Fields.{AreLaid}
 use Rattle.extra_bytes.specs.Written.{AreDescribed, unplaced}
 
 -- ---- names that are one
@@ -109,6 +116,10 @@ known-first i held names f o e = by (is_extra held names f.name) refl
         some-none : Some (DimUnknown i f.name) ≡ None → ⊥
         some-none e = cc
 
+-- what they take of a record
+abbrev asked_size : List NamedField → ℕ
+asked_size asked = sum_by (λ (f : NamedField). kind_size f.kind) asked
+
 described : (i : ℕ) (held : Dim → Bool) (names : List (List ℕ)) → AreShortOwn names → (before : List ExtraField) (at size : ℕ) (asked : List NamedField) → All (λ (f : NamedField). is_name f.name ≡ true) asked
     → are_different asked ≡ true → asked_fault i held names asked ≡ None → Apart before asked → at + asked_size asked ≤ size → AreDescribed before at size (asked_fields names at asked)
 described i held names own before at size [] named different known apart fits = tt
@@ -125,6 +136,80 @@ described i held names own before at size (f ∷ fs) named different known apart
           (apart-more before (unplaced (asked_field names at f)) fs apart.1 (not-true (has_asked f.name fs) parts.0)) (omega (arith, fits, sum)),
     )
 
-pub asked_are_described : AskedAreDescribed
-asked_are_described i held names from asked own named different known =
-    described i held names own [] from (from + asked_size asked) asked named different known (apart-none asked) (omega arith)
+-- ---- they are laid one right behind another
+
+pub place_small : (names : List (List ℕ)) (name : List ℕ) → length names ≤ 8 → unwrap_or (place_in name names) 0 ≤ 7
+place_small names name few = by (nat_lt (position_or_len (same_name name) names) (length names)) refl
+  where
+    by : (b : Bool) → nat_lt (position_or_len (same_name name) names) (length names) ≡ b → unwrap_or (cond b (Some (position_or_len (same_name name) names)) None) 0 ≤ 7
+    by true e = (let inside = true-lt (position_or_len (same_name name) names) (length names) e in omega (arith, inside, few))
+    by false e = omega arith
+
+places_small : (names : List (List ℕ)) → length names ≤ 8 → (at : ℕ) (asked : List NamedField) → All HasPlace (asked_fields names at asked)
+places_small names few at [] = All-nil HasPlace
+places_small names few at (f ∷ fs) = All-cons HasPlace (asked_field names at f) (asked_fields names (at + kind_size f.kind) fs) (place_small names f.name few) (places_small names few (at + kind_size f.kind) fs)
+
+pub asked_are_laid : AskedAreLaid
+asked_are_laid i held names from asked few own named different known =
+    let size = from + asked_size asked in
+    described_laid from size (asked_fields names from asked) (described i held names own [] from size asked named different known (apart-none asked) (omega arith)) (places_small names few from asked)
+
+-- ---- all extra dimensions of a layout
+
+pub all_named : (held : Dim → Bool) (place : ℕ) (names : List (List ℕ)) → All (λ name. is_name name ≡ true) names → All (λ (f : NamedField). is_name f.name ≡ true) (all_from place held names)
+all_named held place [] named = All-nil (λ (f : NamedField). is_name f.name ≡ true)
+all_named held place (name ∷ names) named = by (held (Extra place)) (All-head (λ name. is_name name ≡ true) name names named) (all_named held (place + 1) names (All-tail (λ name. is_name name ≡ true) name names named))
+  where
+    by : (b : Bool) → is_name name ≡ true → All (λ (f : NamedField). is_name f.name ≡ true) (all_from (place + 1) held names)
+        → All (λ (f : NamedField). is_name f.name ≡ true) (if b then record { name = name; kind = I64; places = 9 } ∷ all_from (place + 1) held names else all_from (place + 1) held names)
+    by true here rest = All-cons (λ (f : NamedField). is_name f.name ≡ true) (record { name = name; kind = I64; places = 9 }) (all_from (place + 1) held names) here rest
+    by false here rest = rest
+
+same-sym : (a b : List ℕ) → same_name a b ≡ same_name b a
+same-sym a b = by (same_name a b) (same_name b a) refl refl
+  where
+    by : (x y : Bool) → same_name a b ≡ x → same_name b a ≡ y → x ≡ y
+    by true true e f = refl
+    by false false e f = refl
+    by true false e f = sym (sym f ∙ (bytes_eq-Decides (str_to_ascii_lowercase b) (str_to_ascii_lowercase a)).1 (sym ((bytes_eq-Decides (str_to_ascii_lowercase a) (str_to_ascii_lowercase b)).0 e)))
+    by false true e f = sym e ∙ (bytes_eq-Decides (str_to_ascii_lowercase a) (str_to_ascii_lowercase b)).1 (sym ((bytes_eq-Decides (str_to_ascii_lowercase b) (str_to_ascii_lowercase a)).0 f))
+
+-- none of these names is this one
+abbrev NoneIs : List ℕ → List (List ℕ) → Type 0
+NoneIs name [] = ⊤
+NoneIs name (other ∷ names) = (same_name name other ≡ false) × NoneIs name names
+
+none-is : (name : List ℕ) (names : List (List ℕ)) → ((j : ℕ) (d : List ℕ) → j < length names → same_name (slice_index_or names j d) name ≡ false) → NoneIs name names
+none-is name [] h = tt
+none-is name (other ∷ names) h = (same-sym name other ∙ h 0 name (omega arith), none-is name names (λ j d l. h (suc j) d (omega (arith, l))))
+
+none-asked : (held : Dim → Bool) (name : List ℕ) (place : ℕ) (names : List (List ℕ)) → NoneIs name names → has_asked name (all_from place held names) ≡ false
+none-asked held name place [] h = refl
+none-asked held name place (other ∷ names) h = by (held (Extra place)) (none-asked held name (place + 1) names h.1)
+  where
+    by : (b : Bool) → has_asked name (all_from (place + 1) held names) ≡ false
+        → has_asked name (if b then record { name = other; kind = I64; places = 9 } ∷ all_from (place + 1) held names else all_from (place + 1) held names) ≡ false
+    by true rest = ap (λ b. b || has_asked name (all_from (place + 1) held names)) h.0 ∙ rest
+    by false rest = rest
+
+pub all_different : (held : Dim → Bool) (place : ℕ) (names : List (List ℕ)) → DifferentNames names → are_different (all_from place held names) ≡ true
+all_different held place [] different = refl
+all_different held place (name ∷ names) different = by (held (Extra place)) (all_different held (place + 1) names (λ i j d l k. different (suc i) (suc j) d (omega (arith, l)) (omega (arith, k))))
+  where
+    first : has_asked name (all_from (place + 1) held names) ≡ false
+    first = none-asked held name (place + 1) names (none-is name names (λ j d l. different 0 (suc j) d (omega arith) (omega (arith, l))))
+
+    by : (b : Bool) → are_different (all_from (place + 1) held names) ≡ true
+        → are_different (if b then record { name = name; kind = I64; places = 9 } ∷ all_from (place + 1) held names else all_from (place + 1) held names) ≡ true
+    by true rest = ap (λ b. not b && are_different (all_from (place + 1) held names)) first ∙ rest
+    by false rest = rest
+
+-- what a call answers that has asked for these
+pub laid_result : {E : Type 0} (i : ℕ) (held : Dim → Bool) (names : List (List ℕ)) (from : ℕ) (asked : List NamedField) (r : Result (List ExtraField) E) → IfOk r (λ fields. fields ≡ asked_fields names from asked)
+    → OnOk r (asked_fault i held names asked ≡ None) → length names ≤ 8 → AreShortOwn names → All (λ (f : NamedField). is_name f.name ≡ true) asked → are_different asked ≡ true → IfOk r (AreLaid from)
+laid_result i held names from asked (Ok fields) e none few own named different = subst (AreLaid from) (sym e) (asked_are_laid i held names from asked few own named different none)
+laid_result i held names from asked (Err x) e none few own named different = tt
+
+pub asked_length : (names : List (List ℕ)) (at : ℕ) (asked : List NamedField) → length (asked_fields names at asked) ≡ length asked
+asked_length names at [] = refl
+asked_length names at (f ∷ fs) = ap suc (asked_length names (at + kind_size f.kind) fs)

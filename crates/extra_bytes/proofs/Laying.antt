@@ -15,7 +15,8 @@ use Rattle.cloud_points.specs.declared.extra.ExtraKind.TheVariants.{U8, I8, U16,
 use Rattle.cloud_points.specs.declared.extra.ExtraField.{ExtraField}
 use Rattle.cloud_points.specs.declared.point.Point.{Point}
 use Rattle.extra_bytes.specs.Values.{is_raw, raw_bytes, raw_of, with_piece, extra_written}
-use Rattle.extra_bytes.specs.Fields.{StandFrom, field_bytes, fields_bytes, fields_size}
+use Rattle.extra_bytes.specs.Fields.{AreLaid, field_bytes, fields_bytes, fields_size}
+use Rattle.extra_bytes.proofs.Sized.{StandFrom, laid_stand}
 
 raw_size : (kind : ExtraKind) (n : ℤ) → length (raw_bytes kind n) ≡ kind_size kind
 raw_size U8 n = refl
@@ -133,9 +134,9 @@ behind_none : (others : Result (List ℕ) Dim) → others ≡ behind [] others
 behind_none (Ok l) = refl
 behind_none (Err d) = refl
 
-pub laid_none : (fields : List ExtraField) (p : Point) (start : ℕ) (bytes : List ℕ) → StandFrom start fields → Laid fields p start 0 start bytes bytes
-laid_none fields p start bytes stand = record {
-  stand = stand;
+pub laid_none : (fields : List ExtraField) (p : Point) (start : ℕ) (bytes : List ℕ) → AreLaid start fields → Laid fields p start 0 start bytes bytes
+laid_none fields p start bytes laid = record {
+  stand = laid_stand start fields laid;
   size = refl;
   from = omega arith;
   bytes = behind_none (fields_bytes fields p) ∙ ap (λ l. behind l (fields_bytes fields p)) (sym (nothing_between start bytes));

@@ -6,8 +6,11 @@ pub mod Computed
 pub mod ReadBack
 pub mod Laying
 pub mod Sized
+pub mod Moving
 pub mod Putting
 pub mod Places
 pub mod Found
 pub mod Asking
 pub mod Described
+pub mod Getting
+pub mod Offered

@@ -1,8 +1,8 @@
 -- The sizes of described fields, and of the record with their descriptors.
-use Rattle.std.proofs.Common.{◌≡◌, ℕ, ◌+◌, ◌*◌, ◌≤◌, Bool, true, false, List, [], ◌∷◌, ◌++◌, length, take, drop, map, replicate, Some, if◌then◌else◌, All, refl, ap, sym, subst, ◌∙◌, arith, append_assoc, length-append, length-drop, w64}
+use Rattle.std.proofs.Common.{◌≡◌, ℕ, zero, suc, ◌+◌, ◌*◌, ◌<◌, ◌≤◌, get_or, Bool, true, false, List, [], ◌∷◌, ◌++◌, length, take, drop, map, replicate, Some, if◌then◌else◌, All, refl, ap, sym, subst, ◌∙◌, arith, add-zero, append_assoc, length-append, length-drop, w64}
 use Rattle.std.specs.List.{flat_map}
 use Rattle.std.specs.Int.{to_le_bytes}
-use Rattle.std.specs.Prelude.{is_some, slice_get, ◌||◌}
+use Rattle.std.specs.Prelude.{is_some, slice_get, ◌||◌, ⊤}
 use Rattle.std.proofs.lemmas.List.{map-append}
 use Rattle.std.proofs.Math.Seq.{take-append_seam}
 use Rattle.std.proofs.lemmas.List.Concat.{flat_map-cons}
@@ -17,7 +17,8 @@ use Rattle.cloud_points.specs.declared.extra.ExtraField.{ExtraField}
 use Rattle.las_vlr.specs.Written.{IsVlr}
 use Rattle.cloud_points.specs.ExtraNames.{dim_named, same_name}
 use Rattle.extra_bytes.specs.Descriptors.{has_name, is_taken}
-use Rattle.extra_bytes.specs.Fields.{AreLaid, IsLaid, StandFrom, fields_size}
+use Rattle.extra_bytes.specs.Fields.{AreLaid, IsLaid, fields_size, moved}
+use Rattle.std.proofs.lemmas.Option.{same_Some, slice_get_read}
 use Rattle.extra_bytes.specs.Record.{extra_vlr}
 use Rattle.extra_bytes.specs.Written.{AreDescribed, HasShortName, descriptor_bytes, is_unit, kind_number, scale_options, scale_part, unplaced}
 
@@ -97,6 +98,11 @@ seam : (before rest : List ExtraField) (f : ExtraField) → slice_get (before ++
 seam [] rest f = refl
 seam (b ∷ before) rest f = seam before rest f
 
+-- fields of the eight extra dimensions, one right behind another from a byte of the record on
+abbrev pub StandFrom : ℕ → List ExtraField → Type 0
+StandFrom at [] = ⊤
+StandFrom at (f ∷ fields) = (f.at ≡ at) × (f.place ≤ 7) × StandFrom (at + kind_size f.kind) fields
+
 module _ (from : ℕ) (fields : List ExtraField) (laid : AreLaid from fields) where
   abbrev end : ℕ
   end = from + fields_size fields
@@ -147,3 +153,86 @@ module _ (from : ℕ) (fields : List ExtraField) (laid : AreLaid from fields) wh
 
   pub laid_short : All HasShortName fields
   laid_short = short_behind [] fields refl
+
+-- ---- fields that descriptors describe, of the eight dimensions, are laid so
+
+abbrev pub HasPlace : ExtraField → Type 0
+HasPlace f = f.place ≤ 7
+
+laid_behind : (from : ℕ) (before rest : List ExtraField) (at size : ℕ) → at ≡ from + fields_size before → AreDescribed (map unplaced before) at size rest → All HasPlace rest
+    → (k : ℕ) (f : ExtraField) → slice_get rest k ≡ Some f → IsLaid from (before ++ rest) (length before + k) f
+laid_behind from before [] at size is h places k f e = absurd (cc)
+laid_behind from before (g ∷ rest) at size is h places zero f e =
+    let same : g ≡ f = same_Some g f e in
+    let front : take (length before + 0) (before ++ g ∷ rest) ≡ before = ap (λ n. take n (before ++ g ∷ rest)) (add-zero (length before)) ∙ take-append_seam before (g ∷ rest) in
+    subst (IsLaid from (before ++ g ∷ rest) (length before + 0)) same (record {
+      described = h.0;
+      name = ap (is_taken g.name) front ∙ sym (same_taken g.name before) ∙ h.1;
+      at = h.2 ∙ is ∙ ap (λ l. from + fields_size l) (sym front);
+      place = All-head HasPlace g rest places;
+    })
+laid_behind from before (g ∷ rest) at size is h places (suc k) f e =
+    let more = before ++ g ∷ [] in
+    let names : map unplaced before ++ unplaced g ∷ [] ≡ map unplaced more = sym (map-append unplaced before (g ∷ [])) in
+    let next : at + kind_size g.kind ≡ from + fields_size more = omega (arith, is, sizes_add before (g ∷ []), sum_by-cons size_of g []) in
+    let there = laid_behind from more rest (at + kind_size g.kind) size next (subst (λ l. AreDescribed l (at + kind_size g.kind) size rest) names h.4) (All-tail HasPlace g rest places) k f e in
+    let number : length more + k ≡ length before + suc k = omega (arith, length-append before (g ∷ [])) in
+    subst (λ n. IsLaid from (before ++ g ∷ rest) n f) number (subst (λ l. IsLaid from l (length more + k) f) (append_assoc before (g ∷ []) rest) there)
+
+pub described_laid : (from size : ℕ) (fields : List ExtraField) → AreDescribed [] from size fields → All HasPlace fields → AreLaid from fields
+described_laid from size fields h places k f e =
+    let same : length {A = ExtraField} [] + k ≡ k = omega arith in
+    subst (λ n. IsLaid from fields n f) same (laid_behind from [] fields from size (omega arith) h places k f e)
+
+-- ---- fields that are moved
+
+moved_taken : (by : ℕ) (name : List ℕ) (fields : List ExtraField) → is_taken name (map (moved by) fields) ≡ is_taken name fields
+moved_taken by name fields = ap (λ b. is_some (dim_named name) || b) (each fields)
+  where
+    each : (fields : List ExtraField) → has_name name (map (moved by) fields) ≡ has_name name fields
+    each [] = refl
+    each (f ∷ fields) = ap (λ b. same_name f.name name || b) (each fields)
+
+moved_size : (by : ℕ) (fields : List ExtraField) → fields_size (map (moved by) fields) ≡ fields_size fields
+moved_size by [] = refl
+moved_size by (f ∷ fields) = sum_by-cons size_of (moved by f) (map (moved by) fields) ∙ ap (λ n. kind_size f.kind + n) (moved_size by fields) ∙ sym (sum_by-cons size_of f fields)
+
+moved_front : (by k : ℕ) (fields : List ExtraField) → take k (map (moved by) fields) ≡ map (moved by) (take k fields)
+moved_front by zero fields = refl
+moved_front by (suc k) [] = refl
+moved_front by (suc k) (f ∷ fields) = ap (λ l. moved by f ∷ l) (moved_front by k fields)
+
+moved_from : (by k : ℕ) (fields : List ExtraField) (g : ExtraField) → slice_get (map (moved by) fields) k ≡ Some g → (f : ExtraField) × (slice_get fields k ≡ Some f) × (moved by f ≡ g)
+moved_from by k [] g e = absurd (cc)
+moved_from by zero (f ∷ fields) g e = (f, refl, same_Some (moved by f) g e)
+moved_from by (suc k) (f ∷ fields) g e = moved_from by k fields g e
+
+pub moved_laid : (by : ℕ) (fields : List ExtraField) → AreLaid 0 fields → AreLaid by (map (moved by) fields)
+moved_laid by fields laid k g e =
+    let (f, at, is) = moved_from by k fields g e in
+    let h = laid k f at in
+    let front = moved_front by k fields in
+    subst (IsLaid by (map (moved by) fields) k) is (record {
+      described = record { name = h.described.name; short = h.described.short; offset = h.described.offset };
+      name = ap (is_taken f.name) front ∙ moved_taken by f.name (take k fields) ∙ h.name;
+      at = omega (arith, h.at, ap fields_size front, moved_size by (take k fields));
+      place = h.place;
+    })
+
+-- ---- at most eight of them end within 64 bytes
+
+sizes_cut : (k : ℕ) (fields : List ExtraField) → fields_size (take k fields) ≤ fields_size fields
+sizes_cut zero fields = omega arith
+sizes_cut (suc k) [] = omega arith
+sizes_cut (suc k) (f ∷ fields) = omega (arith, sum_by-cons size_of f (take k fields), sum_by-cons size_of f fields, sizes_cut k fields)
+
+pub laid_near : (fields : List ExtraField) → AreLaid 0 fields → length fields ≤ 8 → All (λ (f : ExtraField). f.at ≤ 64) fields
+laid_near fields laid few k d lt =
+    let f = get_or fields k d in
+    let h = laid k f (slice_get_read fields (length fields) k f refl lt (sym (same_at fields k d lt))) in
+    omega (arith, h.at, sizes_cut k fields, fields_small fields, few)
+  where
+    same_at : (xs : List ExtraField) (k : ℕ) (d : ExtraField) → k < length xs → get_or xs k (get_or xs k d) ≡ get_or xs k d
+    same_at [] k d l = absurd (omega (arith, l))
+    same_at (x ∷ xs) zero d l = refl
+    same_at (x ∷ xs) (suc k) d l = same_at xs k d (omega (arith, l))

@@ -1,5 +1,5 @@
 -- The fields that a writer is asked for (`extra_dims`), with their places among the extra names and in the record.
-use Rattle.std.specs.Prelude.{◌≡◌, ℕ, ◌+◌, ◌≤◌, ◌==◌, pos, Bool, true, false, List, [], ◌∷◌, length, sum_by, Option, Some, None, if◌then◌else◌}
+use Rattle.std.specs.Prelude.{◌≡◌, ℕ, ◌+◌, ◌≤◌, ◌==◌, pos, Bool, true, false, List, [], ◌∷◌, length, Option, Some, None, if◌then◌else◌}
 use Rattle.std.specs.Int.Signed.{le_z_yes}
 use Rattle.std.specs.Option.{unwrap_or}
 use Rattle.std.specs.List.{All as Each}
@@ -18,7 +18,7 @@ use Rattle.text_bytes.specs.Bytes.{is_name}
 use Rattle.stage_names.specs.declared.faults.PipeFault.{PipeFault}
 use Rattle.stage_names.specs.declared.faults.PipeFault.TheVariants.{DimUnknown}
 use Rattle.stage_names.specs.Faults.{or_else}
-use Rattle.extra_bytes.specs.Written.{AreDescribed}
+use Rattle.extra_bytes.specs.Fields.{AreLaid}
 
 -- steps of values with so many decimal places, in nanounits: of nine places, the most, they are of one
 abbrev pub places_scale : ℕ → Scale
@@ -77,15 +77,15 @@ abbrev pub asked_fault : ℕ → (Dim → Bool) → List (List ℕ) → List Nam
 asked_fault i held names [] = None
 asked_fault i held names (f ∷ fs) = or_else (field_unknown i held names f) (asked_fault i held names fs)
 
--- what they take of a record
-abbrev pub asked_size : List NamedField → ℕ
-asked_size asked = sum_by (λ (f : NamedField). kind_size f.kind) asked
-
 -- names of at most 32 bytes, none of them the standard's
 abbrev pub AreShortOwn : List (List ℕ) → Type 0
 AreShortOwn names = NoneStandard names × Each (λ name. length name ≤ 32) names
 
--- different fields that a layout holds are such as descriptors describe
-abbrev pub AskedAreDescribed : Type 0
-AskedAreDescribed = (i : ℕ) (held : Dim → Bool) (names : List (List ℕ)) (from : ℕ) (asked : List NamedField) → AreShortOwn names → Each (λ (f : NamedField). is_name f.name ≡ true) asked
-    → are_different asked ≡ true → asked_fault i held names asked ≡ None → AreDescribed [] from (from + asked_size asked) (asked_fields names from asked)
+-- the names of a pipeline's extra dimensions, which are names that a field may have, too
+abbrev pub AreOwn : List (List ℕ) → Type 0
+AreOwn names = AreShortOwn names × Each (λ name. is_name name ≡ true) names
+
+-- different fields that a layout holds are laid one right behind another
+abbrev pub AskedAreLaid : Type 0
+AskedAreLaid = (i : ℕ) (held : Dim → Bool) (names : List (List ℕ)) (from : ℕ) (asked : List NamedField) → length names ≤ 8 → AreShortOwn names → Each (λ (f : NamedField). is_name f.name ≡ true) asked
+    → are_different asked ≡ true → asked_fault i held names asked ≡ None → AreLaid from (asked_fields names from asked)

@@ -1,6 +1,7 @@
 -- Fields whose names have places among the extra names.
-use Rattle.std.specs.Prelude.{ℕ, ◌==◌, ◌&&◌, Bool, List, [], ◌∷◌, length, is_none, Option, Some, None, if◌then◌else◌}
+use Rattle.std.specs.Prelude.{ℕ, ◌+◌, ◌≤◌, ◌==◌, ◌&&◌, Bool, List, [], ◌∷◌, length, map, is_none, Option, Some, None, if◌then◌else◌}
 use Rattle.std.specs.Option.{unwrap_or}
+use Rattle.cloud_points.specs.ExtraFields.{kind_size}
 use Rattle.cloud_points.specs.ExtraNames.{place_in, added}
 use Rattle.cloud_points.specs.declared.extra.ExtraField.{ExtraField}
 use Rattle.stage_names.specs.declared.faults.PipeFault.{PipeFault}
@@ -27,6 +28,14 @@ bound_fields names (f ∷ fs) = bound_field names f ∷ bound_fields (added f.na
 abbrev pub names_with : List (List ℕ) → List ExtraField → List (List ℕ)
 names_with names [] = names
 names_with names (f ∷ fs) = names_with (added f.name names) fs
+
+-- what fields are called
+abbrev pub names_of : List ExtraField → List (List ℕ)
+names_of fields = map (λ (f : ExtraField). f.name) fields
+
+-- a field ends within a record of so many bytes
+abbrev pub EndsWithin : ℕ → ExtraField → Type 0
+EndsWithin size f = f.at + kind_size f.kind ≤ size
 
 -- the first fault
 abbrev pub fields_fault : ℕ → List (List ℕ) → List ExtraField → Option PipeFault

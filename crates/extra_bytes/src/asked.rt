@@ -1,9 +1,11 @@
 //! The fields that a writer is asked for.
 
-ghost use Rattle.std.specs.Prelude.{◌≡◌, ◌≤◌, true, false, None, Some, MatchOption, IfOk, OnOk, IfErr, length};
-ghost use Rattle.cloud_points.specs.ExtraNames.{place_in};
+ghost use Rattle.std.specs.Prelude.{◌≡◌, ◌≤◌, true, false, None, Some, MatchOption, IfOk, OnOk, IfErr, length, map};
+ghost use Rattle.cloud_points.specs.ExtraNames.{DifferentNames, place_in};
+ghost use Rattle.std.specs.List.{All};
 ghost use Rattle.cloud_points.specs.Layouts.{holds};
-ghost use Rattle.extra_bytes.specs.Asked.{all_from, asked_fault, asked_field, asked_fields, asked_of, field_unknown};
+ghost use Rattle.extra_bytes.specs.Fields.{AreLaid, moved};
+ghost use Rattle.extra_bytes.specs.Asked.{AreOwn, all_from, asked_fault, asked_field, asked_fields, asked_of, field_unknown};
 ghost use Rattle.extra_bytes.specs.Asked.{is_extra, places_scale};
 ghost use Rattle.stage_names.specs.Faults.{IsFaultOf};
 
@@ -97,6 +99,7 @@ fn ask_each(
     ensures ok { IfOk result (λ fields. fields ≡ asked_fields names.now from asked.now) }
     ensures none { OnOk result (asked_fault i (holds layout.now) names.now asked.now ≡ None) }
     ensures fault { IfErr result (IsFaultOf (asked_fault i (holds layout.now) names.now asked.now)) }
+    ensures few { IfOk result (λ fields. length fields ≤ 8) }
 {
     let mut fields = Vec::new(alloc);
     let mut at = from;
@@ -106,6 +109,27 @@ fn ask_each(
         fields.push(bound).map_err(AllocError::from)?;
     }
     Ok(FieldList::new(fields))
+}
+
+/// What the type of extra names says of them.
+pub(crate) fn known_names(names: &ExtraNames)
+    ensures few { length names.now ≤ 8 }
+    ensures different { DifferentNames names.now }
+{
+    let _names = names.as_slice();
+}
+
+/// The same fields, each so many bytes further behind.
+pub fn move_fields(fields: FieldList, by: usize) -> FieldList
+    requires near { All (λ f. f.at ≤ 64) fields }
+    requires by { by ≤ 65535 }
+    ensures { result ≡ map (moved by) fields }
+{
+    let mut moved = fields.into_vec();
+    for field in moved.iter_mut() {
+        field.at += by;
+    }
+    FieldList::new(moved)
 }
 
 /// Each extra dimension of a layout, as 64 bits with nine decimal places.
@@ -127,7 +151,8 @@ fn all_of(alloc: Global, names: &ExtraNames, layout: &Layout) -> Result<Vec<Name
 }
 
 /// The fields that the writer of stage i is asked for, over the extra names and the layout of its points: one right behind another
-/// from byte `from` of the record on, with offset 0.
+/// from byte `from` of the record on, with offset 0. Where the extra names are names of at most 32 bytes, and none of the standard's,
+/// they are such as descriptors describe.
 ///
 /// `DimUnknown` comes exactly where a name isn't that of an extra dimension of the layout, with the first such name, and `Memory`
 /// only where there was none.
@@ -146,7 +171,10 @@ pub fn ask_fields(
         (asked_of (holds layout.now) names.now dims.now) ≡ None) }
     ensures fault { IfErr result (IsFaultOf (asked_fault i (holds layout.now) names.now
         (asked_of (holds layout.now) names.now dims.now))) }
+    ensures laid { AreOwn names.now → IfOk result (AreLaid from) }
+    ensures few { IfOk result (λ fields. length fields ≤ 8) }
 {
+    known_names(names);
     match dims {
         ExtraDims::All => {
             let all = all_of(alloc, names, layout)?;

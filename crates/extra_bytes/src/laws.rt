@@ -1,6 +1,6 @@
 //! Laws of extra dimensions.
 
-ghost use Rattle.extra_bytes.specs.Asked.{AskedAreDescribed};
+ghost use Rattle.extra_bytes.specs.Asked.{AskedAreLaid};
 ghost use Rattle.extra_bytes.specs.Laws.{ExactIsRead, FineTakesAll, NearestIsRead};
 ghost use Rattle.extra_bytes.specs.Record.{RecordIsRead};
 ghost use Rattle.extra_bytes.specs.Written.{WrittenAreRead};
@@ -23,8 +23,8 @@ pub fn record_is_read()
     ensures { RecordIsRead }
 {}
 
-/// The law that different fields that are asked for, by names of at most 32 bytes of extra dimensions that the layout holds, are such
-/// that their descriptors are read back: one right behind another, with new names.
-pub fn asked_are_described()
-    ensures { AskedAreDescribed }
+/// The law that different fields that are asked for, by names of at most 32 bytes of extra dimensions that the layout holds, are laid
+/// one right behind another, with new names, so that their descriptors are read back.
+pub fn asked_are_laid()
+    ensures { AskedAreLaid }
 {}

@@ -82,9 +82,9 @@ goes_first names r = let a = asked names in λ i. record {
 }
 
 -- what is kept of no files
-pub begun_is : (opts : LasOpts) (f : Forwarding) → f.given ≡ given_of opts → f.goes ≡ asked opts.forward → f.begun ≡ false → f.first ≡ default_values → f.vlrs ≡ [] → f.evlrs ≡ [] → f.extra ≡ [] → f ≡ forwarding_of opts []
+pub begun_is : (opts : LasOpts) (f : Forwarding) → f.given ≡ given_of opts → f.goes ≡ asked opts.forward → f.begun ≡ false → f.first ≡ default_values → f.vlrs ≡ [] → f.evlrs ≡ [] → f ≡ forwarding_of opts []
 unfolding forwarding_of goes_over
-begun_is opts f given goes begun first vlrs evlrs extra = λ i. record { given = given i; goes = goes i; begun = begun i; first = first i; vlrs = vlrs i; evlrs = evlrs i; extra = extra i }
+begun_is opts f given goes begun first vlrs evlrs = λ i. record { given = given i; goes = goes i; begun = begun i; first = first i; vlrs = vlrs i; evlrs = evlrs i }
 
 -- after the first file
 started_first : (opts : LasOpts) (r : ReadFile) → started (forwarding_of opts []) r ≡ forwarding_of opts (r ∷ [])
@@ -96,7 +96,6 @@ started_first opts r = let a = asked opts.forward in λ i. record {
   first = r.values;
   vlrs = (if a.lists then r.vlrs else []);
   evlrs = (if a.lists then r.evlrs else []);
-  extra = [];
 }
 
 begun_before : (opts : LasOpts) (x : ReadFile) (rest : List ReadFile) (f : Forwarding) → f ≡ forwarding_of opts (x ∷ rest) → f.begun ≡ true
@@ -122,7 +121,6 @@ agreed_next opts r rest q = let a = asked opts.forward in λ i. record {
   first = r.values;
   vlrs = (if a.lists then r.vlrs else []);
   evlrs = (if a.lists then r.evlrs else []);
-  extra = [];
 }
 
 not_begun : (opts : LasOpts) (f : Forwarding) → f ≡ forwarding_of opts [] → f.begun ≡ false
@@ -156,7 +154,7 @@ evlrs_first true false first = refl
 evlrs_first false b first = refl
 
 -- the form that is decided by what is kept is the one of these files
-pub form_is : (opts : LasOpts) (reads : List ReadFile) → (let f = forwarding_of opts reads in picked_form f.given f.goes f.first (without_extra_bytes (kept f.goes.lists f.vlrs)) (kept f.goes.lists f.evlrs) f.extra) ≡ form_of opts reads
+pub form_is : (opts : LasOpts) (reads : List ReadFile) → (let f = forwarding_of opts reads in picked_form f.given f.goes f.first (without_extra_bytes (kept f.goes.lists f.vlrs)) (kept f.goes.lists f.evlrs) []) ≡ form_of opts reads
 unfolding forwarding_of goes_over picked_form form_of
 form_is opts [] = let a = asked opts.forward in let d = default_values in λ i. record {
   format = format_in (given_or opts.minor 4) (picked_none same_format opts.format a.format d.format i);

@@ -14,14 +14,15 @@ use Rattle.las_vlr.specs.Same.{same_list}
 use Rattle.forward_rules.specs.Lists.{without_extra_bytes}
 use Rattle.forward_rules.specs.Values.{filled, default_values, format_in, values_of, scale_on, offset_on, same_format, same_scale}
 
--- a file that is read: the values of its header, and its two lists
+-- a file that is read: the values of its header, the bytes of its records, and its two lists
 pub record ReadFile : Type 0 where
   pub values : HeaderValues
+  pub record_length : ℕ
   pub vlrs : List Vlr
   pub evlrs : List Vlr
 
 abbrev pub read_file : Header → List Vlr → List Vlr → ReadFile
-read_file header vlrs evlrs = record { values = values_of header; vlrs = vlrs; evlrs = evlrs }
+read_file header vlrs evlrs = record { values = values_of header; record_length = header.record_length; vlrs = vlrs; evlrs = evlrs }
 
 -- a value: the one that is given; or else the one that all files read have, where it is asked for; or else the default
 abbrev pub decided : {A : Type 0} → (A → A → Bool) → Option A → Bool → List A → A → A

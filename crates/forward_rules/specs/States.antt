@@ -105,7 +105,6 @@ forwarding_of opts reads = record {
   first = first_values reads;
   vlrs = first_vlrs (asked opts.forward).lists reads;
   evlrs = first_evlrs (asked opts.forward).lists reads;
-  extra = [];
 }
 
 -- a value that is given, or else goes over, or else is the default

@@ -34,8 +34,6 @@ pub struct Forwarding {
     /// The lists of the first file, where they are asked for.
     vlrs: VlrList,
     evlrs: VlrList,
-    /// No extra dimensions: none go over from a file.
-    extra: FieldList,
 }
 
 /// Whether the scale of an axis still goes over.
@@ -227,7 +225,6 @@ impl Forwarding {
             first: HeaderValues::default(),
             vlrs: VlrList::new(Vec::new(alloc)),
             evlrs: VlrList::new(Vec::new(alloc)),
-            extra: FieldList::none(alloc),
         })
     }
 
@@ -255,15 +252,15 @@ impl Forwarding {
     /// What a writer with these options writes around the points of these files: each value is the one that is given, or
     /// else the one that all files have, where it is asked for, or else the default. The version doesn't go over, nor does a
     /// format that its files don't have. Both lists go over together, without the records that describe extra bytes, and no
-    /// extra dimensions do.
-    pub fn form(self) -> LasForm
+    /// extra dimensions do. It takes no memory.
+    pub fn form(self, alloc: Global) -> LasForm
         ensures { (opts : LasOpts) (reads : List ReadFile) → self ≡ forwarding_of opts reads
             → result ≡ form_of opts reads }
     {
         let lists = self.goes.lists;
         let vlrs = without_extra_bytes(kept(lists, self.vlrs));
         let evlrs = kept(lists, self.evlrs);
-        let extra = self.extra;
+        let extra = FieldList::none(alloc);
         picked_form(&self.given, &self.goes, &self.first, vlrs, evlrs, extra)
     }
 

@@ -1,7 +1,10 @@
 pub mod Pieces
+pub mod Outs
+pub mod Adding
 pub mod Wholes
 pub mod Readings
 pub mod Steps
 pub mod Openings
 pub mod Cuts
 pub mod Following
+pub mod Plain

@@ -1,10 +1,11 @@
 -- Points of records, piece by piece.
-use Rattle.std.proofs.Common.{◌≡◌, ℕ, zero, suc, ◌+◌, ◌-◌, ◌*◌, ◌≤◌, min, List, [], ◌∷◌, ◌++◌, length, take, drop, slice_range, refl, ap, sym, ◌∙◌, arith, add-one, add-zero, drop-drop, append_assoc, append-nil}
-use Rattle.std.proofs.Math.Nat.{mul-add}
-use Rattle.std.proofs.lemmas.List.{drop-take, take-take}
+use Rattle.std.proofs.Common.{◌≡◌, ℕ, zero, suc, ◌+◌, ◌-◌, ◌*◌, ◌<◌, ◌≤◌, min, List, [], ◌∷◌, ◌++◌, length, take, drop, get_or, slice_range, refl, ap, sym, ◌∙◌, arith, add-one, add-zero, drop-drop, append_assoc, append-nil, length-drop}
+use Rattle.std.proofs.Math.Nat.{mul-add, mul-le-mul_left}
+use Rattle.std.proofs.lemmas.List.{drop-take, take-take, length-take-le}
+use Rattle.std.proofs.Math.Seq.{take-append_seam}
 use Rattle.cloud_points.specs.declared.point.Point.{Point}
 use Rattle.las_header.specs.declared.block.Header.{Header}
-use Rattle.las_reader.specs.Records.{point_of, record_at, points_from}
+use Rattle.las_reader.specs.Records.{point_of, point_with, record_at, points_from}
 
 pub points_none : (read : List ℕ → Point) (size : ℕ) (k : ℕ) (b : List ℕ) → points_from read size k 0 b ≡ []
 unfolding points_from
@@ -51,7 +52,7 @@ points-append read size (suc n) m k b =
     ∙ ap (λ j. points_from read size k j b) all
 
 -- a record of a piece that begins at record k
-record_of_piece : (L j k size : ℕ) (b : List ℕ) → L * j + L ≤ size → record_at L j (take size (drop (L * k) b)) ≡ record_at L (k + j) b
+pub record_of_piece : (L j k size : ℕ) (b : List ℕ) → L * j + L ≤ size → record_at L j (take size (drop (L * k) b)) ≡ record_at L (k + j) b
 record_of_piece L j k size b h =
     let split : size ≡ L * j + (size - L * j) = omega arith in
     let place : L * k + L * j ≡ L * (k + j) = sym (mul-add L k j) in
@@ -79,16 +80,22 @@ points_of_piece : (read : List ℕ → Point) (each : ℕ) (n k size : ℕ) (b :
 points_of_piece read each n k size b h = let fits : each * (0 + n) ≤ size = omega arith in piece_from read each n 0 k size b fits ∙ ap (λ i. points_from read each i n b) (add-zero k)
 
 -- the points of a buffer that holds a piece of the file
-pub points_of_buffer : (header : Header) (n given : ℕ) (buffer file : List ℕ) → take (header.record_length * n) buffer ≡ take (header.record_length * n) (drop (header.points_at + header.record_length * given) file)
-    → points_from (point_of header) header.record_length 0 n buffer ≡ points_from (point_of header) header.record_length given n (drop header.points_at file)
-points_of_buffer header n given buffer file same =
+pub points_of_buffer : (read : List ℕ → Point) (header : Header) (n given : ℕ) (buffer file : List ℕ) → take (header.record_length * n) buffer ≡ take (header.record_length * n) (drop (header.points_at + header.record_length * given) file)
+    → points_from read header.record_length 0 n buffer ≡ points_from read header.record_length given n (drop header.points_at file)
+points_of_buffer read header n given buffer file same =
     let L = header.record_length in
     let fits : L * n ≤ L * n = omega arith in
     let none : L * 0 ≡ 0 = omega arith in
-    sym (points_of_piece (point_of header) header.record_length n 0 (L * n) buffer fits) ∙ ap (λ m. points_from (point_of header) header.record_length 0 n (take (L * n) (drop m buffer))) none
-    ∙ ap (points_from (point_of header) header.record_length 0 n) (same ∙ ap (take (L * n)) (sym (drop-drop (L * given) header.points_at file))) ∙ points_of_piece (point_of header) header.record_length n given (L * n) (drop header.points_at file) fits
+    sym (points_of_piece read header.record_length n 0 (L * n) buffer fits) ∙ ap (λ m. points_from read header.record_length 0 n (take (L * n) (drop m buffer))) none
+    ∙ ap (points_from read header.record_length 0 n) (same ∙ ap (take (L * n)) (sym (drop-drop (L * given) header.points_at file))) ∙ points_of_piece read header.record_length n given (L * n) (drop header.points_at file) fits
 
-record_is : (L k : ℕ) (b : List ℕ) → slice_range b (L * k) (L * k + L) ≡ record_at L (0 + k) b
+-- what is the same in front is so further in front
+pub same_front : (L c n : ℕ) (a b : List ℕ) → c ≤ n → take (L * n) a ≡ take (L * n) b → take (L * c) a ≡ take (L * c) b
+same_front L c n a b h same =
+    let less : L * c ≤ L * n = mul-le-mul_left L h in
+    sym (take-take (L * c) (L * n) a less) ∙ ap (take (L * c)) same ∙ take-take (L * c) (L * n) b less
+
+pub record_is : (L k : ℕ) (b : List ℕ) → slice_range b (L * k) (L * k + L) ≡ record_at L (0 + k) b
 record_is L k b =
     let size : L * k + L - L * k ≡ L = omega arith in
     let same : k ≡ 0 + k = omega arith in
@@ -114,3 +121,30 @@ decoded_none header records at items size h =
       points_are = ap (λ n. take n items) same ∙ sym (ap (λ l. take at items ++ l) (points_none (point_of header) header.record_length 0 records) ∙ append-nil (take at items));
       there = omega arith;
     }
+
+-- without fields a record is read as before
+pub plain_point : (header : Header) → point_with header [] ≡ point_of header
+unfolding point_with
+plain_point header = refl
+
+-- the bytes of a record have so many
+pub record_long : (L k n : ℕ) (b : List ℕ) → k < n → L * n ≤ length b → length (record_at L k b) ≡ L
+record_long L k n b h room =
+    let next : L * (k + 1) ≤ L * n = (let more : k + 1 ≤ n = omega arith in mul-le-mul_left L more) in
+    let sum : L * (k + 1) ≡ L * k + L = omega arith in
+    length-take-le L (drop (L * k) b) (omega (arith, length-drop (L * k) b, next, sum, room))
+
+-- point k of those of n records
+pub get_or-points_from : (read : List ℕ → Point) (size : ℕ) (i k n : ℕ) (b : List ℕ) (p : Point) → i < n → get_or (points_from read size k n b) i p ≡ read (record_at size (k + i) b)
+unfolding points_from
+get_or-points_from read size i k zero b p h = absurd (omega arith)
+get_or-points_from read size zero k (suc n) b p h = let same : k ≡ k + 0 = omega arith in ap (λ j. read (record_at size j b)) same
+get_or-points_from read size (suc i) k (suc n) b p h =
+    let next : k + 1 + i ≡ k + suc i = omega arith in
+    get_or-points_from read size i (k + 1) n b p (omega arith) ∙ ap (λ j. read (record_at size j b)) next
+
+-- what stands in front of points that were put behind it stays
+pub front_stays : (at count : ℕ) (old new points : List Point) → at ≤ length old → take (at + count) new ≡ take at old ++ points → take at new ≡ take at old
+front_stays at count old new points h e =
+    let front : length (take at old) ≡ at = length-take-le at old h in
+    sym (take-take at (at + count) new (omega arith)) ∙ ap (take at) e ∙ ap (λ n. take n (take at old ++ points)) (sym front) ∙ take-append_seam (take at old) points

@@ -1,7 +1,7 @@
 -- How many records of a piece of a file are whole.
 use Rattle.std.proofs.Common.{◌≡◌, ℕ, ◌+◌, ◌-◌, ◌*◌, ◌/◌, ◌<◌, ◌≤◌, min, List, length, take, drop, inl, inr, ap, sym, ◌∙◌, arith}
 use Rattle.std.proofs.Math.Nat.{mul-add-div, mul-div_cancel_left, div-eq_of_lt, mul-div-le}
-use Rattle.std.proofs.lemmas.Nat.{div_below}
+use Rattle.std.proofs.lemmas.Nat.{div_below, le-div}
 use Rattle.std.proofs.lemmas.Bool.{cases_lt}
 use Rattle.std.proofs.lemmas.List.{take-take}
 use Rattle.las_header.specs.declared.block.Header.{Header}
@@ -60,3 +60,7 @@ has_records header file given most n buffer some is same =
       count = whole_is header file given most n some is;
       bytes = sym (take-take (L * (n / L)) n buffer within) ∙ ap (take (L * (n / L))) same ∙ take-take (L * (n / L)) n (drop at file) within;
     }
+
+-- so many bytes have room for a record
+pub one_fits : (L n : ℕ) → 0 < L → L ≤ n → 1 ≤ n / L
+one_fits L n some h = le-div 1 n L some (omega arith)

@@ -1,28 +1,28 @@
 -- A file that is read to its end, in chunks of any sizes.
 use Rattle.std.specs.Prelude.{◌≡◌, ◌⊎◌, ℕ, ◌+◌, ◌<◌, ◌≤◌, List, [], ◌∷◌, ◌++◌, length, Option, Some, None, true, false, ⊤}
 use Rattle.std.specs.List.{All, flat_map}
+use Rattle.cloud_points.specs.declared.extra.ExtraField.{ExtraField}
 use Rattle.cloud_points.specs.declared.point.Point.{Point}
 use Rattle.cloud_points.specs.declared.faults.PointFault.{PointFault}
 use Rattle.cloud_points.specs.declared.faults.Make.{Make}
 use Rattle.cloud_points.specs.declared.faults.Make.TheVariants.{Points, End}
 use Rattle.las_header.specs.declared.block.Header.{Header}
-use Rattle.las_header.specs.Counts.{points_in}
 use Rattle.las_reader.specs.declared.reader.Progress.{Progress}
 use Rattle.las_reader.specs.declared.reader.Progress.TheVariants.{Records}
 use Rattle.las_reader.specs.Files.{Las, las_with}
-use Rattle.las_reader.specs.Reading.{Step, IsStep, step_of, ends, view_ends}
+use Rattle.las_reader.specs.Reading.{Step, IsStep, IsWithin, step_of, ends, view_ends}
 
 -- the size of a chunk
 abbrev pub IsChunk : ℕ → Type 0
 IsChunk chunk = (1 ≤ chunk) × (chunk ≤ 64)
 
--- calls for chunks of these sizes, one after another from a place on, give these steps
-abbrev pub AreSteps : ℕ → List Point → Progress → List ℕ → List Step → Type 0
-AreSteps count points progress [] [] = ⊤
-AreSteps count points progress (chunk ∷ chunks) (step ∷ steps) =
-    IsStep (step_of count points progress chunk) step.made step.points step.progress
-    × AreSteps count points step.progress chunks steps
-AreSteps count points progress chunks steps = ⊥
+-- calls for chunks of these sizes, one after another from a place on, give these steps in a file with these points and this fault
+abbrev pub AreSteps : List Point → Option PointFault → Progress → List ℕ → List Step → Type 0
+AreSteps points fault progress [] [] = ⊤
+AreSteps points fault progress (chunk ∷ chunks) (step ∷ steps) =
+    IsStep (step_of points fault progress chunk) step.made step.points step.progress
+    × AreSteps points fault step.progress chunks steps
+AreSteps points fault progress chunks steps = ⊥
 
 -- it is the end of all
 abbrev pub IsEnd : Make → Type 0
@@ -62,12 +62,17 @@ pub record GiveFile (las : Las) (steps : List Step) : Type 0 where
 
 -- a file that is read to its first end gives its points and then its end, for chunks of any sizes
 abbrev pub StepsGiveFile : Type 0
-StepsGiveFile = (header : Header) (file chunks : List ℕ) (steps : List Step) → All IsChunk chunks
-    → AreSteps (points_in header) (las_with header file).points (Records 0) chunks steps → EndAtLast steps
-    → GiveFile (las_with header file) steps
+StepsGiveFile = (header : Header) (fields : List ExtraField) (file chunks : List ℕ) (steps : List Step) → All IsChunk chunks
+    → AreSteps (las_with header fields file).points (las_with header fields file).fault (Records 0) chunks steps → EndAtLast steps
+    → GiveFile (las_with header fields file) steps
+
+-- behind a step no more points were given than there are
+abbrev pub StepsStayWithin : Type 0
+StepsStayWithin = (points : List Point) (fault : Option PointFault) (chunk : ℕ) (before : Progress) (made : Make) (next : List Point) (after : Progress)
+    → IsStep (step_of points fault before chunk) made next after → IsWithin points after
 
 -- two more calls than there are points are enough for the end
 abbrev pub StepsComeToTheEnd : Type 0
-StepsComeToTheEnd = (header : Header) (file chunks : List ℕ) (steps : List Step) → All IsChunk chunks
-    → AreSteps (points_in header) (las_with header file).points (Records 0) chunks steps
-    → length (las_with header file).points + 2 ≤ length chunks → ComeToTheEnd steps
+StepsComeToTheEnd = (header : Header) (fields : List ExtraField) (file chunks : List ℕ) (steps : List Step) → All IsChunk chunks
+    → AreSteps (las_with header fields file).points (las_with header fields file).fault (Records 0) chunks steps
+    → length (las_with header fields file).points + 2 ≤ length chunks → ComeToTheEnd steps

@@ -7,6 +7,8 @@ mod opening;
 mod reader;
 mod records;
 
-pub use laws::{cut_is_the_first, steps_come_to_the_end, steps_give_file};
+pub use laws::{
+    cut_is_the_first, steps_come_to_the_end, steps_give_file, steps_stay_within, without_fields,
+};
 pub use opening::OpenErr;
 pub use reader::{LasReader, Progress};

@@ -1,14 +1,16 @@
 //! Reads point data records.
 
-ghost use Rattle.std.specs.Prelude.{◌≡◌, ◌+◌, ◌*◌, ◌^◌, ◌<◌, ◌≤◌, ◌++◌, ℕ, List, length, take, max, min, Some, IfOk, IfSome, IfNone, OnOk, vec_len};
+ghost use Rattle.std.specs.Prelude.{◌≡◌, ◌+◌, ◌*◌, ◌^◌, ◌<◌, ◌≤◌, ◌++◌, ℕ, List, length, take, max, min, Some, None, IfOk, IfSome, IfNone, OnOk, vec_len};
 ghost use Rattle.arrayvec.specs.ArrayVec.{array_vec_len};
 ghost use Rattle.file_devices.specs.Counts.{HasCause};
 ghost use Rattle.las_header.specs.Sound.{IsSound};
+ghost use Rattle.las_reader.specs.Lists.{AreFields};
 ghost use Rattle.las_reader.specs.Pieces.{HasRecords, HasPoints};
-ghost use Rattle.las_reader.specs.Records.{point_of, points_from};
+ghost use Rattle.las_reader.specs.Records.{point_of, point_with, points_from, out_from, out_or};
 ghost use Rattle.point_formats.specs.Grids.{grid_of};
 
-use cloud_points::{MOST_POINTS, Point, Spread};
+use cloud_points::{Dim, ExtraField, MOST_POINTS, Point, Spread};
+use extra_bytes::get_fields;
 use file_devices::{Failed, Source, fill};
 use las_header::{Format, Header};
 use point_formats::{Grid, decode};
@@ -152,68 +154,156 @@ fn decode_from(header: &Header, records: &[u8], count: usize, at: usize, into: &
     decode_over(header, records, count, at, into.as_mut_slice());
 }
 
+/// How many records were decoded, and where the next one has a value that no point holds, its dimension.
+#[derive(Clone, Copy)]
+struct Held {
+    count: usize,
+    out: Option<Dim>,
+}
+
+/// Sets the extra dimensions of `count` points of a list, from a place on, to the values of fields in their records, up to
+/// the first record with a value that no point holds.
+fn add_fields(
+    header: &Header,
+    fields: &[ExtraField],
+    records: &[u8],
+    count: usize,
+    at: usize,
+    points: &mut [Point],
+) -> Held
+    requires fields { AreFields header.now.record_length fields.now }
+    requires room { at + count ≤ length points.old }
+    requires whole { header.now.record_length * count ≤ length records.now }
+    requires decoded { take (at + count) points.old
+        ≡ take at points.old ++ points_from (point_of header.now) header.now.record_length 0 count records.now }
+    ensures points { take (at + result.count) points.new
+        ≡ take at points.old ++ points_from (point_with header.now fields.now) header.now.record_length 0
+        result.count records.now }
+    ensures out { out_from fields.now header.now.record_length 0 count records.now
+        ≡ out_or result.count result.out None }
+    ensures all { result.out ≡ None → result.count ≡ count }
+    ensures most { result.count ≤ count }
+{
+    let size = header.record_length as usize;
+    for k in 0..count {
+        if let Err(dim) = get_fields(
+            fields,
+            &records[size * k..size * k + size],
+            &mut points[at + k],
+        ) {
+            return Held {
+                count: k,
+                out: Some(dim),
+            };
+        }
+    }
+    Held { count, out: None }
+}
+
+/// Puts the points of `count` records, one after another, into a spread from a place on, over those that are there, up to the
+/// first record with a value that no point holds.
+fn decode_with(
+    header: &Header,
+    fields: &[ExtraField],
+    records: &[u8],
+    count: usize,
+    at: usize,
+    into: &mut Spread,
+) -> Held
+    requires sound { IsSound header.now }
+    requires fields { AreFields header.now.record_length fields.now }
+    requires place { at ≤ array_vec_len into.old }
+    requires room { at + count ≤ 64 }
+    requires whole { header.now.record_length * count ≤ length records.now }
+    ensures items { take (at + result.count) into.new.items
+        ≡ take at into.old.items ++ points_from (point_with header.now fields.now) header.now.record_length 0
+        result.count records.now }
+    ensures out { out_from fields.now header.now.record_length 0 count records.now
+        ≡ out_or result.count result.out None }
+    ensures all { result.out ≡ None → result.count ≡ count }
+    ensures most { result.count ≤ count }
+    ensures len { at + count ≤ array_vec_len into.new }
+{
+    decode_from(header, records, count, at, into);
+    if fields.is_empty() {
+        return Held { count, out: None };
+    }
+    add_fields(header, fields, records, count, at, into.as_mut_slice())
+}
+
 /// Puts the points of at most `most` records from number `given` on over what a spread holds, and answers how many they
-/// are. They are fewer only where the file ends before the next record is whole.
+/// are. They are fewer only where the file ends before the next record is whole, or that has a value which no point holds.
 fn read_over<S: Source>(
     source: &mut S,
     header: &Header,
+    fields: &[ExtraField],
     given: u64,
     most: usize,
     buffer: &mut [u8],
     into: &mut Spread,
-) -> Result<usize, Failed>
+) -> Result<Held, Failed>
     requires sound { IsSound header.now }
+    requires fields { AreFields header.now.record_length fields.now }
     requires few { most ≤ 64 }
     requires end { given + most < 2 ^ 64 }
     requires room { header.now.record_length ≤ length buffer.old }
-    ensures points { IfOk result (λ n. (file : List ℕ) → S.bytes source.old ≡ Some file
-        → HasPoints header.now file given most (take n into.new.items)) }
-    ensures most { IfOk result (λ n. n ≤ most) }
-    ensures there { IfOk result (λ n. n ≤ array_vec_len into.new) }
+    ensures points { IfOk result (λ held. (file : List ℕ) → S.bytes source.old ≡ Some file
+        → HasPoints header.now fields.now file given most (take held.count into.new.items) held.out) }
+    ensures most { IfOk result (λ held. held.count ≤ most) }
+    ensures there { IfOk result (λ held. held.count ≤ array_vec_len into.new) }
     ensures reached { S.reached source.new
         ≤ max (S.reached source.old) (header.now.points_at + header.now.record_length * (given + most)) }
     ensures bytes { S.bytes source.new ≡ S.bytes source.old }
     ensures cause { HasCause (S.faults source.old) (S.faults source.new) result }
 {
-    let held = buffer.len() / header.record_length as usize;
+    let room = buffer.len() / header.record_length as usize;
     let mut done = 0;
     while done < most {
-        let wanted = (most - done).min(held);
+        let wanted = (most - done).min(room);
         let whole = read_records(source, header, given + done as u64, wanted, buffer)?;
-        decode_from(header, buffer, whole, done, into);
-        done += whole;
-        if whole < wanted {
-            return Ok(done);
+        let held = decode_with(header, fields, buffer, whole, done, into);
+        done += held.count;
+        if held.count < wanted {
+            return Ok(Held {
+                count: done,
+                out: held.out,
+            });
         }
     }
-    Ok(done)
+    Ok(Held {
+        count: done,
+        out: None,
+    })
 }
 
-/// Puts the points of at most `most` records from number `given` on in place of what a spread holds. They are fewer
-/// only where the file ends before the next record is whole.
+/// Puts the points of at most `most` records from number `given` on in place of what a spread holds, with the values of
+/// `fields` in their extra dimensions. They are fewer only where the file ends before the next record is whole, or where
+/// that has a value which no point holds: then it answers the dimension.
 ///
 /// It writes over the points that are there, since a spread that is emptied blanks them.
 pub(crate) fn read_points<S: Source>(
     source: &mut S,
     header: &Header,
+    fields: &[ExtraField],
     given: u64,
     most: usize,
     buffer: &mut [u8],
     into: &mut Spread,
-) -> Result<(), Failed>
+) -> Result<Option<Dim>, Failed>
     requires sound { IsSound header.now }
+    requires fields { AreFields header.now.record_length fields.now }
     requires few { most ≤ 64 }
     requires end { given + most < 2 ^ 64 }
     requires room { header.now.record_length ≤ length buffer.old }
-    ensures points { OnOk result ((file : List ℕ) → S.bytes source.old ≡ Some file
-        → HasPoints header.now file given most into.new.items) }
+    ensures points { IfOk result (λ out. (file : List ℕ) → S.bytes source.old ≡ Some file
+        → HasPoints header.now fields.now file given most into.new.items out) }
     ensures most { OnOk result (array_vec_len into.new ≤ most) }
     ensures reached { S.reached source.new
         ≤ max (S.reached source.old) (header.now.points_at + header.now.record_length * (given + most)) }
     ensures bytes { S.bytes source.new ≡ S.bytes source.old }
     ensures cause { HasCause (S.faults source.old) (S.faults source.new) result }
 {
-    let count = read_over(source, header, given, most, buffer, into)?;
-    into.truncate(count);
-    Ok(())
+    let held = read_over(source, header, fields, given, most, buffer, into)?;
+    into.truncate(held.count);
+    Ok(held.out)
 }

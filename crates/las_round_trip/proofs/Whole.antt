@@ -6,6 +6,7 @@ use Rattle.std.proofs.lemmas.Bool.{le-leb}
 use Rattle.std.proofs.lemmas.List.Elements.{All-nil}
 use Rattle.std.proofs.Math.Seq.{drop-append_seam, take-append_seam, take-length}
 use Rattle.cloud_points.specs.declared.faults.PointFault.TheVariants.{Cut}
+use Rattle.cloud_points.specs.declared.extra.ExtraField.{ExtraField}
 use Rattle.cloud_points.specs.declared.point.Point.{Point}
 use Rattle.las_header.specs.declared.block.Header.{Header}
 use Rattle.las_header.specs.declared.form.Format.{Format}
@@ -27,17 +28,18 @@ use Rattle.las_vlr.specs.Written.{IsEvlr, evlr_bytes}
 use Rattle.las_vlr.proofs.WrittenLists.{vlrs_again, evlrs_again}
 use Rattle.las_reader.specs.Frames.{header_or, list_or, header_in, vlrs_in, evlrs_in, frame_of}
 use Rattle.las_reader.specs.Files.{cut_of, whole_records, las_with}
-use Rattle.las_reader.specs.Records.{point_of, points_from}
+use Rattle.las_reader.specs.Records.{point_of, points_from, out_from}
+use Rattle.las_reader.proofs.Plain.{without_fields}
 use Rattle.forward_rules.specs.declared.form.LasForm.{LasForm}
 use Rattle.las_writer.specs.declared.totals.Totals.{Totals}
-use Rattle.las_writer.specs.Records.{record_size, records, refusal}
+use Rattle.las_writer.specs.Records.{record_size, point_record, records, refusal}
 use Rattle.cloud_points.specs.Queue.{up_to_limit}
 use Rattle.las_writer.specs.Totals.{totals_of}
 use Rattle.las_writer.specs.LasOutput.{IsForm, is_old, legacy, has_wide_counts, points_at, file_vlrs, file_evlrs, evlrs_at, from_one, vlrs_bytes, evlrs_bytes, header_with, header_for, las_output}
 use Rattle.las_writer.proofs.HeaderSizes.{all_length, header_length, header_sizes, same_minor}
 use Rattle.las_writer.proofs.Bounded.{start_small, totals_small}
 use Rattle.las_round_trip.specs.RoundTrip.{IsWritten, written_point, FilesAreReadBack}
-use Rattle.las_round_trip.proofs.Parts.{record_some, all_held, all_counted, records_length, points_again, all_whole}
+use Rattle.las_round_trip.proofs.Parts.{NoneOut, record_some, all_held, all_counted, records_length, points_again, none_out_from, all_whole}
 
 no_fault : (form : LasForm) (t : Totals) → IsForm form → HasNoFault (header_with form t)
 unfolding header_with
@@ -215,7 +217,7 @@ points_counted form points w =
     ∙ count_is form points w
 
 -- all counted records are whole
-whole_is : (form : LasForm) (points : List Point) → IsWritten form points → whole_records (header_for form points) (las_output form points) ≡ length points
+pub whole_is : (form : LasForm) (points : List Point) → IsWritten form points → whole_records (header_for form points) (las_output form points) ≡ length points
 unfolding header_with
 whole_is form points w =
     let size = record_size form in
@@ -231,29 +233,52 @@ behind_lists form points w =
     let long : points_at form ≡ length (front ++ v) = omega (arith, front_length form points w, length-append front v) in
     ap (drop (points_at form)) (sym (append_assoc front v rest)) ∙ ap (λ n. drop n ((front ++ v) ++ rest)) long ∙ drop-append_seam (front ++ v) rest
 
-points_read : (form : LasForm) (points : List Point) → IsWritten form points → points_from (point_of (header_for form points)) (header_for form points).record_length 0 (length points) (drop (header_for form points).points_at (las_output form points)) ≡ map (written_point form) points
-unfolding header_with point_of
-points_read form points w =
+from_first : (form : LasForm) (points : List Point) → IsWritten form points → drop (record_size form * 0) (drop (points_at form) (las_output form points)) ≡ records form points ++ evlrs_bytes form
+from_first form points w =
     let none : record_size form * 0 ≡ 0 = omega arith in
-    points_again form (header_for form points) 0 points (drop (points_at form) (las_output form points)) (evlrs_bytes form) refl (all_held form points w.held)
-    (ap (λ n. drop n (drop (points_at form) (las_output form points))) none ∙ behind_lists form points w)
+    ap (λ n. drop n (drop (points_at form) (las_output form points))) none ∙ behind_lists form points w
 
-las_is : (form : LasForm) (points : List Point) → IsWritten form points → las_with (header_for form points) (las_output form points) ≡ record { points = map (written_point form) points; fault = None }
+-- the points that are read from the records in this way
+pub points_read : (form : LasForm) (points : List Point) (read : List ℕ → Point) → IsWritten form points
+    → points_from read (header_for form points).record_length 0 (length points) (drop (header_for form points).points_at (las_output form points)) ≡ map (λ p. read (point_record form p)) points
+unfolding header_with
+points_read form points read w =
+    points_again form read (record_size form) 0 points (drop (points_at form) (las_output form points)) (evlrs_bytes form) refl (all_held form points w.held) (from_first form points w)
+
+-- none of them has a value that no point holds
+pub none_out : (form : LasForm) (points : List Point) (fields : List ExtraField) → IsWritten form points → NoneOut form fields points
+    → out_from fields (header_for form points).record_length 0 (length points) (drop (header_for form points).points_at (las_output form points)) ≡ None
+unfolding header_with
+none_out form points fields w none =
+    none_out_from form fields (record_size form) 0 points (drop (points_at form) (las_output form points)) (evlrs_bytes form) refl (all_held form points w.held) none (from_first form points w)
+
+-- the fault of a file whose counted records are all whole
+pub uncut : (form : LasForm) (points : List Point) → IsWritten form points → cut_of (points_in (header_for form points)) (whole_records (header_for form points) (las_output form points)) ≡ None
+uncut form points w =
+    let n = length points in
+    (λ i. cut_of (points_counted form points w i) (whole_is form points w i)) ∙ ap (λ b. if b then None else Some (Cut n)) (eq-eqb n n refl)
+
+plain_points : (form : LasForm) (points : List Point) → map (λ p. point_of (header_for form points) (point_record form p)) points ≡ map (written_point form) points
+unfolding header_with point_of
+plain_points form points = refl
+
+las_is : (form : LasForm) (points : List Point) → IsWritten form points → las_with (header_for form points) [] (las_output form points) ≡ record { points = map (written_point form) points; fault = None }
 las_is form points w =
     let h = header_for form points in
     let file = las_output form points in
-    let n = length points in
-    let these : points_from (point_of h) h.record_length 0 (whole_records h file) (drop h.points_at file) ≡ map (written_point form) points = ap (λ m. points_from (point_of h) h.record_length 0 m (drop h.points_at file)) (whole_is form points w) ∙ points_read form points w in
-    let uncut : cut_of (points_in h) (whole_records h file) ≡ None = (λ i. cut_of (points_counted form points w i) (whole_is form points w i)) ∙ ap (λ b. if b then None else Some (Cut n)) (eq-eqb n n refl) in
-    λ i. record { points = these i; fault = uncut i }
+    let these : points_from (point_of h) h.record_length 0 (whole_records h file) (drop h.points_at file) ≡ map (written_point form) points =
+    ap (λ m. points_from (point_of h) h.record_length 0 m (drop h.points_at file)) (whole_is form points w) ∙ points_read form points (point_of h) w ∙ plain_points form points in
+    without_fields h file ∙ (λ i. record { points = these i; fault = uncut form points w i })
 
-pub files_again : FilesAreReadBack
-files_again form points w =
+-- what stands around the points of the file
+pub frame_again : (form : LasForm) (points : List Point) → IsWritten form points → frame_of (las_output form points) ≡ Ok (record { header = header_for form points; vlrs = file_vlrs form; evlrs = file_evlrs form })
+frame_again form points w =
     let h = header_for form points in
     let file = las_output form points in
-    let rest = vlrs_bytes form ++ (records form points ++ evlrs_bytes form) in
-    let frame : frame_of file ≡ Ok (record { header = h; vlrs = file_vlrs form; evlrs = file_evlrs form }) =
-    ap (λ r. r >>= (λ x. vlrs_in x file >>= (λ vs. evlrs_in x file >>= (λ es. Ok (record { header = x; vlrs = vs; evlrs = es }))))) (header_again form points rest w)
-    ∙ ap (λ r. r >>= (λ vs. evlrs_in h file >>= (λ es. Ok (record { header = h; vlrs = vs; evlrs = es })))) (list_again form points (records form points ++ evlrs_bytes form) w)
-    ∙ ap (λ r. r >>= (λ es. Ok (record { header = h; vlrs = file_vlrs form; evlrs = es }))) (extended_again form points w) in
-    ap (λ r. r >>= (λ f. Ok (las_with f.header file))) frame ∙ ap Ok (las_is form points w)
+    let behind = records form points ++ evlrs_bytes form in
+    ap (λ r. r >>= (λ x. vlrs_in x file >>= (λ vs. evlrs_in x file >>= (λ es. Ok (record { header = x; vlrs = vs; evlrs = es }))))) (header_again form points (vlrs_bytes form ++ behind) w)
+    ∙ ap (λ r. r >>= (λ vs. evlrs_in h file >>= (λ es. Ok (record { header = h; vlrs = vs; evlrs = es })))) (list_again form points behind w)
+    ∙ ap (λ r. r >>= (λ es. Ok (record { header = h; vlrs = file_vlrs form; evlrs = es }))) (extended_again form points w)
+
+pub files_again : FilesAreReadBack
+files_again form points w = ap (λ r. r >>= (λ f. Ok (las_with f.header [] (las_output form points)))) (frame_again form points w) ∙ ap Ok (las_is form points w)

@@ -16,7 +16,7 @@ use Rattle.run_report.specs.declared.refusal.Refusal.{Refusal}
 use Rattle.run_report.specs.declared.refusal.Refusal.TheVariants as of
 use Rattle.answer_model.specs.Steps.{why}
 use Rattle.answer_model.specs.Values.{LasFile, Ended, evaluated, least_from, role_at, unbound_at}
-use Rattle.answer_model.specs.Runs.{las_at, las_file_of, las_read, opened_in, run_of, run_over, run_with, unless_unbound, unless_unread, unread, unread_at}
+use Rattle.answer_model.specs.Runs.{opened_at, las_file_of, las_read, opened_in, run_of, run_over, run_with, unless_unbound, unless_unread, unread, unread_at}
 use Rattle.answer_model.proofs.Least.{found}
 use Rattle.network_core.specs.declared.stop.Stop.{Stop}
 use Rattle.run_engine.specs.Stopping.{IsCauseBy}
@@ -92,7 +92,7 @@ unread-absent m i (WritesEach name) p o e = cc
 unread-absent m i (Writes name) p o e = cc
 unread-absent m i (Reads name) p o e = go (m name) refl e
   where
-    go : (file : Option (List ℕ)) → m name ≡ file → why (las_at i file) ≡ Some (of.Device p o) → (o ≡ op.Open) × ((name : List ℕ) × (m name ≡ None))
+    go : (file : Option (List ℕ)) → m name ≡ file → why (opened_at i file) ≡ Some (of.Device p o) → (o ≡ op.Open) × ((name : List ℕ) × (m name ≡ None))
     go None is e = ((cc), (name, is))
     go (Some bytes) is e = absurd (no-fault i p o (las_file_of bytes) e)
 

@@ -1,5 +1,5 @@
 -- The names of dimensions in options.
-use Rattle.std.specs.Prelude.{ℕ, ℤ, pos, Bool, false, List, [], ◌∷◌, map, Option, Some, None, option_map, if◌then◌else◌}
+use Rattle.std.specs.Prelude.{ℕ, ◌≤◌, ⊤, ℤ, pos, Bool, false, List, [], ◌∷◌, length, map, Option, Some, None, option_map, if◌then◌else◌}
 use Rattle.std.specs.Int.{int_max}
 use Rattle.cloud_points.specs.declared.dims.Dim.{Dim}
 use Rattle.cloud_points.specs.ExtraNames.{dim_in}
@@ -9,6 +9,10 @@ use Rattle.expr_eval.specs.Bindings.{bound_dim, bound_in, bound_assign, dim_of, 
 use Rattle.expr_eval.specs.declared.assignment.Assignment.{Assignment}
 use Rattle.geo_tests.specs.declared.limits.Limit.{Limit}
 use Rattle.limits_text.specs.declared.shapes.NamedRange.{NamedRange}
+use Rattle.extra_bytes.specs.Asked.{asked_fault, asked_fields, asked_of}
+use Rattle.extra_bytes.specs.Fields.{AreLaid}
+use Rattle.option_texts.specs.declared.extra_dims.ExtraDims.{ExtraDims}
+use Rattle.option_texts.specs.declared.extra_dims.NamedField.{NamedField}
 use Rattle.option_texts.specs.declared.columns.NamedColumn.{NamedColumn}
 use Rattle.stage_names.specs.declared.faults.PipeFault.{PipeFault}
 use Rattle.stage_names.specs.declared.faults.PipeFault.TheVariants.{DimUnknown}
@@ -68,10 +72,16 @@ filter_refused i names has (FiltersAssign o) = assigns_refused i names has o.ass
 filter_refused i names has (FiltersExpression o) = refused i (bound_in has names o.expression)
 filter_refused i names has _ = None
 
+-- the extra dimensions that a writer is asked for, where the points that it takes have these dimensions
+abbrev pub asked_in : (Dim → Bool) → List (List ℕ) → Option ExtraDims → List NamedField
+asked_in has names None = []
+asked_in has names (Some dims) = asked_of has names dims
+
 -- the same of any stage, beside its `where`
 abbrev pub names_refused : ℕ → List (List ℕ) → (Dim → Bool) → Options → Option PipeFault
 names_refused i names has (FiltersSort o) = dim_refused i names has o.dimension
 names_refused i names has (FiltersGroupby o) = dim_refused i names has o.dimension
+names_refused i names has (WritersLas o) = asked_fault i has names (asked_in has names o.extra)
 names_refused i names has (WritersText o) = option_map (DimUnknown i) (first_unbound names has o.columns)
 names_refused i names has o = filter_refused i names has o
 
@@ -116,17 +126,23 @@ edge_of nano = int_max nano (pos 1)
 abbrev pub squares_of : SplitterOptions → Grid
 squares_of o = record { length = edge_of o.length; x = o.origin_x; y = o.origin_y }
 
--- what a stage does
-abbrev pub bound_with : List (List ℕ) → List Assignment → Options → BoundStage
-bound_with names ferries (ReadersLas o) = Reads
-bound_with names ferries (FiltersSort o) = Gathers (Sort (dim_of names o.dimension) o.down)
-bound_with names ferries (FiltersTail o) = Gathers (Tail o.count)
-bound_with names ferries (FiltersGroupby o) = Gathers (GroupBy (dim_of names o.dimension))
-bound_with names ferries (FiltersSplitter o) = Gathers (Squares (squares_of o))
-bound_with names ferries (FiltersVoxeldownsize o) = Gathers (Voxels (edge_of o.cell))
-bound_with names ferries (WritersLas o) = Writes (bound_where names o.only)
-bound_with names ferries (WritersText o) = Writes (bound_where names o.only)
-bound_with names ferries o = Filters (bound_filter names ferries o) (bound_where names (only_of o))
+-- what a stage does, where the points that it takes have these dimensions; the fields that a writer is asked for begin behind those of
+-- its format
+abbrev pub bound_with : (Dim → Bool) → List (List ℕ) → List Assignment → Options → BoundStage
+bound_with has names ferries (ReadersLas o) = Reads
+bound_with has names ferries (FiltersSort o) = Gathers (Sort (dim_of names o.dimension) o.down)
+bound_with has names ferries (FiltersTail o) = Gathers (Tail o.count)
+bound_with has names ferries (FiltersGroupby o) = Gathers (GroupBy (dim_of names o.dimension))
+bound_with has names ferries (FiltersSplitter o) = Gathers (Squares (squares_of o))
+bound_with has names ferries (FiltersVoxeldownsize o) = Gathers (Voxels (edge_of o.cell))
+bound_with has names ferries (WritersLas o) = Writes (bound_where names o.only) (asked_fields names 0 (asked_in has names o.extra))
+bound_with has names ferries (WritersText o) = Writes (bound_where names o.only) []
+bound_with has names ferries o = Filters (bound_filter names ferries o) (bound_where names (only_of o))
 
-abbrev pub bound_stage : List (List ℕ) → Options → BoundStage
-bound_stage names o = bound_with (names_behind names o) (ferries_bound names (ferries_in o)) o
+-- the fields that it writes are laid one right behind another
+abbrev pub IsLaidStage : BoundStage → Type 0
+IsLaidStage (Writes only fields) = AreLaid 0 fields × (length fields ≤ 8)
+IsLaidStage _ = ⊤
+
+abbrev pub bound_stage : (Dim → Bool) → List (List ℕ) → Options → BoundStage
+bound_stage has names o = bound_with has (names_behind names o) (ferries_bound names (ferries_in o)) o

@@ -1,10 +1,12 @@
 //! The names of dimensions in options.
 
-ghost use Rattle.std.specs.Prelude.{◌≡◌, ◌||◌, map, option_map, None, IfErr, IfOk, OnErr, OnOk};
+ghost use Rattle.std.specs.Prelude.{◌≡◌, ◌≤◌, ◌||◌, length, map, option_map, None, IfErr, IfOk, OnErr, OnOk};
 ghost use Rattle.cloud_points.specs.Layouts.{holds};
 ghost use Rattle.expr_eval.specs.Bindings.{bound_dim, bound_in, bound_assign, assign_of, dim_of as dim_named};
 ghost use Rattle.cloud_points.specs.declared.dims.Dim.{Dim as Dimension};
-ghost use Rattle.name_binding.specs.Binding.{is_bound, first_unbound, assigns_refused, ranges_refused, dim_refused, filter_refused, limit_of, where_refused, own_refused, binding_fault, bound, bound_where, bound_filter, edge_of, squares_of, bound_with, bound_stage};
+ghost use Rattle.extra_bytes.specs.Asked.{AreOwn, asked_fault, asked_fields};
+ghost use Rattle.extra_bytes.specs.Fields.{AreLaid};
+ghost use Rattle.name_binding.specs.Binding.{IsLaidStage, asked_in, is_bound, first_unbound, assigns_refused, ranges_refused, dim_refused, filter_refused, limit_of, where_refused, own_refused, binding_fault, bound, bound_where, bound_filter, edge_of, squares_of, bound_with, bound_stage};
 ghost use Rattle.name_binding.specs.Ferries.{names_behind, adds, AreBehindSome};
 ghost use Rattle.stage_options.specs.Ferries.{ferries_in};
 ghost use Rattle.name_binding.specs.Refusals.{refused};
@@ -13,13 +15,14 @@ ghost use Rattle.stage_names.specs.declared.faults.PipeFault.TheVariants.{DimUnk
 ghost use Rattle.stage_names.specs.Faults.{IsFaultOf};
 
 use crate::ferries::{bind_dim, bind_ferries, refusal, with_targets};
-use cloud_points::{Dim, ExtraNames, Layout, dim_of};
+use cloud_points::{Dim, ExtraNames, FieldList, Layout, dim_of};
 use expr_eval::{Assignment, Assignments, Bound, bind_assign, bind_expr};
 use expr_lang::{Assign, Expr};
+use extra_bytes::ask_fields;
 use file_devices::Name;
 use geo_tests::{Limit, Limits, Shape};
 use limits_text::NamedRange;
-use option_texts::{Groups, NamedColumn};
+use option_texts::{ExtraDims, Groups, NamedColumn};
 use stage_names::{PipeErr, PipeFault};
 use stage_options::{Options, SplitterOptions, name_from};
 use std::alloc::Global;
@@ -37,8 +40,9 @@ pub enum BoundStage {
     /// It needs whole views.
     Gathers(Gathering),
 
-    /// It writes a file of the points for which this condition holds; None is all.
-    Writes(Option<Bound>),
+    /// It writes a file of the points for which this condition holds; None is all. The records of a LAS file hold these extra
+    /// dimensions, the first of which begins behind the fields of the format.
+    Writes(Option<Bound>, FieldList),
 }
 
 /// A filter's options with dimensions in place of names, beside its `where`.
@@ -209,6 +213,24 @@ impl<'a> Binder<'a> {
         Err(PipeErr::Fault(PipeFault::DimUnknown(self.stage, name)))
     }
 
+    /// The fields of the extra dimensions that a writer is asked for. They begin behind those of its format.
+    fn extra(&self, dims: &Option<ExtraDims>) -> Result<FieldList, PipeErr>
+        ensures ok { IfOk result (λ fields. fields ≡ asked_fields self.now.names.now 0
+            (asked_in (holds self.now.layout.now) self.now.names.now dims.now)) }
+        ensures none { OnOk result (asked_fault self.now.stage (holds self.now.layout.now) self.now.names.now
+            (asked_in (holds self.now.layout.now) self.now.names.now dims.now) ≡ None) }
+        ensures fault { IfErr result (IsFaultOf
+            (asked_fault self.now.stage (holds self.now.layout.now) self.now.names.now
+            (asked_in (holds self.now.layout.now) self.now.names.now dims.now))) }
+        ensures laid { AreOwn self.now.names.now → IfOk result (AreLaid 0) }
+        ensures few { IfOk result (λ fields. length fields ≤ 8) }
+    {
+        match dims {
+            Some(dims) => ask_fields(self.alloc, dims, self.names, self.layout, self.stage, 0),
+            None => Ok(FieldList::none(self.alloc)),
+        }
+    }
+
     /// Looks whether each column is a dimension.
     fn columns(&self, columns: &[NamedColumn]) -> Result<(), PipeErr>
         ensures none { OnOk result (first_unbound self.now.names.now (holds self.now.layout.now) columns.now
@@ -283,11 +305,13 @@ impl<'a> Binder<'a> {
 
     /// What a stage with these options does, where these are its ferries.
     fn stage(&self, options: &Options, ferries: Assignments) -> Result<BoundStage, PipeErr>
-        ensures bound { IfOk result (λ b. b ≡ bound_with self.now.names.now ferries options.now) }
+        ensures bound { IfOk result (λ b. b ≡ bound_with (holds self.now.layout.now) self.now.names.now ferries
+            options.now) }
         ensures ok { OnOk result (own_refused self.now.stage self.now.names.now (holds self.now.layout.now)
             options.now ≡ None) }
         ensures fault { IfErr result (IsFaultOf
             (own_refused self.now.stage self.now.names.now (holds self.now.layout.now) options.now)) }
+        ensures laid { AreOwn self.now.names.now → IfOk result IsLaidStage }
     {
         Ok(match options {
             Options::ReadersLas(_) => BoundStage::Reads,
@@ -302,10 +326,13 @@ impl<'a> Binder<'a> {
             Options::FiltersVoxeldownsize(o) => BoundStage::Gathers(Gathering::Voxels(edge_of(
                 o.cell,
             ))),
-            Options::WritersLas(_) => BoundStage::Writes(self.only(options)?),
+            Options::WritersLas(o) => {
+                let extra = self.extra(&o.extra)?;
+                BoundStage::Writes(self.only(options)?, extra)
+            }
             Options::WritersText(o) => {
                 self.columns(o.columns.as_slice())?;
-                BoundStage::Writes(self.only(options)?)
+                BoundStage::Writes(self.only(options)?, FieldList::none(self.alloc))
             }
             _ => {
                 let filter = self.filter(options, ferries)?;
@@ -331,8 +358,10 @@ pub fn bind(
     layout: &mut Layout,
     names: &mut ExtraNames,
 ) -> Result<BoundStage, PipeErr>
-    ensures bound { IfOk result (λ b. b ≡ bound_stage names.old options.now) }
+    ensures bound { IfOk result (λ b. b ≡ bound_stage (holds layout.old) names.old options.now) }
     ensures names { OnOk result (names.new ≡ names_behind names.old options.now) }
+    ensures own { OnOk result (AreOwn names.old → AreOwn names.new) }
+    ensures laid { AreOwn names.old → IfOk result IsLaidStage }
     ensures layout { OnOk result ((dim : Dimension)
         → holds layout.new dim ≡ (holds layout.old dim || adds names.old options.now dim)) }
     ensures ok { OnOk result (binding_fault i names.old (holds layout.old) options.now ≡ None) }

@@ -1,8 +1,15 @@
-//! All places of a coordinate, and the lists of a file.
+//! All places of a coordinate, the lists of a file, and extra dimensions.
 
-use cloud_points::{Make, Spread};
-use file_devices::MemIn;
-use las_reader::{LasReader, cut_is_the_first, steps_come_to_the_end, steps_give_file};
+ghost use Rattle.std.specs.Prelude.{◌+◌, ◌≤◌, All, IfOk};
+ghost use Rattle.cloud_points.specs.ExtraFields.{kind_size};
+
+use cloud_points::{Dim, ExtraField, ExtraKind, FieldList, Make, PointFault, Spread, StageFault};
+use decimal_coords::Scale;
+use file_devices::{MemIn, Name};
+use las_reader::{
+    LasReader, cut_is_the_first, steps_come_to_the_end, steps_give_file, steps_stay_within,
+    without_fields,
+};
 use las_vlr::VlrList;
 use recorded_files::two_points;
 use std::alloc::{AllocError, Global};
@@ -51,6 +58,8 @@ fn an_offset_may_be_a_third(rt: HostRuntime) -> Result<(), Fail> {
     steps_give_file();
     steps_come_to_the_end();
     cut_is_the_first();
+    steps_stay_within();
+    without_fields();
     Ok(())
 }
 
@@ -96,6 +105,89 @@ fn the_lists_of_a_file_are_given(rt: HostRuntime) -> Result<(), Fail> {
     assert!(rt; reader.header().points() == 2);
     assert!(rt; only(reader.vlrs()) == Some((7, b"plain\0\0\0".as_slice(), b"abc".as_slice())));
     assert!(rt; only(reader.evlrs()) == Some((8, b"extended".as_slice(), b"de".as_slice())));
+    drop(reader.release());
+    Ok(())
+}
+
+/// The file of two points, with eight bytes more in each record: these numbers.
+fn with_numbers(alloc: Global, first: i64, second: i64) -> Result<Vec<u8>, Fail> {
+    let whole = two_points();
+    let mut las = patched(alloc, &whole, &[(105, &[28])])?;
+    las.truncate(395);
+    las.extend_from_slice(&first.to_le_bytes())?;
+    las.extend_from_slice(whole.get(395..).ok_or("no record")?)?;
+    las.extend_from_slice(&second.to_le_bytes())?;
+    Ok(las)
+}
+
+/// A field of hundredths at byte 20 of records of 28 bytes, for the fourth of the extra dimensions.
+fn hundredths(alloc: Global) -> Result<FieldList, Fail>
+    ensures within { IfOk result (λ fields. All (λ f. f.at + kind_size f.kind ≤ 28) fields) }
+    ensures places { IfOk result (λ fields. All (λ f. f.place ≤ 7) fields) }
+{
+    let scale = Scale::new(10_000_000).ok_or("no scale")?;
+    let name = Name::new(String::from_str(alloc, "Height")?);
+    let mut fields = Vec::new(alloc);
+    fields.push(ExtraField {
+        name,
+        place: 3,
+        kind: ExtraKind::I64,
+        at: 20,
+        scale,
+        offset: 0,
+    })?;
+    Ok(FieldList::new(fields))
+}
+
+/// The values of the fourth extra dimension in a spread, from the last on.
+fn fourths(points: &Spread) -> (i64, i64) {
+    let mut last = 0;
+    let mut before = 0;
+    for point in points {
+        before = last;
+        last = point.extra[3];
+    }
+    (last, before)
+}
+
+#[test]
+fn extra_dimensions_are_read(rt: HostRuntime) -> Result<(), Fail> {
+    let alloc = rt.alloc();
+    let las = with_numbers(alloc, 250, -1)?;
+    let fields = hundredths(alloc)?;
+    let Ok(mut reader) = LasReader::begin(alloc, source(alloc, &las)?) else {
+        return Err(Fail::from("refused"));
+    };
+    if reader.header().record_length == 28 {
+        reader.set_fields(fields);
+    }
+    let mut points = Spread::new();
+    assert!(rt; reader.next(2, &mut points) == Make::Points);
+    assert!(rt; points.len() == 2);
+    assert!(rt; fourths(&points) == (-10_000_000, 2_500_000_000));
+    assert!(rt; reader.next(2, &mut points) == Make::EndView);
+    drop(reader.release());
+    Ok(())
+}
+
+#[test]
+fn a_value_out_of_range_ends_a_file(rt: HostRuntime) -> Result<(), Fail> {
+    let alloc = rt.alloc();
+    let las = with_numbers(alloc, 400_000_000_000, 400_000_000_001)?;
+    let fields = hundredths(alloc)?;
+    let Ok(mut reader) = LasReader::begin(alloc, source(alloc, &las)?) else {
+        return Err(Fail::from("refused"));
+    };
+    if reader.header().record_length == 28 {
+        reader.set_fields(fields);
+    }
+    let mut points = Spread::new();
+    assert!(rt; reader.next(2, &mut points) == Make::Points);
+    assert!(rt; points.len() == 1);
+    assert!(rt; fourths(&points) == (4_000_000_000_000_000_000, 0));
+    let fault = StageFault::Point(PointFault::ValueOutOfRange(1, Dim::Extra(3)));
+    assert!(rt; reader.next(2, &mut points) == Make::End(true, Some(fault)));
+    assert!(rt; reader.next(2, &mut points) == Make::End(true, None));
     drop(reader.release());
     Ok(())
 }

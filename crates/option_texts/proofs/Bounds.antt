@@ -1,5 +1,5 @@
--- The columns and fields that a text lists are few, and have one digit each.
-use Rattle.std.proofs.Common.{◌≡◌, ℕ, suc, ◌-◌, ◌≤◌, nat_le, Bool, true, false, List, [], ◌∷◌, length, Option, Some, None, IfSome, All, if◌then◌else◌, option_and_then, option_map, refl, sym, ap, subst, arith, leb-true}
+-- The columns and fields that a text lists are few, and have one digit each, and ferries go to names.
+use Rattle.std.proofs.Common.{◌≡◌, ℕ, suc, ◌-◌, ◌≤◌, ◌==◌, ◌&&◌, nat_le, Bool, true, false, List, [], ◌∷◌, length, Option, Some, None, IfSome, All, if◌then◌else◌, option_and_then, option_map, refl, sym, ap, subst, arith, leb-true}
 use Rattle.std.proofs.lemmas.Option.{none-some, same_Some}
 use Rattle.std.proofs.lemmas.List.Elements.{All-cons, All-nil}
 use Rattle.std.proofs.lemmas.Bool.{and_parts}
@@ -11,7 +11,8 @@ use Rattle.option_texts.specs.declared.extra_dims.NamedField.{NamedField}
 use Rattle.option_texts.specs.Parts.{parts_of, each_read, trimmed}
 use Rattle.text_bytes.specs.Bytes.{is_name}
 use Rattle.option_texts.specs.Columns.{digit_of, column_with, column_of, columns_of, AreColumns, has_colon, is_colon}
-use Rattle.option_texts.specs.Ferries.{has_equals, is_equals}
+use Rattle.option_texts.specs.Ferries.{AreFerries, ferries_of, ferry_behind, ferry_of, ferry_with, has_equals, is_equals}
+use Rattle.option_texts.specs.declared.ferries.NamedFerry.{NamedFerry}
 use Rattle.option_texts.specs.NamedFields.{kind_called, field_with, field_typed, field_asked, are_different, AreFields}
 
 both_read : {X : Type 0} (o : Option X) (r : Option (List X)) (xs : List X) → option_and_then (λ x. option_map (λ ys. x ∷ ys) r) o ≡ Some xs
@@ -69,6 +70,35 @@ are_columns text columns e = by_count (nat_le (length (parts_of text)) 64) refl 
         let (count, near) = each_all column_of (λ c. IfSome c.places (λ n. n ≤ 9)) near_column (parts_of text) columns e in
         record { few = subst (λ n. n ≤ 64) (sym count) (leb-true (length (parts_of text)) 64 is); near = near }
     by_count false is e = absurd (none-some columns e)
+
+-- ---- ferries
+
+ferry_named : (from to : List ℕ) (a b : Bool) (f : NamedFerry) → is_name to ≡ b → (if a && b then Some (record { from = from; to = to }) else None) ≡ Some f → is_name f.to ≡ true
+ferry_named from to true true f named e = subst (λ (g : NamedFerry). is_name g.to ≡ true) (same_Some (record { from = from; to = to }) f e) named
+ferry_named from to true false f named e = absurd (none-some f e)
+ferry_named from to false b f named e = absurd (none-some f e)
+
+behind_named : (from behind : List ℕ) (f : NamedFerry) → ferry_behind from behind ≡ Some f → is_name f.to ≡ true
+behind_named from [] f e = absurd (none-some f e)
+behind_named from (b ∷ to) f e = by_arrow (b == 62) e
+  where
+    by_arrow : (is : Bool) → (if is then ferry_with from (trimmed to) else None) ≡ Some f → is_name f.to ≡ true
+    by_arrow true e = ferry_named from (trimmed to) (is_name from) (is_name (trimmed to)) f refl e
+    by_arrow false e = absurd (none-some f e)
+
+part_named : (part : List ℕ) (f : NamedFerry) → ferry_of part ≡ Some f → is_name f.to ≡ true
+part_named part f e = by_equals (has_equals part) e
+  where
+    by_equals : (has : Bool) → (if has then ferry_behind (trimmed (before_first is_equals part)) (after_first is_equals part) else None) ≡ Some f → is_name f.to ≡ true
+    by_equals true e = behind_named (trimmed (before_first is_equals part)) (after_first is_equals part) f e
+    by_equals false e = absurd (none-some f e)
+
+pub are_ferries : (text : List ℕ) (ferries : List NamedFerry) → ferries_of text ≡ Some ferries → AreFerries ferries
+are_ferries text ferries e = by_count (nat_le (length (parts_of text)) 64) e
+  where
+    by_count : (few : Bool) → (if few then each_read ferry_of (parts_of text) else None) ≡ Some ferries → AreFerries ferries
+    by_count true e = (each_all ferry_of (λ f. is_name f.to ≡ true) part_named (parts_of text) ferries e).1
+    by_count false e = absurd (none-some ferries e)
 
 -- ---- fields of extra dimensions
 

@@ -1,6 +1,6 @@
 -- The text of ferries.
-use Rattle.std.specs.Prelude.{ℕ, Bool, ◌&&◌, ◌==◌, nat_le, nat_lt, List, [], ◌∷◌, length, Option, Some, None, if◌then◌else◌}
-use Rattle.std.specs.List.{position_or_len, before_first, after_first}
+use Rattle.std.specs.Prelude.{ℕ, ◌≡◌, Bool, true, ◌&&◌, ◌==◌, nat_le, nat_lt, List, [], ◌∷◌, length, Option, Some, None, if◌then◌else◌}
+use Rattle.std.specs.List.{All, position_or_len, before_first, after_first}
 use Rattle.option_texts.specs.declared.ferries.NamedFerry.{NamedFerry}
 use Rattle.option_texts.specs.Parts.{trimmed, parts_of, each_read}
 use Rattle.text_bytes.specs.Bytes.{is_name}
@@ -23,6 +23,10 @@ ferry_behind from (b ∷ to) = if b == 62 then ferry_with from (trimmed to) else
 -- `FROM => TO`
 abbrev pub ferry_of : List ℕ → Option NamedFerry
 ferry_of part = if has_equals part then ferry_behind (trimmed (before_first is_equals part)) (after_first is_equals part) else None
+
+-- ferries to names
+abbrev pub AreFerries : List NamedFerry → Type 0
+AreFerries ferries = All (λ (f : NamedFerry). is_name f.to ≡ true) ferries
 
 -- 64 ferries at most
 abbrev pub ferries_of : List ℕ → Option (List NamedFerry)

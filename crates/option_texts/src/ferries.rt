@@ -1,7 +1,7 @@
 //! Ferries: from which dimension a value goes to which.
 
 ghost use Rattle.std.specs.Prelude.{◌≡◌, [], Some, None, MatchOption, IfOk};
-ghost use Rattle.option_texts.specs.Ferries.{ferry_with, ferry_of, ferries_of};
+ghost use Rattle.option_texts.specs.Ferries.{AreFerries, ferry_with, ferry_of, ferries_of};
 
 use crate::parts::{ListPart, MOST_PARTS, has_few_parts, read_all, trimmed};
 use file_devices::Name;
@@ -18,7 +18,7 @@ pub struct NamedFerry {
     pub to: Name,
 }
 
-/// The ferries of a text, at most 64, which contracts see as a list.
+/// The ferries of a text, at most 64, each to a name, which contracts see as a list.
 #[derive(Drop)]
 pub struct NamedFerries {
     items: Vec<NamedFerry>,
@@ -26,11 +26,14 @@ pub struct NamedFerries {
 
 impl Model for NamedFerries {
     ghost use Rattle.std.specs.Prelude.{List};
+    ghost use Rattle.option_texts.specs.Ferries.{AreFerries};
     ghost use Rattle.option_texts.specs.declared.ferries.NamedFerry.{NamedFerry as FerrySeen};
 
     ghost Value = { List FerrySeen };
 
     ghost view = { λ l. l.items.items };
+
+    ghost invariant = { λ l. AreFerries l.items.items };
 }
 
 impl NamedFerries {
@@ -45,7 +48,8 @@ impl NamedFerries {
 
     /// The ferries, in the order in which they go.
     pub fn as_slice(&self) -> &[NamedFerry]
-        ensures { result.now ≡ self.now }
+        ensures ferries { result.now ≡ self.now }
+        ensures named { AreFerries result.now }
     {
         self.items.as_slice()
     }

@@ -219,7 +219,7 @@ kept-form stages opened i x flow e = go (form_for (options_at stages i) (setting
     go (form.Gathers (Made g)) e = absurd (none-some _ e)
     go (form.Filters f) e = absurd (none-some _ e)
     go (form.Writes y) e = absurd (none-some _ e)
-    go form.Reads e = absurd (none-some _ e)
+    go (form.Reads fields) e = absurd (none-some _ e)
 
 -- a writer of one file has one output
 one-output : (i : ℕ) (role : Role) (bytes : List ℕ) → is_writing role ≡ true → (o : Output) × (written i role bytes ≡ o ∷ []) × (o.stage ≡ i)

@@ -43,7 +43,7 @@ module _ (stages : List StageSpec) (opened : Opened) where
       no-each (role.WritesEach name) e = absurd (true≢false (sym e))
 
       go : (form : StageForm) → IsRow form (options_at stages i) (setting_at stages opened i) → flat_map (kept_files stages) (kept_at i (kept_for form (stage_value stages opened i))) ≡ outputs_at stages opened i
-      go Reads row = sym (no-each (role_at stages i) row.0)
+      go (Reads fields) row = sym (no-each (role_at stages i) row.0)
       go (Filters f) row = sym (ap (λ r. written_each i r (row_at stages opened i) (stage_value stages opened i)) row.does)
       go (Writes x) row = sym (ap (λ r. written_each i r (row_at stages opened i) (stage_value stages opened i)) row.does)
       go (Gathers (Made g)) row = sym (ap (λ r. written_each i r (row_at stages opened i) (stage_value stages opened i)) row.1)

@@ -1,12 +1,12 @@
 -- The works of stages over their readers and forms, and names that are bound.
-use Rattle.std.proofs.Common.{◌≡◌, ℕ, List, length, Option, Some, None, refl, ap, sym, ◌∙◌, arith}
+use Rattle.std.proofs.Common.{◌≡◌, ℕ, List, [], length, Option, Some, None, refl, ap, sym, ◌∙◌, arith}
 use Rattle.std.proofs.lemmas.Option.{none-some, same_Some, slice_get_within, get_or_from_slice_get}
 use Rattle.held_devices.proofs.Lists.{some_at}
 use Rattle.file_devices.specs.Named.{Names}
 use Rattle.file_devices.specs.declared.devices.Source as source
 use Rattle.file_devices.specs.declared.devices.Sink as sink
 use Rattle.las_reader.specs.declared.reader.LasReader.{LasReader}
-use Rattle.stage_forms.specs.Below.{HaveReaders, Tells}
+use Rattle.stage_forms.specs.Below.{HaveReaders, Tells, read_of}
 use Rattle.stage_kinds.specs.declared.file_form.StageForm.{StageForm}
 use Rattle.stage_kinds.specs.declared.file_form.StageForm.TheVariants.{Reads}
 use Rattle.stage_kinds.specs.declared.stage_work.StageWork.{StageWork}
@@ -17,7 +17,7 @@ use Rattle.run_report.specs.declared.refusal.Refusal.TheVariants as of
 use Rattle.answer_model.specs.Values.{role_at, setting_at, evaluated}
 use Rattle.answer_model.specs.Runs.{AreRead, opened_in, unless_unbound, run_with, holds}
 use Rattle.stage_forms.specs.Starts.{AreAtStart}
-use Rattle.run_opening.specs.Begun.{AreOpened, AreBegun, AreForms, AreNamesBound, IsUnbound, reader_of}
+use Rattle.run_opening.specs.Begun.{AreOpened, AreBegun, AreForms, AreNamesBound, IsUnbound, read_with, reader_of}
 use Rattle.run_outcome.specs.Cause.{CanBegin, IsCause, IsEarly}
 use Rattle.run_opening.specs.Opening.{IsBeforePoints}
 use Rattle.run_opening.specs.Ready.{AreReady}
@@ -28,13 +28,14 @@ use Rattle.run_opening.proofs.Opening.{are-read, have-readers}
 tells-there : {S : Type 0} (s : source.Ghosts S) (m : Names) (stages : List StageSpec) (i : ℕ) (r : LasReader S) → Tells s (λ j. holds m j (role_at stages i)) i r → Tells s (opened_in m stages) i r
 tells-there s m stages i r t = record { file = t.file; told = t.told; holds = t.holds }
 
-is-reader : {S K : Type 0} (w : StageWork S K) (r : LasReader S) → reader_of w ≡ Some r → w ≡ Reader r
-is-reader (Reader q) r e = ap Reader (same_Some q r e)
-is-reader (Filter f) r e = absurd (none-some r e)
-is-reader (Collector c) r e = absurd (none-some r e)
-is-reader (Views h) r e = absurd (none-some r e)
-is-reader (ViewFiles t) r e = absurd (none-some r e)
-is-reader (Writer v) r e = absurd (none-some r e)
+-- a work with the file of a reader is a reader of that file
+is-reader : {S K : Type 0} (w : StageWork S K) (r : LasReader S) → read_with (reader_of w) ≡ Some (read_of r) → (q : LasReader S) × (w ≡ Reader q) × (read_of q ≡ read_of r)
+is-reader (Reader q) r e = (q, refl, same_Some (read_of q) (read_of r) e)
+is-reader (Filter f) r e = absurd (none-some (read_of r) e)
+is-reader (Collector c) r e = absurd (none-some (read_of r) e)
+is-reader (Views h) r e = absurd (none-some (read_of r) e)
+is-reader (ViewFiles t) r e = absurd (none-some (read_of r) e)
+is-reader (Writer v) r e = absurd (none-some (read_of r) e)
 
 -- works over readers and forms are at their start
 pub are-at-start : {S K : Type 0} (s : source.Ghosts S) (k : sink.Ghosts K) (map : Option Names) (stages : List StageSpec) (readers : List (Option (LasReader S))) (forms : List StageForm) (works : List (StageWork S K))
@@ -42,14 +43,14 @@ pub are-at-start : {S K : Type 0} (s : source.Ghosts S) (k : sink.Ghosts K) (map
 are-at-start {S} {K} s k map stages readers forms works a b c are begun opened have i w e =
     let inside = slice_get_within works i w e in
     let form = some_at forms i (omega (arith, a, c, inside)) in
-    (begun i w e).start (setting_at stages opened i) (get_or_from_slice_get forms i form.0 Reads form.1 ∙ are opened have_readers i form.0 form.1)
+    (begun i w e).start (setting_at stages opened i) (get_or_from_slice_get forms i form.0 (Reads []) form.1 ∙ are opened have_readers i form.0 form.1)
   where
     have_readers : HaveReaders readers opened
     have_readers j r f =
         let there = slice_get_within readers j (Some r) f in
         let v = some_at works j (omega (arith, a, b, there)) in
-        let is = is-reader v.0 r ((begun j v.0 v.1).same ∙ get_or_from_slice_get readers j (Some r) None f) in
-        have j r (v.1 ∙ ap (λ x. Some x) is)
+        let is = is-reader v.0 r ((begun j v.0 v.1).same ∙ ap read_with (get_or_from_slice_get readers j (Some r) None f)) in
+        have j is.0 (v.1 ∙ ap (λ x. Some x) is.1) ∙ is.2
 
 -- the fault of the first stage whose options name another dimension is the answer, where all files are read
 pub unbound-cause : {S : Type 0} (rose : Type 0) (map : Option Names) (stages : List StageSpec) (readers : List (Option (LasReader S))) (refusal : Refusal)

@@ -1,5 +1,5 @@
 -- The readers of the first stages are opened.
-use Rattle.std.proofs.Common.{◌≡◌, ℕ, ◌<◌, List, [], length, Option, Some, None, is_some, Err, IsOk, refl, ap, sym, subst, ◌∙◌, arith, inl, inr, true, false, true≢false}
+use Rattle.std.proofs.Common.{◌≡◌, ℕ, ◌<◌, ◌≤◌, List, [], length, Option, Some, None, is_some, Err, IsOk, refl, ap, sym, subst, ◌∙◌, arith, inl, inr, true, false, true≢false}
 use Rattle.std.specs.Prelude.{⊤}
 use Rattle.held_devices.proofs.Lists.{some_at}
 use Rattle.file_devices.specs.Named.{Names}
@@ -7,10 +7,15 @@ use Rattle.file_devices.specs.declared.devices.Op.{Op}
 use Rattle.file_devices.specs.declared.devices.Op.TheVariants as op
 use Rattle.file_devices.specs.declared.devices.Source as source
 use Rattle.file_devices.specs.declared.devices.Sink as sink
+use Rattle.cloud_points.specs.declared.extra.ExtraField.{ExtraField}
+use Rattle.forward_rules.specs.Forwarded.{read_file}
+use Rattle.las_header.specs.declared.block.Header.{Header}
+use Rattle.las_reader.specs.Files.{las_with}
 use Rattle.las_reader.specs.declared.reader.LasReader.{LasReader}
 use Rattle.answer_model.specs.Rows.{Setting}
-use Rattle.stage_forms.specs.Below.{AreReaders, HaveReaders, Tells}
+use Rattle.stage_forms.specs.Below.{AreReaders, HaveReaders, Tells, read_of}
 use Rattle.stage_kinds.specs.declared.file_form.StageForm.{StageForm}
+use Rattle.stage_kinds.specs.declared.file_form.StageForm.TheVariants as formed
 use Rattle.stage_kinds.specs.declared.stage_work.StageWork.{StageWork}
 use Rattle.stage_kinds.specs.declared.stage_work.StageWork.TheVariants.{Reader, Filter, Collector, Views, ViewFiles, Writer}
 use Rattle.stage_kinds.specs.Held.{op_of}
@@ -22,10 +27,10 @@ use Rattle.run_report.specs.declared.refusal.Refusal.TheVariants as of
 use Rattle.run_report.specs.declared.refusal.Place.TheVariants as at
 use Rattle.answer_model.specs.Values.{LasFile, role_at}
 use Rattle.answer_model.specs.Runs.{AreRead, holds, unread, unread_at, unless_unread, run_over, run_of, opened_in}
-use Rattle.stage_forms.specs.Starts.{IsAtStart, form_for, op_for}
+use Rattle.stage_forms.specs.Starts.{IsAtStart, IsStarted, form_for, op_for}
 use Rattle.stage_forms.proofs.Works.{op-at-start, reader-start}
 use Rattle.answer_model.proofs.Least.{least-at}
-use Rattle.run_opening.specs.Begun.{IsInFront, IsReading, IsOpened, AreOpened, IsWork, reader_of}
+use Rattle.run_opening.specs.Begun.{IsInFront, IsReading, IsOpened, AreOpened, IsWork, read_with, reader_of}
 use Rattle.run_outcome.specs.Cause.{CanBegin, IsCause, AtRole}
 use Rattle.run_opening.specs.Headers.{header_at}
 use Rattle.run_opening.specs.Opening.{IsUnopened}
@@ -113,28 +118,44 @@ module _ {S : Type 0} (s : source.Ghosts S) (map : Option Names) (i : ℕ) where
   reader-there (Writes name) (Some r) h = absurd h
   reader-there (Writes name) None h = refl
 
--- an opened reader is the work of its stage
-pub reader-work : {S K : Type 0} (s : source.Ghosts S) (k : sink.Ghosts K) (map : Option Names) (i : ℕ) (o : Options) (r : LasReader S) (form : StageForm) → IsOpened s map i (role_of o) (Some r) → IsWork s k map i o (Some r) form (Reader r)
-reader-work {S} {K} s k map i o r form is = record {
-  same = refl;
-  start = λ setting e. reader-start s k.bytes o setting r (opened.0) (opened.1.start);
-  device = op-at-start s k.bytes o nowhere (Reader r) (reader-start s k.bytes o nowhere r (opened.0) (opened.1.start));
-  tells = λ m e q w. (let same : r ≡ q = cc in subst (λ (x : LasReader S). Tells s (λ j. holds m j (role_of o)) i x) same (opened.1.tells m e));
-  front = λ q w. (let same : r ≡ q = cc in subst (λ (x : LasReader S). IsInFront s.reached x) same opened.1.front);
-  header = λ m e q w. (let same : r ≡ q = cc in subst (λ (x : LasReader S). header_at m (role_of o) ≡ Some x.header) same (opened.1.header m e));
+-- an opened reader that takes these fields is the work of its stage
+pub reader-work : {S K : Type 0} (s : source.Ghosts S) (k : sink.Ghosts K) (map : Option Names) (i : ℕ) (o : Options) (r q : LasReader S) (fields : List ExtraField) → IsOpened s map i (role_of o) (Some r)
+    → q.source ≡ r.source → q.header ≡ r.header → q.vlrs ≡ r.vlrs → q.evlrs ≡ r.evlrs → q.progress ≡ r.progress → q.fields ≡ fields → IsWork s k map i o (Some r) (formed.Reads fields) (Reader q)
+reader-work {S} {K} s k map i o r q fields is source header vlrs evlrs progress taken = record {
+  same = ap (λ f. Some f) same;
+  start = λ setting e. subst (λ form. IsStarted {S = S} {K = K} k.bytes form (Reader q)) e (progress ∙ opened.1.start, taken);
+  device = op-at-start s k.bytes o nowhere (Reader q) (reader-start s k.bytes o nowhere q (opened.0) (progress ∙ opened.1.start) taken);
+  tells = λ m e x w. (let also : q ≡ x = cc in subst (λ (x : LasReader S). Tells s (λ j. holds m j (role_of o)) i x) also (told m e));
+  front = λ x w. (let also : q ≡ x = cc in subst (λ (x : LasReader S). IsInFront s.reached x) also in-front);
+  header = λ m e x w. (let also : q ≡ x = cc in subst (λ (x : LasReader S). header_at m (role_of o) ≡ Some x.header) also (opened.1.header m e ∙ ap (λ h. Some h) (sym header)));
 }
   where
     nowhere : Setting
-    nowhere = record { names = []; reads = [] }
+    nowhere = record { names = []; reads = []; dims = λ dim. false; fields = fields }
 
     opened : (is_reading (role_of o) ≡ true) × IsReading s map i (role_of o) r
     opened = by-reader s map i (role_of o) r is
+
+    same : read_of q ≡ read_of r
+    same = ap (λ h. read_file h q.vlrs q.evlrs) header ∙ ap (λ l. read_file r.header l q.evlrs) vlrs ∙ ap (read_file r.header r.vlrs) evlrs
+
+    told : (m : Names) → map ≡ Some m → Tells s (λ j. holds m j (role_of o)) i q
+    told m e =
+        let t = opened.1.tells m e in
+        record {
+          file = t.file;
+          told = ap s.bytes source ∙ t.told;
+          holds = t.holds ∙ ap (λ f. record { read = f; las = λ fields. las_with r.header fields t.file }) (sym same) ∙ ap (λ h. record { read = read_of q; las = λ fields. las_with h fields t.file }) (sym header);
+        }
+
+    in-front : IsInFront s.reached q
+    in-front = λ none. subst (λ (h : Header). s.reached q.source ≤ h.points_at) (sym header) (subst (λ x. s.reached x ≤ r.header.points_at) (sym source) (opened.1.front (ap (λ (h : Header). h.evlrs) (sym header) ∙ none)))
 
 -- a work that is no reader's is that of a stage that doesn't read
 pub other-work : {S K : Type 0} (s : source.Ghosts S) (k : sink.Ghosts K) (map : Option Names) (i : ℕ) (o : Options) (form : StageForm) (w : StageWork S K) → is_reading (role_of o) ≡ false
     → op_of w ≡ op_for (role_of o) → ((setting : Setting) → form ≡ form_for o setting → IsAtStart k.bytes o setting w) → IsWork s k map i o None form w
 other-work {S} {K} s k map i o form w inner device start = record {
-  same = no_reader w device;
+  same = ap read_with (no_reader w device);
   start = start;
   device = device;
   tells = λ m e r is. absurd (reads_not (role_of o) inner (ap op_of (sym is) ∙ device));

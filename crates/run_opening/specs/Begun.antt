@@ -1,10 +1,13 @@
 -- The stages of a tree before their first turn.
-use Rattle.std.specs.Prelude.{◌≡◌, ℕ, ◌<◌, ◌≤◌, List, length, slice_get, slice_index_or, true, false, Option, Some, None, ⊤}
+use Rattle.std.specs.Prelude.{◌≡◌, ℕ, ◌<◌, ◌≤◌, List, [], length, slice_get, slice_index_or, true, false, Option, Some, None, option_map, ⊤}
 use Rattle.file_devices.specs.Named.{Names}
 use Rattle.file_devices.specs.declared.devices.Source as source
 use Rattle.file_devices.specs.declared.devices.Sink as sink
+use Rattle.cloud_points.specs.declared.extra.ExtraField.{ExtraField}
 use Rattle.las_reader.specs.declared.reader.LasReader.{LasReader}
 use Rattle.las_reader.specs.declared.reader.Progress.TheVariants.{Records}
+use Rattle.las_reader.specs.Lists.{AreFields}
+use Rattle.forward_rules.specs.Forwarded.{ReadFile}
 use Rattle.stage_kinds.specs.declared.stage_work.StageWork.{StageWork}
 use Rattle.stage_kinds.specs.declared.stage_work.StageWork.TheVariants.{Reader}
 use Rattle.stage_kinds.specs.declared.file_form.StageForm.{StageForm}
@@ -15,7 +18,7 @@ use Rattle.stage_kinds.specs.Makings.{IsGoodMaking}
 use Rattle.run_opening.specs.Headers.{header_at}
 use Rattle.run_report.specs.declared.refusal.Refusal.{Refusal}
 use Rattle.run_report.specs.declared.refusal.Refusal.TheVariants.{Memory, Pipeline}
-use Rattle.stage_forms.specs.Below.{HaveReaders, Tells}
+use Rattle.stage_forms.specs.Below.{HaveReaders, Tells, read_of}
 use Rattle.stage_options.specs.Roles.{Role, Reads, Filters, role_of, is_reading, is_writing}
 use Rattle.stage_options.specs.declared.options.Options.{Options}
 use Rattle.stage_options.specs.declared.stage.StageSpec.{StageSpec}
@@ -57,13 +60,21 @@ AreForms {S} stages readers forms = (opened : Opened) → HaveReaders readers op
 
 -- a work made of this does what its stage does, and can write its file
 abbrev pub IsForm : Role → StageForm → Type 0
-IsForm role form.Reads = is_reading role ≡ true
+IsForm role (form.Reads fields) = is_reading role ≡ true
 IsForm role (form.Filters f) = role ≡ Filters
 IsForm role (form.Gathers m) = (op_for role ≡ None) × (is_reading role ≡ false) × IsGoodMaking m
 IsForm role (form.Writes x) = (is_writing role ≡ true) × IsFileForm x.form
 
 abbrev pub FitRoles : List StageSpec → List StageForm → Type 0
 FitRoles stages forms = (i : ℕ) (f : StageForm) → slice_get forms i ≡ Some f → IsForm (role_at stages i) f
+
+-- the fields that a reader is to take lie in the records of its file
+abbrev pub IsFine : {S : Type 0} → Option (LasReader S) → StageForm → Type 0
+IsFine (Some r) (form.Reads fields) = AreFields r.header.record_length fields
+IsFine reader form = ⊤
+
+abbrev pub AreFine : {S : Type 0} → List (Option (LasReader S)) → List StageForm → Type 0
+AreFine readers forms = (i : ℕ) (f : StageForm) → slice_get forms i ≡ Some f → IsFine (slice_index_or readers i None) f
 
 -- the names of dimensions in the options of the first so many stages are bound
 abbrev pub AreNamesBound : {S : Type 0} → List StageSpec → List (Option (LasReader S)) → ℕ → Type 0
@@ -82,9 +93,23 @@ abbrev pub reader_of : {S K : Type 0} → StageWork S K → Option (LasReader S)
 reader_of (Reader r) = Some r
 reader_of _ = None
 
+-- it is that of this reader, which takes these fields
+pub record IsReaderOf {S K : Type 0} (reader : LasReader S) (fields : List ExtraField) (w : StageWork S K) : Type 0 where
+  pub with_fields : LasReader S
+  pub is : w ≡ Reader with_fields
+  pub source : with_fields.source ≡ reader.source
+  pub header : with_fields.header ≡ reader.header
+  pub lists : (with_fields.vlrs ≡ reader.vlrs) × (with_fields.evlrs ≡ reader.evlrs)
+  pub start : with_fields.progress ≡ reader.progress
+  pub taken : with_fields.fields ≡ fields
+
+-- what a writer may take over of the file of a reader, where there is one
+abbrev pub read_with : {S : Type 0} → Option (LasReader S) → Option ReadFile
+read_with reader = option_map read_of reader
+
 -- the work of stage i, which has these options, at its start: over its reader, or made of this; a reader's source tells its file
 pub record IsWork {S K : Type 0} (s : source.Ghosts S) (k : sink.Ghosts K) (map : Option Names) (i : ℕ) (o : Options) (reader : Option (LasReader S)) (form : StageForm) (w : StageWork S K) : Type 0 where
-  pub same : reader_of w ≡ reader
+  pub same : read_with (reader_of w) ≡ read_with reader
   pub start : (setting : Setting) → form ≡ form_for o setting → IsAtStart k.bytes o setting w
   pub device : op_of w ≡ op_for (role_of o)
   pub tells : (m : Names) → map ≡ Some m → (r : LasReader S) → w ≡ Reader r → Tells s (λ j. holds m j (role_of o)) i r
@@ -94,4 +119,4 @@ pub record IsWork {S K : Type 0} (s : source.Ghosts S) (k : sink.Ghosts K) (map 
 -- so it is at the first stages, as many as there are
 abbrev pub AreBegun : {S K : Type 0} → source.Ghosts S → sink.Ghosts K → Option Names → List StageSpec → List (Option (LasReader S)) → List StageForm → List (StageWork S K) → Type 0
 AreBegun {S} {K} s k map stages readers forms works = (i : ℕ) (w : StageWork S K) → slice_get works i ≡ Some w
-    → IsWork s k map i (options_at stages i) (slice_index_or readers i None) (slice_index_or forms i form.Reads) w
+    → IsWork s k map i (options_at stages i) (slice_index_or readers i None) (slice_index_or forms i (form.Reads [])) w

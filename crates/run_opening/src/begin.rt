@@ -7,16 +7,17 @@ ghost use Rattle.stage_kinds.specs.Files.{IsFileForm};
 ghost use Rattle.stage_kinds.specs.Held.{op_of};
 ghost use Rattle.stage_options.specs.Roles.{role_of, is_writing};
 ghost use Rattle.stage_forms.specs.Starts.{IsBegun};
-ghost use Rattle.run_opening.specs.Begun.{AreOpened, AreBegun, FitRoles, IsForm, IsOpened, IsWork};
+ghost use Rattle.las_reader.specs.Lists.{AreFields};
+ghost use Rattle.run_opening.specs.Begun.{AreFine, AreOpened, AreBegun, FitRoles, IsFine, IsForm, IsOpened, IsReaderOf, IsWork};
 ghost use Rattle.held_devices.specs.Holding.{there, all_there, all_held};
 ghost use Rattle.run_outcome.specs.Cause.{CanBegin, IsCause, IsEarly};
 ghost use Rattle.run_opening.specs.Opening.{IsBeforePoints, IsUncreated};
 
 use crate::bind::BoundStages;
-use cloud_points::Layout;
-use file_devices::{DeviceErr, Files, Op};
+use cloud_points::{FieldList, Layout};
+use file_devices::{DeviceErr, FileSink, Files, Op, Source};
 use held_devices::{give_back, release_works};
-use las_reader::LasReader;
+use las_reader::{LasReader, Progress};
 use run_report::{Place, Refusal};
 use stage_kinds::{FileBeginErr, Gatherer, StageForm, StageWork, Writing, begin_file};
 use stage_options::{Role, StageSpec};
@@ -62,6 +63,17 @@ fn open_writer<F: Files>(
     }
 }
 
+/// The work of a reader that takes these fields.
+fn read_with<S: Source, K: FileSink>(reader: LasReader<S>, fields: FieldList) -> StageWork<S, K>
+    requires start { reader.progress ≡ Progress.Records 0 }
+    requires fine { AreFields reader.header.record_length fields }
+    ensures { IsReaderOf reader fields result }
+{
+    let mut reader = reader;
+    reader.set_fields(fields);
+    StageWork::Reader(reader)
+}
+
 /// The work of a stage: its opened reader, or that of a writer on a new file, or else that of a stage without a file.
 fn begin_work<F: Files>(
     alloc: Global,
@@ -74,6 +86,7 @@ fn begin_work<F: Files>(
 ) -> Result<StageWork<F::In, F::Out>, Refusal>
     requires opened { IsOpened F.In.Source (F.map files.old) number (role_of stage.now.options) reader }
     requires form { IsForm (role_of stage.now.options) form }
+    requires fine { IsFine reader form }
     ensures ok { IfOk result (IsWork F.In.Source F.Out.Sink (F.map files.old)
         number stage.now.options reader form) }
     ensures writes { OnErr result (is_writing (role_of stage.now.options) ≡ true) }
@@ -90,7 +103,7 @@ fn begin_work<F: Files>(
 {
     let Some(reader) = reader else {
         return match form {
-            StageForm::Reads => unreachable!(),
+            StageForm::Reads(_) => unreachable!(),
             StageForm::Filters(filter) => Ok(StageWork::Filter(filter)),
             StageForm::Gathers(making) => {
                 Ok(StageWork::Collector(Gatherer::new(alloc, layout, making)))
@@ -101,7 +114,10 @@ fn begin_work<F: Files>(
             },
         };
     };
-    Ok(StageWork::Reader(reader))
+    match form {
+        StageForm::Reads(fields) => Ok(read_with(reader, fields)),
+        _ => unreachable!(),
+    }
 }
 
 /// The works of a tree's stages at their start, made of this, over their opened readers: the files of the writers are created in the order of
@@ -116,6 +132,7 @@ pub(crate) fn begin_works<F: Files>(
     requires opened { AreOpened F.In.Source (F.map files.old) stages.now readers.items }
     requires count { length readers.items ≡ length stages.now }
     requires fits { FitRoles stages.now bound.forms.items }
+    requires fine { AreFine readers.items bound.forms.items }
     requires forms { length bound.forms.items ≡ length stages.now }
     requires layouts { length bound.layouts.items ≡ length stages.now }
     requires few { length stages.now ≤ 64 }
@@ -145,7 +162,7 @@ pub(crate) fn begin_works<F: Files>(
     readers.reverse();
     let mut at = 0;
     while let Some(reader) = readers.pop() {
-        let form = replace(&mut forms[at], StageForm::Reads);
+        let form = replace(&mut forms[at], StageForm::Reads(FieldList::none(alloc)));
         match begin_work(
             alloc,
             files,

@@ -59,10 +59,6 @@ module _ {S K : Type 0} (faults : StageWork S K → ℕ) where
     ];
   }
 
--- what is told of a reader's file, as that of its points
-pub las-told : {S K : Type 0} (s : source.Ghosts S) (works : List (StageWork S K)) (opened : Opened) (i : ℕ) (v : StageWork S K) → AreTold s works opened → slice_get works i ≡ Some v → HasFile s.bytes (opened i).las v
-las-told s works opened i v told at = λ r is. (let t = told i v r at is in record { file = t.file; told = t.told; holds = ap (λ (x : LasFile). x.las) t.holds })
-
 -- ---- faults
 
 pub fault-front : (found : List (Option StageFault)) (f : Option StageFault) (j : ℕ) → j < length found → fault_at (found ++ f ∷ []) j ≡ fault_at found j

@@ -107,10 +107,10 @@ module _ {S K : Type 0} (sources : S → Option (List ℕ)) (sinks : K → Optio
       let t = file r refl in
       let f = reader_starts {K = K} sources r t.file start.start t.told in
       let writes = leaf-writes w b (keeps-same w (Reader r) means) in
-      let faults : fault_of role row las taken ≡ las_fault (las_with r.header t.file) = ap (λ r. fault_of r row las taken) start.does ∙ ap las_fault t.holds in
+      let faults : fault_of role row las taken ≡ las_fault (las_with r.header r.fields t.file) = ap (λ r. fault_of r row las taken) start.does ∙ ap las_fault t.holds in
       record {
         fault = sym (says f.tells) ∙ f.fault ∙ ap (option_map stage.Point) (sym faults);
-        value = sym (flow_of-flow_marks given.views) ∙ ap flow_of (sym (gives f.tells) ∙ f.told) ∙ flow_of-flow_marks (las_flow (las_with r.header t.file)) ∙ ap las_flow (sym t.holds)
+        value = sym (flow_of-flow_marks given.views) ∙ ap flow_of (sym (gives f.tells) ∙ f.told) ∙ flow_of-flow_marks (las_flow (las_with r.header r.fields t.file)) ∙ ap las_flow (sym t.holds)
             ∙ ap (λ r. value_of r row las taken) (sym start.does);
         files = writes.2 ∙ ap (λ r. files_with r given.views) (sym start.does);
         sound = λ none. record {

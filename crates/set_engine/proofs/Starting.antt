@@ -1,15 +1,16 @@
 -- Works that are evaluated one after the other.
-use Rattle.std.proofs.Common.{◌≡◌, ℕ, true, List, Option, refl, ap, sym, subst, ◌∙◌, true≢false, arith}
+use Rattle.std.proofs.Common.{◌≡◌, ℕ, true, List, slice_get, Option, Some, refl, ap, sym, subst, ◌∙◌, true≢false, arith}
 use Rattle.set_engine.proofs.Lists.{some-at}
 use Rattle.std.proofs.lemmas.Option.{slice_get_within}
 use Rattle.answer_model.specs.Rows.{Setting, row_of}
 use Rattle.answer_model.specs.Rows as rows
-use Rattle.answer_model.specs.Values.{LasFile, Opened, options_at, setting_at, stage_value}
+use Rattle.answer_model.specs.Values.{LasFile, Opened, fields_at, las_at, options_at, setting_at, stage_value}
 use Rattle.file_devices.specs.declared.devices.Source as source
 use Rattle.run_report.specs.declared.report.StageCount.{StageCount}
 use Rattle.set_engine.proofs.Values.{AreAfter, AreEvaluated, FitRows}
 use Rattle.stage_forms.specs.Starts.{AreTold, AreAtStart, HaveRead, IsAtStart, IsStarted, form_for, kept_for}
-use Rattle.set_engine.specs.Fits.{IsFor, IsMaking}
+use Rattle.las_reader.specs.Files.{las_with}
+use Rattle.set_engine.specs.Fits.{HasFile, IsFor, IsMaking}
 use Rattle.set_engine.specs.Given.{kept_after}
 use Rattle.cloud_points.specs.Flows.{Flow}
 use Rattle.cloud_points.specs.declared.point.Point.{Point}
@@ -27,7 +28,7 @@ use Rattle.stage_options.specs.Roles.{Role, role_of, is_reading}
 use Rattle.stage_options.specs.Roles as role
 use Rattle.stage_options.specs.declared.options.Options.{Options}
 use Rattle.stage_options.specs.declared.stage.StageSpec.{StageSpec}
-use Rattle.stage_forms.proofs.Works.{IsMakingRow, IsRow, row-is, writing-at-start}
+use Rattle.stage_forms.proofs.Works.{IsMakingRow, IsRow, fields-at-start, row-is, writing-at-start}
 use Rattle.stream_filters.specs.Kinds.{filtering_of}
 use Rattle.stage_forms.specs.Later.{AreLater, CameToEnd}
 
@@ -49,7 +50,7 @@ module _ {S K : Type 0} (bytes : K → Option (List ℕ)) where
   fits o setting w start = go (form_for o setting) (row-is o setting) w start
     where
       go : (form : StageForm) → IsRow form o setting → (w : StageWork S K) → IsStarted bytes form w → IsFor bytes (role_of o) (row_of o setting) w
-      go Reads row (Reader r) start = let n = reading-name (role_of o) row.0 in record { name = n.0; does = n.1; start = start }
+      go (Reads fields) row (Reader r) start = let n = reading-name (role_of o) row.0 in record { name = n.0; does = n.1; start = start.0 }
       go (Filters f) row (Filter g) start = record { does = row.does; judges = row.filtering ∙ ap (λ h. rows.Judging (filtering_of h)) (sym start) }
       go (Gathers m) row (Collector c) start = record {
         inner = row.0.inner;
@@ -73,7 +74,7 @@ module _ {S K : Type 0} (bytes : K → Option (List ℕ)) where
   kept-starts o setting w given start = go (form_for o setting) w start
     where
       go : (form : StageForm) (w : StageWork S K) → IsStarted bytes form w → kept_after w given ≡ kept_for form given
-      go Reads (Reader r) start = refl
+      go (Reads fields) (Reader r) start = refl
       go (Filters f) (Filter g) start = refl
       go (Gathers m) (Collector c) start = ap (λ x. kept_by x given) start.makes
       go (Writes x) (Writer v) start = refl
@@ -89,6 +90,14 @@ module _ {S K : Type 0} (s : source.Ghosts S) (bytes : K → Option (List ℕ)) 
 
   pub all-fit : FitRows s bytes stages works
   all-fit opened told i w e = fits bytes (options_at stages i) (setting_at stages opened i) w (starts opened (read opened told) i w e)
+
+  -- what is told of a reader's file, as that of its points
+  pub las-told : (opened : Opened) (i : ℕ) (v : StageWork S K) → AreTold s works opened → slice_get works i ≡ Some v → HasFile s.bytes (las_at stages opened i) v
+  las-told opened i v told at = λ r is.
+      let t = told i v r at is in
+      let start = subst (IsAtStart bytes (options_at stages i) (setting_at stages opened i)) is (starts opened (read opened told) i v at) in
+      let taken = fields-at-start s bytes (options_at stages i) (setting_at stages opened i) r start in
+      record { file = t.file; told = t.told; holds = ap (λ (x : LasFile). x.las (fields_at stages opened i)) t.holds ∙ ap (λ l. las_with r.header l t.file) (sym taken) }
 
   module _ (faults : StageWork S K → ℕ) (new : List (StageWork S K)) (after : AreAfter faults works new) where
     pub came : (opened : Opened) (counts : List StageCount) → AreTold s works opened → AreEvaluated bytes stages opened works new counts → CameToEnd bytes stages opened new counts

@@ -4,7 +4,7 @@ use Rattle.std.specs.Prelude.{◌==◌, option_map, slice_get, slice_index_or}
 use Rattle.std.proofs.lemmas.Bool.Decides.{eqb_tells}
 use Rattle.std.proofs.lemmas.List.FromFn.{length-map-range_with_len}
 use Rattle.std.proofs.lemmas.Option.{get_or_from_slice_get, same_Some, slice_get_within}
-use Rattle.answer_model.specs.Values.{Opened, IsDown, stage_at, role_at, row_at, stage_value, stage_input, stage_fault, count_at, counts_of, value_of, wrote_with, files_with}
+use Rattle.answer_model.specs.Values.{Opened, IsDown, stage_at, role_at, row_at, stage_value, stage_input, stage_fault, count_at, counts_of, value_of, wrote_with, files_with, las_at}
 use Rattle.answer_model.proofs.Least.{least-nowhere}
 use Rattle.answer_model.proofs.Values.{has-own, has-later, map-same, tree-down, value-input}
 use Rattle.cloud_points.specs.Flows.{Flow, empty_flow, join_all, points}
@@ -137,15 +137,15 @@ module _ {S K : Type 0} (bytes : K → Option (List ℕ)) (stages : List StageSp
           get_or_from_slice_get values j at.0 empty_flow at.1 ∙ so_far.values_are j at.0 at.1 (untaken stages tree i j lt h)))
 
       module _ (s : StageSpec) (is : slice_get stages i ≡ Some s) (taken_now : Flow Point) (input : taken_now ≡ join_all (map (value_in values) ((stage_at stages i).ins)))
-          (w : StageWork S K) (given : StageOutput) (gave : IsGivenBy bytes (role_at stages i) (row_at stages opened i) (opened i).las taken_now w given) where
+          (w : StageWork S K) (given : StageOutput) (gave : IsGivenBy bytes (role_at stages i) (row_at stages opened i) (las_at stages opened i) taken_now w given) where
         taken-is : taken_now ≡ stage_input stages opened i
         taken-is = input ∙ input-is
 
         value-is : given.views ≡ stage_value stages opened i
-        value-is = gave.value ∙ ap (λ f. value_of (role_at stages i) (row_at stages opened i) (opened i).las f) taken-is ∙ sym (value-input stages opened (down stages tree) i)
+        value-is = gave.value ∙ ap (λ f. value_of (role_at stages i) (row_at stages opened i) (las_at stages opened i) f) taken-is ∙ sym (value-input stages opened (down stages tree) i)
 
         fault-is : given.fault ≡ option_map stage.Point (stage_fault stages opened i)
-        fault-is = gave.fault ∙ ap (λ f. option_map stage.Point (fault_of (role_at stages i) (row_at stages opened i) (opened i).las f)) taken-is
+        fault-is = gave.fault ∙ ap (λ f. option_map stage.Point (fault_of (role_at stages i) (row_at stages opened i) (las_at stages opened i) f)) taken-is
 
         stage-is : stage_at stages i ≡ s
         stage-is = get_or_from_slice_get stages i s _ is

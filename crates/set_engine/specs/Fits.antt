@@ -63,7 +63,7 @@ IsFor bytes role row (Writer w) = IsWriting bytes role row w
 pub record TellsLas {S : Type 0} (bytes : S → Option (List ℕ)) (las : Las) (r : LasReader S) : Type 0 where
   pub file : List ℕ
   pub told : bytes r.source ≡ Some file
-  pub holds : las ≡ las_with r.header file
+  pub holds : las ≡ las_with r.header r.fields file
 
 -- where the work is a reader, this is its file
 abbrev pub HasFile : {S K : Type 0} → (S → Option (List ℕ)) → Las → StageWork S K → Type 0

@@ -20,6 +20,7 @@ use crate::writers::written_views;
 use cloud_points::Layout;
 use file_devices::{FileSink, Source};
 use point_formats::dims;
+use stage_forms::add_fields;
 use stage_kinds::StageWork;
 use std::alloc::{AllocError, Global};
 use std::mem::replace;
@@ -29,7 +30,11 @@ use whole_filters::Views;
 /// The dimensions of the points that a reader gives.
 fn layout_of<S: Source, K: FileSink>(work: &StageWork<S, K>) -> Layout {
     match work {
-        StageWork::Reader(reader) => dims(reader.header().format),
+        StageWork::Reader(reader) => {
+            let mut layout = dims(reader.header().format);
+            add_fields(&mut layout, reader.fields());
+            layout
+        }
         _ => Layout::none(),
     }
 }

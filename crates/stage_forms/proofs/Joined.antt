@@ -13,10 +13,9 @@ use Rattle.forward_rules.specs.Forwarded.{ReadFile}
 use Rattle.las_reader.specs.declared.reader.LasReader.{LasReader}
 use Rattle.pipeline_json.specs.Lists.{has}
 use Rattle.point_formats.specs.Layouts.{dims_of, is_among}
-use Rattle.name_binding.specs.Ferries.{adds}
 use Rattle.stage_options.specs.Roles.{is_reading}
 use Rattle.stage_options.specs.declared.stage.StageSpec.{StageSpec}
-use Rattle.answer_model.specs.Values.{Opened, IsDown, stage_at, role_at, options_at, reads_at, reads_with, dims_at, dims_with, names_at}
+use Rattle.answer_model.specs.Values.{Opened, IsDown, stage_at, role_at, options_at, reads_at, reads_with, dims_at, dims_with, found_at, gives_dim, names_at}
 use Rattle.answer_model.proofs.Values.{has-own, has-later, fold-inputs}
 use Rattle.stage_forms.specs.Below.{reads_in, HaveReaders, AreReaders, IsBelow, IsTaken}
 use Rattle.stage_forms.specs.Joined.{readers_in, dims_in, IsOwn, IsJoined, IsFound}
@@ -60,10 +59,10 @@ module _ {S : Type 0} (stages : List StageSpec) (readers : List (Option (LasRead
 
   -- what stands below a stage stands behind it, with the dimensions that it adds
   pub behind-stage : (i : ℕ) (b after : Below) → IsTaken stages readers opened i b → after.readers.items ≡ b.readers.items
-      → ((dim : Dim) → holds after.layout dim ≡ holds b.layout dim || adds (names_at stages i) (options_at stages i) dim) → IsBelow stages readers opened i after
+      → ((dim : Dim) → holds after.layout dim ≡ holds b.layout dim || gives_dim (names_at stages opened i) (options_at stages i) (found_at stages opened i) dim) → IsBelow stages readers opened i after
   behind-stage i b after is same dims = record {
     reads = ap (reads_in readers) same ∙ is.reads;
-    dims = λ dim. dims dim ∙ ap (λ h. h || adds (names_at stages i) (options_at stages i) dim) (is.dims dim) ∙ sym (dims-are i dim);
+    dims = λ dim. dims dim ∙ ap (λ h. h || gives_dim (names_at stages opened i) (options_at stages i) (found_at stages opened i) dim) (is.dims dim) ∙ sym (dims-are i dim);
   }
 
   -- below a reader stands itself

@@ -3,3 +3,4 @@ pub mod Joined
 pub mod Texts
 pub mod AtStart
 pub mod Works
+pub mod Asking

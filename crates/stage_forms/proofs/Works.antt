@@ -10,7 +10,7 @@ use Rattle.cloud_points.specs.declared.faults.StageFault.TheVariants as stage
 use Rattle.cloud_points.specs.Flows.{Flow, all_of, points}
 use Rattle.cloud_points.specs.Queue.{up_to_limit}
 use Rattle.cloud_points.specs.Marks.{flow_marks}
-use Rattle.las_reader.specs.Files.{Las as LasPoints}
+use Rattle.las_reader.specs.Files.{Las as LasPoints, las_with}
 use Rattle.las_reader.specs.Flows.{las_flow, las_fault}
 use Rattle.las_reader.specs.declared.reader.LasReader.{LasReader}
 use Rattle.network_theory.specs.Machine.{made_of, fault_on}
@@ -93,7 +93,7 @@ IsMakingRow (Views g) o setting = role_of o ≡ role.Gathers
 IsMakingRow (Each x) o setting = IsEachRow x o setting
 
 abbrev pub IsRow : StageForm → Options → Setting → Type 0
-IsRow Reads o setting = (is_reading (role_of o) ≡ true) × (op_for (role_of o) ≡ op_for (role.Reads []))
+IsRow (Reads fields) o setting = (is_reading (role_of o) ≡ true) × (op_for (role_of o) ≡ op_for (role.Reads [])) × (fields ≡ setting.fields)
 IsRow (Filters f) o setting = IsFilterRow f o setting
 IsRow (Gathers m) o setting = IsGatherRow m o setting × IsMakingRow m o setting
 IsRow (Writes x) o setting = IsWriterRow x o setting
@@ -130,7 +130,7 @@ gathers-row g o setting does making = (
 )
 
 pub row-is : (o : Options) (setting : Setting) → IsRow (form_for o setting) o setting
-row-is (ReadersLas o) setting = (refl, refl)
+row-is (ReadersLas o) setting = (refl, refl, refl)
 row-is (WritersLas o) setting = writes-row (is_numbered o.filename) o.filename _ (WritersLas o) setting refl refl (λ ps. refl) (λ ps. refl)
 row-is (WritersText o) setting = writes-row (is_numbered o.filename) o.filename _ (WritersText o) setting refl refl (λ ps. refl) (λ ps. refl)
 row-is (FiltersSort o) setting = gathers-row _ (FiltersSort o) setting refl refl
@@ -140,6 +140,16 @@ row-is (FiltersSplitter o) setting = gathers-row _ (FiltersSplitter o) setting r
 row-is (FiltersVoxeldownsize o) setting = gathers-row _ (FiltersVoxeldownsize o) setting refl refl
 row-is o setting = record { does = refl; begins = refl; filtering = refl }
 
+-- a stage that reads is made of the fields that it takes
+pub reads-form : (o : Options) (setting : Setting) → is_reading (role_of o) ≡ true → form_for o setting ≡ Reads setting.fields
+reads-form o setting reads = go (form_for o setting) refl (row-is o setting)
+  where
+    go : (form : StageForm) → form_for o setting ≡ form → IsRow form o setting → form_for o setting ≡ Reads setting.fields
+    go (Reads fields) e row = e ∙ ap Reads row.2
+    go (Filters f) e row = absurd (true≢false (sym reads ∙ ap is_reading row.does))
+    go (Gathers g) e row = absurd (true≢false (sym reads ∙ row.0.inner))
+    go (Writes x) e row = absurd (true≢false (sym reads ∙ ap is_reading row.does))
+
 -- no writer reads
 writer-inner : (each : Bool) (name : List ℕ) → is_reading (role.writing_by each name) ≡ false
 writer-inner true name = refl
@@ -148,14 +158,14 @@ writer-inner false name = refl
 -- ---- works at their start
 
 module _ {S K : Type 0} (s : source.Ghosts S) (bytes : K → Option (List ℕ)) where
-  pub leaf-is : (o : Options) (setting : Setting) (opened : Opened) (i : ℕ) (w : StageWork S K) → IsAtStart bytes o setting w → is_leaf w ≡ true → ((r : LasReader S) → w ≡ Reader r → Tells s opened i r) → IsLeaf s o (opened i).las w
+  pub leaf-is : (o : Options) (setting : Setting) (opened : Opened) (i : ℕ) (w : StageWork S K) → IsAtStart bytes o setting w → is_leaf w ≡ true → ((r : LasReader S) → w ≡ Reader r → Tells s opened i r) → IsLeaf s o ((opened i).las setting.fields) w
   leaf-is o setting opened i w start leaf tell = go (form_for o setting) (row-is o setting) w start leaf tell
     where
-      go : (form : StageForm) → IsRow form o setting → (w : StageWork S K) → IsStarted bytes form w → is_leaf w ≡ true → ((r : LasReader S) → w ≡ Reader r → Tells s opened i r) → IsLeaf s o (opened i).las w
-      go Reads row (Reader r) start leaf tell = (
+      go : (form : StageForm) → IsRow form o setting → (w : StageWork S K) → IsStarted bytes form w → is_leaf w ≡ true → ((r : LasReader S) → w ≡ Reader r → Tells s opened i r) → IsLeaf s o ((opened i).las setting.fields) w
+      go (Reads fields) row (Reader r) start leaf tell = (
           let t = tell r refl in
-          let f = reader_starts {K = K} s.bytes r t.file start t.told in
-          let las = ap (λ (x : LasFile). x.las) t.holds in
+          let f = reader_starts {K = K} s.bytes r t.file start.0 t.told in
+          let las = ap (λ (x : LasFile). x.las setting.fields) t.holds ∙ ap (λ fields. las_with r.header fields t.file) (sym (start.1 ∙ row.2)) in
           record {
             reads = row.0;
             tells = f.tells;
@@ -171,7 +181,7 @@ module _ {S K : Type 0} (s : source.Ghosts S) (bytes : K → Option (List ℕ)) 
   inner-is o setting w start inner streams = go (form_for o setting) (row-is o setting) w start inner
     where
       go : (form : StageForm) → IsRow form o setting → (w : StageWork S K) → IsStarted bytes form w → is_leaf w ≡ false → IsInner o setting w
-      go Reads row (Reader r) start inner = absurd (true≢false inner)
+      go (Reads fields) row (Reader r) start inner = absurd (true≢false inner)
       go (Filters f) row (Filter g) start inner = subst (λ h. IsInner {S = S} {K = K} o setting (Filter h)) (sym start) (record {
         inner = ap is_reading row.does;
         makes = λ flow. ap (λ t. made_of (filter_work (filtering_of f)) (At t) flow) row.begins ∙ filter_gives (filtering_of f) flow ∙ ap (λ m. flow_marks (rows.made m flow)) (sym row.filtering);
@@ -190,7 +200,7 @@ module _ {S K : Type 0} (s : source.Ghosts S) (bytes : K → Option (List ℕ)) 
   holds-nothing o setting w start = go (form_for o setting) w start
     where
       go : (form : StageForm) (w : StageWork S K) → IsStarted bytes form w → holds_of bytes w [] ≡ true
-      go Reads (Reader r) start = refl
+      go (Reads fields) (Reader r) start = refl
       go (Filters f) (Filter g) start = refl
       go (Gathers g) (Collector c) start = refl
       go (Writes x) (Writer v) start = start.holds
@@ -201,7 +211,7 @@ module _ {S K : Type 0} (s : source.Ghosts S) (bytes : K → Option (List ℕ)) 
   keeps-at-start o setting w start = go (form_for o setting) w start
     where
       go : (form : StageForm) (w : StageWork S K) → IsStarted bytes form w → keeps_of w ≡ None
-      go Reads (Reader r) start = refl
+      go (Reads fields) (Reader r) start = refl
       go (Filters f) (Filter g) start = refl
       go (Gathers g) (Collector c) start = refl
       go (Writes x) (Writer v) start = refl
@@ -212,7 +222,7 @@ module _ {S K : Type 0} (s : source.Ghosts S) (bytes : K → Option (List ℕ)) 
   op-at-start o setting w start = go (form_for o setting) (row-is o setting) w start
     where
       go : (form : StageForm) → IsRow form o setting → (w : StageWork S K) → IsStarted bytes form w → op_of w ≡ op_for (role_of o)
-      go Reads row (Reader r) start = sym row.1
+      go (Reads fields) row (Reader r) start = sym row.1
       go (Filters f) row (Filter g) start = sym (ap op_for row.does)
       go (Gathers g) row (Collector c) start = sym row.0.device
       go (Writes x) row (Writer v) start = sym (ap op_for row.does)
@@ -223,7 +233,7 @@ module _ {S K : Type 0} (s : source.Ghosts S) (bytes : K → Option (List ℕ)) 
   reads-at-start o setting w start = go (form_for o setting) (row-is o setting) w start
     where
       go : (form : StageForm) → IsRow form o setting → (w : StageWork S K) → IsStarted bytes form w → is_leaf w ≡ is_reading (role_of o)
-      go Reads row (Reader r) start = sym row.0
+      go (Reads fields) row (Reader r) start = sym row.0
       go (Filters f) row (Filter g) start = sym (ap is_reading row.does)
       go (Gathers g) row (Collector c) start = sym row.0.inner
       go (Writes x) row (Writer v) start = sym (ap is_reading row.does)
@@ -252,7 +262,7 @@ module _ {S K : Type 0} (s : source.Ghosts S) (bytes : K → Option (List ℕ)) 
 
       go : (form : StageForm) → form_for o setting ≡ form → IsRow form o setting → (w : StageWork S K) → IsStarted bytes form w
           → (c : Collecting Making) × (m : Making) × (w ≡ Collector c) × HoldsNone m c × (form_for o setting ≡ Gathers m)
-      go Reads e row (Reader r) start = absurd (not-reading (role_of o) row.0 gathers)
+      go (Reads fields) e row (Reader r) start = absurd (not-reading (role_of o) row.0 gathers)
       go (Filters f) e row (Filter h) start = absurd (true≢false (sym gathers ∙ ap is_gathering row.does))
       go (Gathers m) e row (Collector c) start = (c, m, refl, start, e)
       go (Writes x) e row (Writer v) start = absurd (true≢false (sym gathers ∙ ap is_gathering row.does))
@@ -275,15 +285,23 @@ module _ {S K : Type 0} (s : source.Ghosts S) (bytes : K → Option (List ℕ)) 
       go (Writer v) start = start.is
       go w start = absurd start
 
-  -- a reader that gave nothing yet is the work of a stage that reads
-  pub reader-start : (o : Options) (setting : Setting) (r : LasReader S) → is_reading (role_of o) ≡ true → r.progress ≡ Records 0 → IsAtStart bytes o setting (Reader r)
-  reader-start o setting r reads start = go (form_for o setting) (row-is o setting) reads start
+  -- a reader takes the fields of its stage
+  pub fields-at-start : (o : Options) (setting : Setting) (r : LasReader S) → IsAtStart bytes o setting (Reader r) → r.fields ≡ setting.fields
+  fields-at-start o setting r start = go (form_for o setting) (row-is o setting) start
     where
-      go : (form : StageForm) → IsRow form o setting → is_reading (role_of o) ≡ true → r.progress ≡ Records 0 → IsStarted {S = S} {K = K} bytes form (Reader r)
-      go Reads row reads start = start
-      go (Filters f) row reads start = absurd (true≢false (sym reads ∙ ap is_reading row.does))
-      go (Gathers g) row reads start = absurd (true≢false (sym reads ∙ row.0.inner))
-      go (Writes x) row reads start = absurd (true≢false (sym reads ∙ ap is_reading row.does))
+      go : (form : StageForm) → IsRow form o setting → IsStarted {S = S} {K = K} bytes form (Reader r) → r.fields ≡ setting.fields
+      go (Reads fields) row start = start.1 ∙ row.2
+      go form row start = absurd start
+
+  -- a reader that gave nothing yet is the work of a stage that reads
+  pub reader-start : (o : Options) (setting : Setting) (r : LasReader S) → is_reading (role_of o) ≡ true → r.progress ≡ Records 0 → r.fields ≡ setting.fields → IsAtStart bytes o setting (Reader r)
+  reader-start o setting r reads start fields = go (form_for o setting) (row-is o setting) reads
+    where
+      go : (form : StageForm) → IsRow form o setting → is_reading (role_of o) ≡ true → IsStarted {S = S} {K = K} bytes form (Reader r)
+      go (Reads taken) row reads = (start, fields ∙ sym row.2)
+      go (Filters f) row reads = absurd (true≢false (sym reads ∙ ap is_reading row.does))
+      go (Gathers g) row reads = absurd (true≢false (sym reads ∙ row.0.inner))
+      go (Writes x) row reads = absurd (true≢false (sym reads ∙ ap is_reading row.does))
 
 -- ---- what writers write
 
@@ -297,7 +315,7 @@ writes-form o setting writes = go (form_for o setting) refl (row-is o setting)
     not-both r a b = absurd (true≢false (sym b))
 
     go : (form : StageForm) → form_for o setting ≡ form → IsRow form o setting → (x : Writing) × (form_for o setting ≡ Writes x)
-    go Reads e row = absurd (not-both (role_of o) row.0 writes)
+    go (Reads fields) e row = absurd (not-both (role_of o) row.0 writes)
     go (Filters f) e row = absurd (true≢false (sym writes ∙ ap is_writing row.does))
     go (Gathers g) e row = absurd (true≢false (sym writes ∙ row.0.later))
     go (Writes x) e row = (x, e)

@@ -1,14 +1,16 @@
 -- What stands below the stages of a tree, by their opened readers.
 use Rattle.std.specs.Prelude.{◌≡◌, ℕ, ◌<◌, All, List, [], ◌∷◌, flat_map, slice_get, slice_index_or, is_some, Option, Some, None}
 use Rattle.cloud_points.specs.declared.dims.Dim.{Dim}
+use Rattle.cloud_points.specs.declared.extra.ExtraField.{ExtraField}
 use Rattle.cloud_points.specs.Layouts.{holds}
 use Rattle.forward_rules.specs.Forwarded.{ReadFile, read_file}
 use Rattle.file_devices.specs.declared.devices.Source as source
 use Rattle.las_reader.specs.Files.{las_with}
 use Rattle.las_reader.specs.declared.reader.LasReader.{LasReader}
 use Rattle.stage_options.specs.Roles.{is_reading}
+use Rattle.stage_options.specs.declared.options.Options.{Options}
 use Rattle.stage_options.specs.declared.stage.StageSpec.{StageSpec}
-use Rattle.answer_model.specs.Values.{Opened, role_at, reads_at, dims_at, dims_taken}
+use Rattle.answer_model.specs.Values.{Opened, fields_found, role_at, reads_at, dims_at, dims_taken}
 use Rattle.stage_forms.specs.declared.below.Below.{Below}
 
 -- the file of a reader, as a writer may take it over
@@ -19,9 +21,14 @@ read_of r = read_file r.header r.vlrs r.evlrs
 pub record Tells {S : Type 0} (s : source.Ghosts S) (opened : Opened) (i : ℕ) (r : LasReader S) : Type 0 where
   pub file : List ℕ
   pub told : s.bytes r.source ≡ Some file
-  pub holds : opened i ≡ record { read = read_of r; las = las_with r.header file }
+  pub holds : opened i ≡ record { read = read_of r; las = λ fields. las_with r.header fields file }
 
--- the same, where there is one
+-- the fields that a stage with these options takes of the file of its reader, where it has one
+abbrev pub found_of : {S : Type 0} → Options → Option (LasReader S) → List ExtraField
+found_of o None = []
+found_of o (Some r) = fields_found o (read_of r)
+
+-- the file of a reader, where there is one
 abbrev pub read_in : {S : Type 0} → Option (LasReader S) → List ReadFile
 read_in None = []
 read_in (Some r) = read_of r ∷ []

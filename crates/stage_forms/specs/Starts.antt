@@ -1,5 +1,5 @@
 -- The works of a tree's stages at their start.
-use Rattle.std.specs.Prelude.{◌≡◌, ℕ, ⊤, true, false, List, [], length, slice_get, Option, Some, None}
+use Rattle.std.specs.Prelude.{◌≡◌, ℕ, ⊤, Bool, true, false, List, [], length, map, slice_get, Option, Some, None}
 use Rattle.file_devices.specs.declared.devices.Op.{Op}
 use Rattle.file_devices.specs.declared.devices.Op.TheVariants.{Read, Write}
 use Rattle.file_devices.specs.declared.devices.Source as source
@@ -8,7 +8,6 @@ use Rattle.cloud_points.specs.declared.work.Work.{Ghosts}
 use Rattle.cloud_points.specs.Flows.{Flow, all_of, points, empty_flow}
 use Rattle.expr_lang.specs.Formula.{Formula}
 use Rattle.view_works.specs.declared.collector.Collector.{Collector as Collecting}
-use Rattle.forward_rules.specs.Forwarded.{form_of}
 use Rattle.las_reader.specs.declared.reader.LasReader.{LasReader}
 use Rattle.las_reader.specs.declared.reader.Progress.TheVariants.{Records}
 use Rattle.stage_kinds.specs.declared.file_form.FileForm.{FileForm}
@@ -32,14 +31,19 @@ use Rattle.name_binding.specs.declared.binding.BoundFilter.{BoundFilter}
 use Rattle.name_binding.specs.declared.binding.BoundFilter.TheVariants as bound
 use Rattle.name_binding.specs.declared.binding.BoundStage.{BoundStage}
 use Rattle.name_binding.specs.declared.binding.BoundStage.TheVariants as does
-use Rattle.name_binding.specs.Binding.{bound_stage}
+use Rattle.extra_bytes.specs.Asked.{asked_fields}
+use Rattle.extra_bytes.specs.Fields.{moved}
+use Rattle.cloud_points.specs.declared.extra.ExtraField.{ExtraField}
+use Rattle.las_header.specs.Formats.{format_size}
+use Rattle.forward_rules.specs.declared.form.LasForm.{LasForm}
+use Rattle.name_binding.specs.Binding.{asked_in, bound_stage}
 use Rattle.name_binding.specs.Ferries.{names_behind}
 use Rattle.stage_meanings.specs.ByRule.{spot_at}
 use Rattle.stream_filters.specs.declared.filter.Filter.{Filter as Filtering}
 use Rattle.stream_filters.specs.declared.filter.Filter.TheVariants as filter
 use Rattle.stage_options.specs.declared.stage.StageSpec.{StageSpec}
 use Rattle.stage_forms.specs.Below.{Tells, read_of}
-use Rattle.answer_model.specs.Forms.{text_form}
+use Rattle.answer_model.specs.Forms.{las_form, text_form}
 use Rattle.answer_model.specs.Rows.{Setting}
 use Rattle.answer_model.specs.Values.{Opened, options_at, role_at, setting_at}
 use Rattle.cloud_points.specs.declared.point.Point.{Point}
@@ -58,9 +62,18 @@ started (bound.Head count) only = filter.Head (record { rule = record { count = 
 started (bound.Returns groups) only = filter.Returns (record { rule = groups; only = only; spot = spot_at 0 })
 started bound.Merge only = filter.Merge
 
+-- a form in whose records these fields stand, behind those of the format
+abbrev pub with_fields : LasForm → List ExtraField → LasForm
+with_fields form fields = record form { extra = map (moved (format_size form.format)) fields }
+
+-- the fields that a writer's records hold behind those of the format, where the points that it takes have these dimensions
+abbrev pub fields_for : (Dim → Bool) → List (List ℕ) → Options → List ExtraField
+fields_for has names (WritersLas o) = asked_fields names 0 (asked_in has names o.extra)
+fields_for has names _ = []
+
 -- the form of a writer's file, by its options and where it stands
 abbrev pub file_for : Options → Setting → Option FileForm
-file_for (WritersLas o) setting = Some (file.Las (form_of o.fields setting.reads))
+file_for (WritersLas o) setting = Some (file.Las (las_form setting.dims setting.names setting.reads o))
 file_for (WritersText o) setting = Some (file.Text (text_form setting.names o))
 file_for _ setting = None
 
@@ -69,20 +82,21 @@ abbrev pub writes_as : Role → Writing → StageForm
 writes_as (role.WritesEach name) writing = Gathers (Each writing)
 writes_as _ writing = Writes writing
 
--- by what a stage does; each that writes has the form of a file
-abbrev pub does_with : Role → BoundStage → Option FileForm → StageForm
-does_with r (does.Filters f only) form = Filters (started f only)
-does_with r (does.Gathers g) form = Gathers (Views g)
-does_with r (does.Writes only) (Some form) = writes_as r (record { form = form; only = only })
-does_with r _ form = Reads
+-- by what a stage does; each that writes has the form of a file, and one that reads takes these fields
+abbrev pub does_with : Role → BoundStage → Option FileForm → List ExtraField → StageForm
+does_with r (does.Filters f only) form fields = Filters (started f only)
+does_with r (does.Gathers g) form fields = Gathers (Views g)
+does_with r (does.Writes only extra) (Some form) fields = writes_as r (record { form = form; only = only })
+does_with r _ form fields = Reads fields
 
 -- by its options, and where it stands
 abbrev pub form_for : Options → Setting → StageForm
-form_for o setting = does_with (role_of o) (bound_stage setting.names o) (file_for o setting)
+form_for o setting = does_with (role_of o) (bound_stage setting.dims setting.names o) (file_for o setting) setting.fields
 
--- its options are bound beside the extra names before it, and these are the ones behind it
-pub record IsBoundBehind (o : Options) (b : BoundStage) (before after : List (List ℕ)) : Type 0 where
-  pub bound : b ≡ bound_stage before o
+-- its options are bound beside the extra names before it, where the points that it takes have these dimensions, and these names are the
+-- ones behind it
+pub record IsBoundBehind (o : Options) (b : BoundStage) (has : Dim → Bool) (before after : List (List ℕ)) : Type 0 where
+  pub bound : b ≡ bound_stage has before o
   pub behind : after ≡ names_behind before o
 
 -- a file that it writes can be written
@@ -107,7 +121,7 @@ pub record HoldsNone (making : Making) (c : Collecting Making) : Type 0 where
 
 -- a work made of this that had no turn yet
 abbrev pub IsStarted : {S K : Type 0} → (K → Option (List ℕ)) → StageForm → StageWork S K → Type 0
-IsStarted bytes Reads (Reader r) = r.progress ≡ Records 0
+IsStarted bytes (Reads fields) (Reader r) = (r.progress ≡ Records 0) × (r.fields ≡ fields)
 IsStarted bytes (Filters f) (Filter g) = g ≡ f
 IsStarted bytes (Gathers g) (Collector c) = HoldsNone g c
 IsStarted {S} {K} bytes (Writes writing) (Writer w) = IsBegun {S = S} {K = K} bytes writing (Writer w)

@@ -3,12 +3,15 @@
 ghost use Rattle.std.specs.Prelude.{◌≡◌, ◌<◌, ◌≤◌, All, IfOk, length, map};
 ghost use Rattle.answer_model.specs.Forms.{column_of, text_form};
 ghost use Rattle.expr_eval.specs.Bindings.{dim_of};
+ghost use Rattle.extra_bytes.specs.Fields.{AreLaid};
 ghost use Rattle.forward_rules.specs.Forwarded.{form_of};
 ghost use Rattle.las_writer.specs.LasOutput.{IsForm};
 ghost use Rattle.stage_forms.specs.Below.{reads_in};
+ghost use Rattle.stage_forms.specs.Starts.{with_fields};
 ghost use Rattle.text_writer.specs.TextOutput.{IsTextForm};
 
-use cloud_points::{Dim, ExtraNames};
+use cloud_points::{Dim, ExtraNames, FieldList};
+use extra_bytes::move_fields;
 use file_devices::{Name, Source};
 use forward_rules::{Forwarding, LasForm};
 use las_reader::LasReader;
@@ -77,16 +80,33 @@ pub fn text_form(
     })
 }
 
-/// The form of the file of a LAS writer with these options, behind the readers of these numbers. Refused only where memory is
-/// wanting.
+/// A form in whose records these fields stand, behind those of the format.
+fn with_fields(form: LasForm, extra: FieldList) -> LasForm
+    requires laid { AreLaid 0 extra }
+    requires few { length extra ≤ 8 }
+    requires form { IsForm form }
+    ensures value { result ≡ with_fields form extra }
+    ensures form { IsForm result }
+{
+    let mut form = form;
+    form.extra = move_fields(extra, form.format.size() as usize);
+    form
+}
+
+/// The form of the file of a LAS writer with these options and these extra dimensions, behind the readers of these numbers. Refused
+/// only where memory is wanting.
 pub fn las_form<S: Source>(
     alloc: Global,
     fields: &LasFields,
+    extra: FieldList,
     readers: &[Option<LasReader<S>>],
     below: &[u32],
 ) -> Result<LasForm, AllocError>
     requires inside { All (λ j. j < length readers.now) below.now }
-    ensures value { IfOk result (λ f. f ≡ form_of fields.now (reads_in readers.now below.now)) }
+    requires laid { AreLaid 0 extra }
+    requires few { length extra ≤ 8 }
+    ensures value { IfOk result (λ f. f
+        ≡ with_fields (form_of fields.now (reads_in readers.now below.now)) extra) }
     ensures form { IfOk result IsForm }
 {
     let mut forwarding = Forwarding::begin(alloc, fields.as_options())?;
@@ -95,5 +115,6 @@ pub fn las_form<S: Source>(
             forwarding.add(alloc, reader.header(), reader.vlrs(), reader.evlrs())?;
         }
     }
-    Ok(forwarding.form())
+    let form = forwarding.form(alloc);
+    Ok(with_fields(form, extra))
 }

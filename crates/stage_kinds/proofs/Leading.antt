@@ -1,20 +1,20 @@
 -- What a reader's call reads beyond what it gives.
-use Rattle.std.proofs.Common.{◌≡◌, ℕ, zero, suc, ◌+◌, ◌-◌, ◌*◌, ◌<◌, ◌≤◌, min, max, nat_lt, nat_le, Bool, true, false, cond, if◌then◌else◌, inl, inr, List, [], ◌∷◌, ◌++◌, map, length, take, drop, Option, Some, None, option_map, refl, sym, ap, subst, ◌∙◌, arith, length-take, length-drop}
+use Rattle.std.proofs.Common.{◌≡◌, ℕ, zero, suc, ◌+◌, ◌-◌, ◌*◌, ◌<◌, ◌≤◌, min, max, nat_lt, Bool, true, false, cond, if◌then◌else◌, inl, inr, List, [], ◌∷◌, ◌++◌, map, length, take, drop, Option, Some, None, option_map, refl, sym, ap, subst, ◌∙◌, arith, length-take, length-drop}
 use Rattle.std.proofs.Math.Nat.{mul-le-mul_left, mul-le-mul_right, one-mul}
 use Rattle.std.proofs.lemmas.Option.{none-some, same_Some}
-use Rattle.std.proofs.lemmas.Bool.{ltb-true, ltb-false, lt-ltb, le-ltb, le-leb, lt-leb}
+use Rattle.std.proofs.lemmas.Bool.{ltb-true, lt-ltb, le-ltb, le-leb, lt-leb}
 use Rattle.std.proofs.lemmas.Bool.Decides.{leb_tells}
+use Rattle.cloud_points.specs.declared.extra.ExtraField.{ExtraField}
 use Rattle.cloud_points.specs.declared.point.Point.{Point}
 use Rattle.cloud_points.specs.declared.faults.Make.{Make}
 use Rattle.cloud_points.specs.declared.faults.Make.TheVariants.{Points, EndView, End}
 use Rattle.cloud_points.specs.declared.faults.PointFault.{PointFault}
-use Rattle.cloud_points.specs.declared.faults.PointFault.TheVariants.{Cut}
 use Rattle.cloud_points.specs.Extents.{Extent}
 use Rattle.cloud_points.specs.Marks.{At}
 use Rattle.las_header.specs.declared.block.Header.{Header}
 use Rattle.las_header.specs.Counts.{points_in}
 use Rattle.las_reader.specs.Files.{Las, las_with}
-use Rattle.las_reader.specs.Reading.{IsStep, Moves, step_of, asked_to, gives, ends, view_ends, read_failed}
+use Rattle.las_reader.specs.Reading.{IsStep, Moves, step_behind, asked_to, gives, read_failed}
 use Rattle.las_reader.specs.declared.reader.LasReader.{LasReader}
 use Rattle.las_reader.specs.declared.reader.Progress.{Progress}
 use Rattle.las_reader.specs.declared.reader.Progress.TheVariants.{Records, ViewEnded, Ended}
@@ -23,6 +23,7 @@ use Rattle.network_theory.specs.Net.{count_points}
 use Rattle.stage_kinds.specs.declared.stage_work.StageWork.TheVariants.{Reader}
 use Rattle.stage_kinds.specs.Leads.{begins_below, records_below, read_at, beyond_in, beyond_at, ahead_of, extent_in, extent_of}
 use Rattle.stage_kinds.specs.Reads.{end_marks, rest_marks, told_at, told_of}
+use Rattle.stage_kinds.proofs.Telling.{GivesStep}
 
 -- ---- how many records begin below a place
 
@@ -87,14 +88,14 @@ read-max header m old new most = elim (leb_tells new old) [
 
 -- ---- what a call reads
 
--- a call that gives so many points, and asks for no record past so many, where it wasn't past its whole ones
+-- a call that gives so many points, and asks for no record past so many, where no more were given than its file has
 spared : (header : Header) (old new given k chunk : ℕ) → k ≤ chunk → new ≤ max old (header.points_at + header.record_length * min (given + chunk) (points_in header))
     → (read_at header new - (given + k)) + k ≤ max chunk (read_at header old - given)
 spared header old new given k chunk few asked = let l = read-max header (min (given + chunk) (points_in header)) old new asked in omega (arith, l, few)
 
-module _ (header : Header) (file : List ℕ) (old new chunk : ℕ) where
+module _ (header : Header) (fields : List ExtraField) (file : List ℕ) (old new chunk : ℕ) where
   abbrev las : Las
-  las = las_with header file
+  las = las_with header fields file
 
   abbrev whole : ℕ
   whole = length las.points
@@ -102,7 +103,7 @@ module _ (header : Header) (file : List ℕ) (old new chunk : ℕ) where
   abbrev Spares : Progress → Progress → List Point → Type 0
   Spares before after points = beyond_in las (points_in header) (read_at header new) after + length points ≤ max chunk (beyond_in las (points_in header) (read_at header old) before)
 
-  -- of records within the whole ones
+  -- of no more points than there are
   gives-within : (given : ℕ) (m : Make) (points : List Point) (after : Progress) → given ≤ whole → Moves (points_in header) chunk (Records given) m points after
       → (m ≡ Points → given + length points ≤ whole) → new ≤ max old (asked_to header chunk (Records given)) → Spares (Records given) after points
   gives-within given Points points after within moves inside asked =
@@ -115,49 +116,46 @@ module _ (header : Header) (file : List ℕ) (old new chunk : ℕ) where
       let s = spared header old new given 0 chunk (omega arith) asked in
       rw (moves.0, moves.1, le-leb given whole within) (omega (arith, s, within))
 
-  -- past them there is nothing to give
+  -- past them each point that is given is one less that may be
   gives-past : (given : ℕ) (m : Make) (points : List Point) (after : Progress) → whole < given → Moves (points_in header) chunk (Records given) m points after
-      → (m ≡ Points → ⊥) → new ≤ max old (asked_to header chunk (Records given)) → Spares (Records given) after points
-  gives-past given Points points after past moves none asked = absurd (none refl)
-  gives-past given EndView points after past moves none asked =
+      → new ≤ max old (asked_to header chunk (Records given)) → Spares (Records given) after points
+  gives-past given Points points after past moves asked =
+      let r = read-max header (min (given + chunk) (points_in header)) old new asked in
+      let counted : given + length points ≤ points_in header = moves.2 in
+      let further : whole < given + length points = omega (arith, past) in
+      rw (moves.3, lt-leb given whole past, lt-leb (given + length points) whole further) (omega (arith, r, counted))
+  gives-past given EndView points after past moves asked =
       let r = read-max header (min (given + chunk) (points_in header)) old new asked in
       rw (moves.0, moves.1, lt-leb given whole past) (omega (arith, r))
-  gives-past given (End cut fault) points after past moves none asked =
+  gives-past given (End cut fault) points after past moves asked =
       let r = read-max header (min (given + chunk) (points_in header)) old new asked in
       rw (moves.0, moves.1, lt-leb given whole past) (omega (arith, r))
 
   -- what a step of points gives lies within
-  step-within : (given : ℕ) (m : Make) (points : List Point) (after : Progress) (left : Bool) → nat_lt given whole ≡ left
-      → IsStep (if left then gives given (take chunk (drop given las.points)) else (if nat_lt given (points_in header) then ends true (Some (Cut given)) else view_ends)) m points after
-      → m ≡ Points → (given < whole) × (given + length points ≤ whole)
-  step-within given m points after true l h e =
+  step-within : (given : ℕ) (m : Make) (points : List Point) (after : Progress) (left : Bool) (fault : Option PointFault) → nat_lt given whole ≡ left
+      → IsStep (if left then gives given (take chunk (drop given las.points)) else step_behind fault) m points after → m ≡ Points → given + length points ≤ whole
+  step-within given m points after true fault l h e =
       let more = ltb-true given whole l in
       let size : length (take chunk (drop given las.points)) ≡ min chunk (whole - given) = length-take chunk (drop given las.points) ∙ ap (min chunk) (length-drop given las.points) in
-      (more, rw h.points_are (omega (arith, size, more)))
-  step-within given m points after false l h e = absurd (no_points (nat_lt given (points_in header)) (sym e ∙ h.made_is))
-    where
-      no_points : (counted : Bool) → Points ≡ (if counted then ends true (Some (Cut given)) else view_ends).made → ⊥
-      no_points true e = cc
-      no_points false e = cc
+      rw h.points_are (omega (arith, size, more))
+  step-within given m points after false (Some f) l h e = let no : Points ≡ (step_behind (Some f)).made = sym e ∙ h.made_is in cc
+  step-within given m points after false None l h e = let no : Points ≡ (step_behind None).made = sym e ∙ h.made_is in cc
 
   gives-spare : (before after : Progress) (m : Make) (points : List Point) → Moves (points_in header) chunk before m points after
-      → ((m ≡ read_failed → ⊥) → IsStep (step_of (points_in header) las.points before chunk) m points after)
-      → new ≤ max old (asked_to header chunk before) → Spares before after points
-  gives-spare (Records given) after m points moves step asked =
-      let gives_points : m ≡ Points → (given < whole) × (given + length points ≤ whole) = λ e. step-within given m points after _ refl (step (λ f. (let g : Points ≡ read_failed = sym e ∙ f in cc))) e in
-      elim (leb_tells given whole) [
-        | inl p ↦ gives-within given m points after p.1 moves (λ e. (gives_points e).1) asked
-        | inr p ↦ gives-past given m points after p.1 moves (λ e. let w = (gives_points e).0 in let q = p.1 in omega (arith, w, q)) asked
-      ]
+      → GivesStep (Some file) header fields chunk before m points after → new ≤ max old (asked_to header chunk before) → Spares before after points
+  gives-spare (Records given) after m points moves step asked = elim (leb_tells given whole) [
+    | inl p ↦ gives-within given m points after p.1 moves (λ e. step-within given m points after _ _ refl (step file refl (λ f. (let g : Points ≡ read_failed = sym e ∙ f in cc)) p.1) e) asked
+    | inr p ↦ gives-past given m points after p.1 moves asked
+  ]
   gives-spare ViewEnded after m points moves step asked = let l = read-up header new old (omega (arith, asked)) in rw (moves.0, moves.1) (omega (arith, l))
   gives-spare (Ended cut) after m points moves step asked = let l = read-up header new old (omega (arith, asked)) in rw (moves.0, moves.1) (omega (arith, l))
 
 -- what a call reads beyond what it gives is at most a chunk, or what was read before
-pub reads-ahead : (bytes0 bytes1 : Option (List ℕ)) (header0 header1 : Header) (old new chunk : ℕ) (before after : Progress) (m : Make) (points : List Point) → bytes1 ≡ bytes0 → header1 ≡ header0
-    → ((file : List ℕ) → bytes0 ≡ Some file → (m ≡ read_failed → ⊥) → IsStep (step_of (points_in header0) (las_with header0 file).points before chunk) m points after)
+pub reads-ahead : (bytes0 bytes1 : Option (List ℕ)) (header0 header1 : Header) (fields0 fields1 : List ExtraField) (old new chunk : ℕ) (before after : Progress) (m : Make) (points : List Point)
+    → bytes1 ≡ bytes0 → header1 ≡ header0 → fields1 ≡ fields0 → GivesStep bytes0 header0 fields0 chunk before m points after
     → Moves (points_in header0) chunk before m points after → new ≤ max old (asked_to header0 chunk before)
-    → beyond_at bytes1 header1 new after + length points ≤ max chunk (beyond_at bytes0 header0 old before)
-reads-ahead None bytes1 header0 header1 old new chunk before after m points same same_header step moves asked =
+    → beyond_at bytes1 header1 fields1 new after + length points ≤ max chunk (beyond_at bytes0 header0 fields0 old before)
+reads-ahead None bytes1 header0 header1 fields0 fields1 old new chunk before after m points same same_header same_fields step moves asked =
     let few : length points ≤ chunk = most_given (points_in header0) chunk before m points after moves in
     rw same (omega (arith, few))
   where
@@ -167,8 +165,8 @@ reads-ahead None bytes1 header0 header1 old new chunk before after m points same
     most_given count chunk (Records given) (End cut fault) points after moves = rw moves.0 (omega arith)
     most_given count chunk ViewEnded m points after moves = rw moves.0 (omega arith)
     most_given count chunk (Ended cut) m points after moves = rw moves.0 (omega arith)
-reads-ahead (Some file) bytes1 header0 header1 old new chunk before after m points same same_header step moves asked =
-    rw (same, same_header) (gives-spare header0 file old new chunk before after m points moves (step file refl) asked)
+reads-ahead (Some file) bytes1 header0 header1 fields0 fields1 old new chunk before after m points same same_header same_fields step moves asked =
+    rw (same, same_header, same_fields) (gives-spare header0 fields0 file old new chunk before after m points moves step asked)
 
 -- ---- what a reader read of what it tells
 
@@ -194,18 +192,18 @@ pub reads-most : {S : Type 0} (K : Type 0) (bytes : S → Option (List ℕ)) (re
     → read_at r1.header (reached r1.source) + count_points (told_of {K = K} bytes (Reader r1)) ≤ count_points (told_of {K = K} bytes (Reader r0)) + ahead_of {K = K} bytes reached (Reader r1)
 reads-most {S} K bytes reached r0 r1 file told start same = by_bytes (bytes r1.source) same'
   where
-    same' : option_map (extent_in r1.header) (bytes r1.source) ≡ Some (extent_in r0.header file)
-    same' = same ∙ ap (option_map (extent_in r0.header)) told
+    same' : option_map (extent_in r1.header r1.fields) (bytes r1.source) ≡ Some (extent_in r0.header r0.fields file)
+    same' = same ∙ ap (option_map (extent_in r0.header r0.fields)) told
 
-    first : count_points (told_of {K = K} bytes (Reader r0)) ≡ length (las_with r0.header file).points
-    first = ap (λ o. count_points (told_at o r0.header r0.progress)) told ∙ ap (λ p. count_points (rest_marks (las_with r0.header file) p)) start ∙ count-marks (las_with r0.header file).points (las_with r0.header file).fault
+    first : count_points (told_of {K = K} bytes (Reader r0)) ≡ length (las_with r0.header r0.fields file).points
+    first = ap (λ o. count_points (told_at o r0.header r0.fields r0.progress)) told ∙ ap (λ p. count_points (rest_marks (las_with r0.header r0.fields file) p)) start ∙ count-marks (las_with r0.header r0.fields file).points (las_with r0.header r0.fields file).fault
 
-    by_bytes : (o : Option (List ℕ)) → option_map (extent_in r1.header) o ≡ Some (extent_in r0.header file)
-        → read_at r1.header (reached r1.source) + count_points (told_at o r1.header r1.progress) ≤ count_points (told_of {K = K} bytes (Reader r0)) + beyond_at o r1.header (reached r1.source) r1.progress
-    by_bytes None e = absurd (none-some (extent_in r0.header file) e)
+    by_bytes : (o : Option (List ℕ)) → option_map (extent_in r1.header r1.fields) o ≡ Some (extent_in r0.header r0.fields file)
+        → read_at r1.header (reached r1.source) + count_points (told_at o r1.header r1.fields r1.progress) ≤ count_points (told_of {K = K} bytes (Reader r0)) + beyond_at o r1.header r1.fields (reached r1.source) r1.progress
+    by_bytes None e = absurd (none-some (extent_in r0.header r0.fields file) e)
     by_bytes (Some now) e =
-        let many : length (las_with r1.header now).points ≡ length (las_with r0.header file).points = ap (λ (x : Extent). x.points) (same_Some (extent_in r1.header now) (extent_in r0.header file) e) in
-        let m = told-marks (las_with r1.header now) (points_in r1.header) (read_at r1.header (reached r1.source)) r1.progress in
+        let many : length (las_with r1.header r1.fields now).points ≡ length (las_with r0.header r0.fields file).points = ap (λ (x : Extent). x.points) (same_Some (extent_in r1.header r1.fields now) (extent_in r0.header r0.fields file) e) in
+        let m = told-marks (las_with r1.header r1.fields now) (points_in r1.header) (read_at r1.header (reached r1.source)) r1.progress in
         omega (arith, first, many, m)
 
 -- records that begin below a place reach up to it
@@ -227,8 +225,8 @@ lead-read header reached some = below-to header (read_at header reached) reached
 pub begins-near : {S : Type 0} (K : Type 0) (bytes : S → Option (List ℕ)) (reached : S → ℕ) (r : LasReader S) (file : List ℕ) → bytes r.source ≡ Some file → r.progress ≡ Records 0
     → reached r.source ≤ r.header.points_at → ahead_of {K = K} bytes reached (Reader r) ≡ 0
 begins-near K bytes reached r file told start none =
-    let las = las_with r.header file in
+    let las = las_with r.header r.fields file in
     let read = read_at r.header (reached r.source) in
     let few : read ≤ 0 = below-to r.header 0 (reached r.source) (reached r.source) (omega (arith, none)) in
-    ap (λ o. beyond_at o r.header (reached r.source) r.progress) told ∙ ap (beyond_in las (points_in r.header) read) start
-    ∙ ap (λ b. if b then read - 0 else read + points_in r.header) (le-leb 0 (length las.points) (omega arith)) ∙ omega (arith, few)
+    ap (λ o. beyond_at o r.header r.fields (reached r.source) r.progress) told ∙ ap (beyond_in las (points_in r.header) read) start
+    ∙ ap (λ b. if b then read - 0 else max read (points_in r.header) + (points_in r.header - 0)) (le-leb 0 (length las.points) (omega arith)) ∙ omega (arith, few)

@@ -1,6 +1,5 @@
 -- The stages keep the law of cutting.
-use Rattle.std.proofs.Common.{◌≡◌, Some, refl, sym, ap, arith}
-use Rattle.cloud_points.specs.declared.point.Point.{Point}
+use Rattle.std.proofs.Common.{◌≡◌, Some, refl, sym, ap}
 use Rattle.cloud_points.specs.Lifted.{lifted-keeps}
 use Rattle.cloud_points.specs.Meaning.{KeepsCutting}
 use Rattle.stage_meanings.specs.Filtering.{Filtering, filter_meaning}

@@ -1,7 +1,8 @@
 -- How far a reader has read its file, and how many points a writer took.
-use Rattle.std.specs.Prelude.{◌≡◌, ◌≤◌, ℕ, ◌+◌, ◌-◌, ◌*◌, ◌^◌, nat_lt, nat_le, cond, if◌then◌else◌, List, length, Option, Some, None, option_map, slice_get}
+use Rattle.std.specs.Prelude.{◌≡◌, ◌≤◌, ℕ, ◌+◌, ◌-◌, ◌*◌, ◌^◌, max, nat_lt, nat_le, cond, if◌then◌else◌, List, length, Option, Some, None, option_map, slice_get}
 use Rattle.cloud_points.specs.Extents.{Extent}
 use Rattle.cloud_points.specs.Queue.{up_to_limit}
+use Rattle.cloud_points.specs.declared.extra.ExtraField.{ExtraField}
 use Rattle.cloud_points.specs.declared.faults.PointFault.TheVariants as fault
 use Rattle.cloud_points.specs.declared.faults.StageFault.{StageFault}
 use Rattle.cloud_points.specs.declared.faults.StageFault.TheVariants as stage
@@ -37,29 +38,34 @@ lead_of reached _ = 0
 abbrev pub read_at : Header → ℕ → ℕ
 read_at header reached = records_below header reached reached
 
--- how many records a reader read beyond those that it gave, which are all whole ones once their end was given; past a place that its file
--- lacks, all may be
+-- how many records a reader read beyond those that it gave, which are all of its file's points once their end was given; where it gave more
+-- points than the file has, as none does from its start on, it may have read all, and those that it may yet give are counted too
 abbrev pub beyond_in : Las → ℕ → ℕ → Progress → ℕ
-beyond_in las count read (Records given) = if nat_le given (length las.points) then read - given else read + count
+beyond_in las count read (Records given) = if nat_le given (length las.points) then read - given else max read count + (count - given)
 beyond_in las count read ViewEnded = read - length las.points
 beyond_in las count read (Ended cut) = read - length las.points
 
--- the same by the bytes that the source tells, and the file's header
-abbrev pub beyond_at : Option (List ℕ) → Header → ℕ → Progress → ℕ
-beyond_at None header reached progress = 0
-beyond_at (Some file) header reached progress = beyond_in (las_with header file) (points_in header) (read_at header reached) progress
+-- the same by the bytes that the source tells, and the header and the fields of the file
+abbrev pub beyond_at : Option (List ℕ) → Header → List ExtraField → ℕ → Progress → ℕ
+beyond_at None header fields reached progress = 0
+beyond_at (Some file) header fields reached progress =
+    beyond_in (las_with header fields file) (points_in header) (read_at header reached) progress
 
 -- of a stage: only readers read
 abbrev pub ahead_of : {S K : Type 0} → (S → Option (List ℕ)) → (S → ℕ) → StageWork S K → ℕ
-ahead_of bytes reached (Reader r) = beyond_at (bytes r.source) r.header (reached r.source) r.progress
+ahead_of bytes reached (Reader r) = beyond_at (bytes r.source) r.header r.fields (reached r.source) r.progress
 ahead_of bytes reached _ = 0
 
 -- the points in what it reads, where its source tells its bytes
-abbrev pub extent_in : Header → List ℕ → Extent
-extent_in header file = record { points = length (las_with header file).points; begin = header.points_at; stride = header.record_length }
+abbrev pub extent_in : Header → List ExtraField → List ℕ → Extent
+extent_in header fields file = record {
+  points = length (las_with header fields file).points;
+  begin = header.points_at;
+  stride = header.record_length;
+}
 
 abbrev pub extent_of : {S K : Type 0} → (S → Option (List ℕ)) → StageWork S K → Option Extent
-extent_of bytes (Reader r) = option_map (extent_in r.header) (bytes r.source)
+extent_of bytes (Reader r) = option_map (extent_in r.header r.fields) (bytes r.source)
 extent_of bytes _ = None
 
 -- how far a stage has read its file, and where the points begin there

@@ -1,5 +1,6 @@
 -- What a leaf still gives: a reader of its file, another one of its views.
 use Rattle.std.specs.Prelude.{ℕ, ◌-◌, nat_le, Bool, true, false, not, List, [], ◌∷◌, ◌++◌, length, map, drop, Option, Some, None, option_map}
+use Rattle.cloud_points.specs.declared.extra.ExtraField.{ExtraField}
 use Rattle.cloud_points.specs.declared.point.Point.{Point}
 use Rattle.cloud_points.specs.declared.faults.StageFault.{StageFault}
 use Rattle.cloud_points.specs.declared.faults.StageFault.TheVariants as stage
@@ -38,24 +39,24 @@ rest_fault las (Records given) = cut_fault las
 rest_fault las ViewEnded = None
 rest_fault las (Ended cut) = None
 
--- it isn't ended, nor past the whole records
+-- it isn't ended, nor past the points of the file
 abbrev pub is_within : Las → Progress → Bool
 is_within las (Records given) = nat_le given (length las.points)
 is_within las ViewEnded = true
 is_within las (Ended cut) = false
 
--- the same by the bytes that the source tells, and the file's header
-abbrev pub tells_at : Option (List ℕ) → Header → Progress → Bool
-tells_at None header progress = false
-tells_at (Some file) header progress = is_within (las_with header file) progress
+-- the same by the bytes that the source tells, and the header and the fields of the file
+abbrev pub tells_at : Option (List ℕ) → Header → List ExtraField → Progress → Bool
+tells_at None header fields progress = false
+tells_at (Some file) header fields progress = is_within (las_with header fields file) progress
 
-abbrev pub told_at : Option (List ℕ) → Header → Progress → List (Mark Point)
-told_at None header progress = []
-told_at (Some file) header progress = rest_marks (las_with header file) progress
+abbrev pub told_at : Option (List ℕ) → Header → List ExtraField → Progress → List (Mark Point)
+told_at None header fields progress = []
+told_at (Some file) header fields progress = rest_marks (las_with header fields file) progress
 
-abbrev pub told_fault_at : Option (List ℕ) → Header → Progress → Option StageFault
-told_fault_at None header progress = None
-told_fault_at (Some file) header progress = rest_fault (las_with header file) progress
+abbrev pub told_fault_at : Option (List ℕ) → Header → List ExtraField → Progress → Option StageFault
+told_fault_at None header fields progress = None
+told_fault_at (Some file) header fields progress = rest_fault (las_with header fields file) progress
 
 -- how many points and views are left at most
 abbrev pub points_left : ℕ → Progress → ℕ
@@ -71,19 +72,19 @@ views_left (Ended cut) = 0
 -- of a stage, by the bytes that a source tells: a reader has something to give, and one that gives what was made of whole views
 module _ {S K : Type 0} where
   abbrev pub tells_of : (S → Option (List ℕ)) → StageWork S K → Bool
-  tells_of bytes (Reader r) = tells_at (bytes r.source) r.header r.progress
+  tells_of bytes (Reader r) = tells_at (bytes r.source) r.header r.fields r.progress
   tells_of bytes (Views h) = not h.ended
   tells_of bytes (ViewFiles t) = not t.views.ended
   tells_of bytes _ = false
 
   abbrev pub told_of : (S → Option (List ℕ)) → StageWork S K → List (Mark Point)
-  told_of bytes (Reader r) = told_at (bytes r.source) r.header r.progress
+  told_of bytes (Reader r) = told_at (bytes r.source) r.header r.fields r.progress
   told_of bytes (Views h) = left_of h
   told_of bytes (ViewFiles t) = left_of t.views
   told_of bytes _ = []
 
   abbrev pub told_fault_of : (S → Option (List ℕ)) → StageWork S K → Option StageFault
-  told_fault_of bytes (Reader r) = told_fault_at (bytes r.source) r.header r.progress
+  told_fault_of bytes (Reader r) = told_fault_at (bytes r.source) r.header r.fields r.progress
   told_fault_of bytes (ViewFiles t) = fault_with t.fault
   told_fault_of bytes _ = None
 

@@ -1,6 +1,7 @@
 //! The files that stages write, and what a stage is made of.
 
 use crate::Making;
+use cloud_points::FieldList;
 use expr_eval::Bound;
 use forward_rules::LasForm;
 use stream_filters::Filter;
@@ -29,8 +30,8 @@ pub struct Writing {
 /// What a stage does, beside its device: its work is made of it.
 #[derive(Drop)]
 pub enum StageForm {
-    /// It reads a file.
-    Reads,
+    /// It reads a file, with these extra dimensions of its points.
+    Reads(FieldList),
 
     /// It is a filter.
     Filters(Filter),

@@ -7,6 +7,7 @@ use Rattle.option_texts.specs.Columns.{columns_of}
 use Rattle.option_texts.specs.Forward.{forward_of}
 use Rattle.option_texts.specs.Ferries.{ferries_of}
 use Rattle.option_texts.specs.Groups.{groups_of}
+use Rattle.option_texts.specs.ExtraDims.{extra_dims_of}
 use Rattle.stage_names.specs.declared.kinds.KindName.{KindName}
 use Rattle.stage_names.specs.declared.kinds.KindName.TheVariants.{ReadersLas, FiltersRange, FiltersCrop, FiltersAssign, FiltersFerry, FiltersExpression, FiltersDecimation, FiltersHead, FiltersReturns, FiltersMerge, FiltersSort, FiltersTail, FiltersGroupby, FiltersSplitter, FiltersVoxeldownsize, WritersLas, WritersText}
 use Rattle.stage_options.specs.Expressions.{condition_with, assignments_with}
@@ -30,6 +31,7 @@ pub data Allowed : Type 0 where
   point : Allowed  -- a point
   ferries : Allowed  -- from which dimensions values go to which
   groups : Allowed  -- groups of returns
+  extra_dims : Allowed  -- the extra dimensions of a LAS file
   condition : Allowed  -- the text of a condition
   assignments : Allowed  -- the text of an assignment, or several such texts
   source : Allowed  -- the name of a file that is read
@@ -90,6 +92,7 @@ coordinate = decimal (neg_ℤ (pos 4000000000000000000)) (pos 400000000000000000
 abbrev pub rules_of : KindName → List Rule
 rules_of ReadersLas =
     (required (codes "filename") source
+    ∷ optional (codes "use_eb_vlr") truth
     ∷ [])
 rules_of FiltersRange =
     (required (codes "limits") ranges
@@ -167,6 +170,7 @@ rules_of WritersLas =
     ∷ optional (codes "creation_year") short
     ∷ optional (codes "system_id") (sized 0 32)
     ∷ optional (codes "software_id") (sized 0 32)
+    ∷ optional (codes "extra_dims") extra_dims
     ∷ optional (codes "where") condition
     ∷ [])
 rules_of WritersText =
@@ -214,6 +218,7 @@ fits polygon d = passes (λ t. is_some (polygon_of t)) (as_str d)
 fits point d = passes (λ t. is_some (point_of t)) (as_str d)
 fits ferries d = passes (λ t. is_some (ferries_of t)) (as_str d)
 fits groups d = passes (λ t. is_some (groups_of t)) (as_str d)
+fits extra_dims d = passes (λ t. is_some (extra_dims_of t)) (as_str d)
 fits condition d = is_some (condition_with d)
 fits assignments d = is_some (assignments_with d)
 fits source d = passes is_source (as_str d)

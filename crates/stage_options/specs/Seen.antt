@@ -29,6 +29,7 @@ allowed_view allowed.Bounds = rules.bounds
 allowed_view allowed.Polygon = rules.polygon
 allowed_view allowed.Point = rules.point
 allowed_view allowed.Ferries = rules.ferries
+allowed_view allowed.ExtraDims = rules.extra_dims
 allowed_view allowed.Groups = rules.groups
 allowed_view allowed.Condition = rules.condition
 allowed_view allowed.Assignments = rules.assignments

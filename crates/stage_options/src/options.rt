@@ -1,6 +1,7 @@
 //! The options of a stage, by its type.
 
 ghost use Rattle.std.specs.Prelude.{◌≡◌, option_map};
+ghost use Rattle.option_texts.specs.Ferries.{AreFerries};
 ghost use Rattle.stage_options.specs.Ferries.{ferries_in};
 ghost use Rattle.stage_options.specs.Where.{only_of};
 ghost use Rattle.stage_options.specs.Kinds.{kind_of};
@@ -15,7 +16,7 @@ use expr_lang::Expr;
 use file_devices::Name;
 use geo_tests::Shape;
 use limits_text::RangeList;
-use option_texts::{Groups, NamedColumns, NamedFerries, NamedFerry};
+use option_texts::{ExtraDims, Groups, NamedColumns, NamedFerries, NamedFerry};
 use stage_names::KindName;
 use text_writer::Separator;
 
@@ -79,6 +80,9 @@ pub enum Options {
 pub struct LasReaderOptions {
     /// The name of the file.
     pub filename: SourceName,
+
+    /// Whether the extra dimensions that its file describes are read.
+    pub extra: bool,
 }
 
 /// The options of `filters.range`.
@@ -227,6 +231,9 @@ pub struct LasWriterOptions {
     /// What its header block says, and what is forwarded.
     pub fields: LasFields,
 
+    /// The extra dimensions that are written; None is none.
+    pub extra: Option<ExtraDims>,
+
     /// The points that are written; None is all.
     pub only: Option<Expr>,
 }
@@ -328,7 +335,8 @@ impl Options {
 
     /// The ferries of a stage with these options, in the order in which they go; only `filters.ferry` has some.
     pub fn ferries(&self) -> &[NamedFerry]
-        ensures { result.now ≡ ferries_in self.now }
+        ensures ferries { result.now ≡ ferries_in self.now }
+        ensures named { AreFerries result.now }
     {
         match self {
             Options::FiltersFerry(options) => options.ferries.as_slice(),

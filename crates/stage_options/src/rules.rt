@@ -57,6 +57,9 @@ pub enum Allowed {
     /// Groups of returns.
     Groups,
 
+    /// The extra dimensions of a LAS file.
+    ExtraDims,
+
     /// The text of a condition.
     Condition,
 
@@ -136,7 +139,10 @@ const COORDINATE: Allowed = Allowed::Decimal(-4_000_000_000_000_000_000, 4_000_0
 const SHORT: Allowed = Allowed::Whole(0, 65_535);
 
 /// The options of `readers.las`.
-const READERS_LAS: &[Rule] = &[Rule::Required("filename", Allowed::Source)];
+const READERS_LAS: &[Rule] = &[
+    Rule::Required("filename", Allowed::Source),
+    Rule::Optional("use_eb_vlr", Allowed::Truth),
+];
 
 /// Which points a stage judges or writes.
 const WHERE: Rule = Rule::Optional("where", Allowed::Condition);
@@ -230,6 +236,7 @@ const WRITERS_LAS: &[Rule] = &[
     Rule::Optional("creation_year", SHORT),
     Rule::Optional("system_id", Allowed::Sized(0, 32)),
     Rule::Optional("software_id", Allowed::Sized(0, 32)),
+    Rule::Optional("extra_dims", Allowed::ExtraDims),
     WHERE,
 ];
 

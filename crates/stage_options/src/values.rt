@@ -6,6 +6,7 @@ ghost use Rattle.serde_json.specs.Find.{as_str};
 ghost use Rattle.serde_json.specs.View.{view, items_view, members_view, number_view};
 ghost use Rattle.expr_lang.specs.Said.{condition_of, assignment_of_text};
 ghost use Rattle.limits_text.specs.Texts.{ranges_of, bounds_of, polygon_of, point_of};
+ghost use Rattle.option_texts.specs.ExtraDims.{extra_dims_of};
 ghost use Rattle.option_texts.specs.Ferries.{ferries_of};
 ghost use Rattle.stage_options.specs.Expressions.{condition_with, assignment_with, all_assignments, some_and_few, assignments_with};
 ghost use Rattle.stage_options.specs.Values.{text_whole, whole_of, format_with, whole_nano, decimal_of, text_truth, truth_of, is_part, is_source, is_target, is_numbered, numbered, is_mark};
@@ -19,7 +20,7 @@ use las_header::Format;
 use limits_text::{
     Box3, Polygon, RangeList, TextErr, parse_bounds, parse_point, parse_polygon, parse_ranges,
 };
-use option_texts::{NamedFerries, ferries_of};
+use option_texts::{ExtraDims, NamedFerries, extra_dims_of, ferries_of};
 use pipeline_json::member;
 use serde_json::{Map, Number, Value};
 use std::alloc::{AllocError, Global};
@@ -338,6 +339,16 @@ impl<'a> Given<'a> {
     {
         match self.text() {
             Some(text) => ferries_of(alloc, text),
+            None => Ok(None),
+        }
+    }
+
+    /// The extra dimensions that are given. Refused only where memory is wanting.
+    pub fn extra_dims(self, alloc: Global) -> Result<Option<ExtraDims>, AllocError>
+        ensures { IfOk result (λ o. o ≡ option_and_then extra_dims_of (as_str (given_view self.entry))) }
+    {
+        match self.text() {
+            Some(text) => extra_dims_of(alloc, text),
             None => Ok(None),
         }
     }

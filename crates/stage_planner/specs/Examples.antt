@@ -8,7 +8,7 @@ use Rattle.stage_planner.specs.Plans.{plan_of, end_of}
 
 -- a reader, and by the numbers of the stages that they take a head, a merge and a sort
 abbrev read : StageSpec
-read = record { kind = kind.ReadersLas; ins = []; options = ReadersLas (record { filename = codes "a.las" }) }
+read = record { kind = kind.ReadersLas; ins = []; options = ReadersLas (record { filename = codes "a.las"; extra = false }) }
 
 abbrev head : List ℕ → StageSpec
 head ins = record { kind = kind.FiltersHead; ins = ins; options = FiltersHead (record { count = 1; only = None }) }

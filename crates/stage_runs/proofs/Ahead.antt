@@ -457,12 +457,12 @@ module _ {S K : Type 0} (s : source.Ghosts S) (k : sink.Ghosts K) (stages : List
             where
               reader-bytes : (r before : LasReader S) (file : List ℕ) → s.bytes before.source ≡ Some file → extent_of {K = K} s.bytes (Reader r) ≡ extent_of {K = K} s.bytes (Reader before) → before.header.record_length ≤ wide
                   → s.reached r.source ≤ before.header.points_at + read_at r.header (s.reached r.source) * wide
-              reader-bytes r before file told same few = by_bytes (s.bytes r.source) (same ∙ ap (option_map (extent_in before.header)) told)
+              reader-bytes r before file told same few = by_bytes (s.bytes r.source) (same ∙ ap (option_map (extent_in before.header before.fields)) told)
                 where
-                  by_bytes : (o : Option (List ℕ)) → option_map (extent_in r.header) o ≡ Some (extent_in before.header file) → s.reached r.source ≤ before.header.points_at + read_at r.header (s.reached r.source) * wide
-                  by_bytes None g = absurd (none-some (extent_in before.header file) g)
+                  by_bytes : (o : Option (List ℕ)) → option_map (extent_in r.header r.fields) o ≡ Some (extent_in before.header before.fields file) → s.reached r.source ≤ before.header.points_at + read_at r.header (s.reached r.source) * wide
+                  by_bytes None g = absurd (none-some (extent_in before.header before.fields file) g)
                   by_bytes (Some now) g =
-                      let q = same_Some (extent_in r.header now) (extent_in before.header file) g in
+                      let q = same_Some (extent_in r.header r.fields now) (extent_in before.header before.fields file) g in
                       let at : r.header.points_at ≡ before.header.points_at = ap (λ (x : Extent). x.begin) q in
                       let long : r.header.record_length ≡ before.header.record_length = ap (λ (x : Extent). x.stride) q in
                       let up = reaches r.header (s.reached r.source) (some-bytes r) in

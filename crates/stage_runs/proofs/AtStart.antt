@@ -71,7 +71,7 @@ module _ {S K : Type 0} (bytes : K → Option (List ℕ)) where
   leaf-first o setting w start leaf = go (form_for o setting) w start leaf
     where
       go : (form : StageForm) (w : StageWork S K) → IsStarted bytes form w → is_leaf w ≡ true → IsFirst w
-      go Reads (Reader r) start leaf = record { reader = r; is = refl; first = start }
+      go (Reads fields) (Reader r) start leaf = record { reader = r; is = refl; first = start.0 }
       go (Filters f) (Filter g) start leaf = absurd (true≢false (sym leaf))
       go (Gathers g) (Collector c) start leaf = absurd (true≢false (sym leaf))
       go (Writes x) (Writer v) start leaf = absurd (true≢false (sym leaf))
@@ -81,7 +81,7 @@ module _ {S K : Type 0} (bytes : K → Option (List ℕ)) where
   reader-reads o setting r start = go (form_for o setting) (row-is o setting) start
     where
       go : (form : StageForm) → IsRow form o setting → IsStarted {S = S} {K = K} bytes form (Reader r) → is_reading (role_of o) ≡ true
-      go Reads row start = row.0
+      go (Reads fields) row start = row.0
       go form row start = absurd start
 
   -- a writer of one file took no point yet
@@ -94,7 +94,7 @@ module _ {S K : Type 0} (bytes : K → Option (List ℕ)) where
   writer-first o setting w start writes = go (form_for o setting) (row-is o setting) w start
     where
       go : (form : StageForm) → IsRow form o setting → (w : StageWork S K) → IsStarted bytes form w → IsFirstWriter w
-      go Reads row (Reader r) start = absurd (not-both (role_of o) row.0 writes)
+      go (Reads fields) row (Reader r) start = absurd (not-both (role_of o) row.0 writes)
       go (Filters f) row (Filter g) start = absurd (true≢false (sym writes ∙ ap is_writing row.does))
       go (Gathers m) row (Collector c) start = absurd (true≢false (sym writes ∙ row.0.later))
       go (Writes x) row (Writer v) start = record { inner = refl; meaning = refl; none = ap taken_in start.state }

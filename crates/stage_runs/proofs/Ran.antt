@@ -33,7 +33,7 @@ use Rattle.stage_options.specs.Roles as role
 use Rattle.cloud_points.specs.declared.faults.PointFault.{PointFault}
 use Rattle.stage_kinds.specs.declared.stage_work.StageWork.TheVariants.{Reader, Filter, Collector, Views, ViewFiles, Writer}
 use Rattle.stage_options.specs.declared.stage.StageSpec.{StageSpec}
-use Rattle.answer_model.specs.Values.{LasFile, Opened, IsDown, options_at, role_at, row_at, setting_at, stage_value, stage_input, stage_fault}
+use Rattle.answer_model.specs.Values.{LasFile, Opened, IsDown, options_at, role_at, row_at, setting_at, stage_value, stage_input, stage_fault, las_at}
 use Rattle.answer_model.specs.Rows as rows
 use Rattle.answer_model.proofs.Values.{value-input}
 use Rattle.stage_forms.specs.Starts.{HoldsNone, files_of, form_for, kept_for, op_for, HaveRead, IsAtStart, wrote_of}
@@ -72,18 +72,18 @@ module _ {S K : Type 0} (s : source.Ghosts S) (k : sink.Ghosts K) (stages : List
     pub start-at : (i : ℕ) (n : Node (StageWork S K)) → slice_get old i ≡ Some n → IsAtStart k.bytes (options_at stages i) (setting_at stages opened i) n.work
     start-at i n e = new.works opened have-read i n.work (map-at work_of old i n e)
 
-    pub leaf-at : (i : ℕ) (n : Node (StageWork S K)) → slice_get old i ≡ Some n → is_leaf n.work ≡ true → IsLeaf s (options_at stages i) (opened i).las n.work
+    pub leaf-at : (i : ℕ) (n : Node (StageWork S K)) → slice_get old i ≡ Some n → is_leaf n.work ≡ true → IsLeaf s (options_at stages i) (las_at stages opened i) n.work
     leaf-at i n e l = leaf-is s k.bytes (options_at stages i) (setting_at stages opened i) opened i n.work (start-at i n e) l (λ r w. tell i n r e w)
 
     pub inner-at : (i : ℕ) (n : Node (StageWork S K)) → slice_get old i ≡ Some n → is_leaf n.work ≡ false → is_gathering (role_at stages i) ≡ false → IsInner (options_at stages i) (setting_at stages opened i) n.work
     inner-at i n e l streams = inner-is s k.bytes (options_at stages i) (setting_at stages opened i) n.work (start-at i n e) l streams
 
     -- by whether it reads
-    pub value-leaf : (i : ℕ) → is_reading (role_at stages i) ≡ true → stage_value stages opened i ≡ las_flow (opened i).las
-    value-leaf i reads = value-input stages opened down i ∙ ap (λ b. cond b (las_flow (opened i).las) (rows.value_on (row_at stages opened i) (stage_input stages opened i))) reads
+    pub value-leaf : (i : ℕ) → is_reading (role_at stages i) ≡ true → stage_value stages opened i ≡ las_flow (las_at stages opened i)
+    value-leaf i reads = value-input stages opened down i ∙ ap (λ b. cond b (las_flow (las_at stages opened i)) (rows.value_on (row_at stages opened i) (stage_input stages opened i))) reads
 
     pub value-inner : (i : ℕ) → is_reading (role_at stages i) ≡ false → stage_value stages opened i ≡ rows.value_on (row_at stages opened i) (stage_input stages opened i)
-    value-inner i reads = value-input stages opened down i ∙ ap (λ b. cond b (las_flow (opened i).las) (rows.value_on (row_at stages opened i) (stage_input stages opened i))) reads
+    value-inner i reads = value-input stages opened down i ∙ ap (λ b. cond b (las_flow (las_at stages opened i)) (rows.value_on (row_at stages opened i) (stage_input stages opened i))) reads
 
     -- it streams its value
     pub tells-value : (i : ℕ) (n : Node (StageWork S K)) → slice_get old i ≡ Some n → is_leaf n.work ≡ true → told_of s.bytes n.work ≡ flow_marks (stage_value stages opened i)
@@ -101,11 +101,11 @@ module _ {S K : Type 0} (s : source.Ghosts S) (k : sink.Ghosts K) (stages : List
         by_leaf : (b : Bool) → is_leaf n.work ≡ b → cond b (told_fault_of s.bytes n.work) (fault_of (as_works s k) n.work (stage_input stages opened i)) ≡ option_map stage.Point (stage_fault stages opened i)
         by_leaf true l =
             let t = leaf-at i n was l in
-            t.fault ∙ ap (λ b. option_map stage.Point (cond b (las_fault (opened i).las) (rows.fault_on (row_at stages opened i) (stage_input stages opened i)))) (sym t.reads)
+            t.fault ∙ ap (λ b. option_map stage.Point (cond b (las_fault (las_at stages opened i)) (rows.fault_on (row_at stages opened i) (stage_input stages opened i)))) (sym t.reads)
         by_leaf false l =
             let t = inner-at i n was l streams in
             t.fault (stage_input stages opened i)
-            ∙ ap (λ b. option_map stage.Point (cond b (las_fault (opened i).las) (rows.fault_on (row_at stages opened i) (stage_input stages opened i)))) (sym t.inner)
+            ∙ ap (λ b. option_map stage.Point (cond b (las_fault (las_at stages opened i)) (rows.fault_on (row_at stages opened i) (stage_input stages opened i)))) (sym t.inner)
 
     -- where it took what the stage takes, it ends so
     pub ends-as : (i : ℕ) (n m : Node (StageWork S K)) → slice_get old i ≡ Some n → is_gathering (role_at stages i) ≡ false → op_of m.work ≡ op_of n.work → meaning_of m.work ≡ meaning_of n.work
@@ -127,7 +127,7 @@ module _ {S K : Type 0} (s : source.Ghosts S) (k : sink.Ghosts K) (stages : List
           where
             by_role : (b : Bool) → is_reading (role_at stages i) ≡ b → rows.fault_on (row_at stages opened i) (stage_input stages opened i) ≡ None ⊎ is_reading (role_at stages i) ≡ true
             by_role true e = inr e
-            by_role false e = inl (no-point _ (sym sound ∙ fault-is ∙ ap (λ b. option_map stage.Point (cond b (las_fault (opened i).las) (rows.fault_on (row_at stages opened i) (stage_input stages opened i)))) e))
+            by_role false e = inl (no-point _ (sym sound ∙ fault-is ∙ ap (λ b. option_map stage.Point (cond b (las_fault (las_at stages opened i)) (rows.fault_on (row_at stages opened i) (stage_input stages opened i)))) e))
 
         holds-so : m.fault ≡ None → (writing : Writing) → form_for (options_at stages i) (setting_at stages opened i) ≡ Makes writing → HoldsAll k.bytes writing (points (stage_input stages opened i)) m.work
         holds-so sound writing is = by_kind (is_leaf n.work) refl
@@ -167,7 +167,7 @@ module _ {S K : Type 0} (s : source.Ghosts S) (k : sink.Ghosts K) (stages : List
         keeps-so = none-kept ∙ sym (by_form form refl)
           where
             by_form : (f : StageForm) → form ≡ f → kept_for form (stage_value stages opened i) ≡ None
-            by_form Reads is = ap (λ f. kept_for f (stage_value stages opened i)) is
+            by_form (Reads fields) is = ap (λ f. kept_for f (stage_value stages opened i)) is
             by_form (Filters g) is = ap (λ f. kept_for f (stage_value stages opened i)) is
             by_form (Makes x) is = ap (λ f. kept_for f (stage_value stages opened i)) is
             by_form (Gathers g) is = absurd (true≢false (sym (row (Gathers g) is).0.gathers ∙ streams))
@@ -177,7 +177,7 @@ module _ {S K : Type 0} (s : source.Ghosts S) (k : sink.Ghosts K) (stages : List
           where
             by_form : (f : StageForm) → form ≡ f → written_by m.work ≡ wrote_of f (stage_input stages opened i) (stage_value stages opened i)
             by_form (Makes x) is = let all = holds-so sound x is in wrote-all m.work k.bytes x (points (stage_input stages opened i)) all.is all.holds all.nowhere
-            by_form Reads is = wrote-none m.work (device ∙ (row Reads is).1) (λ e. absurd cc) none-kept
+            by_form (Reads fields) is = wrote-none m.work (device ∙ (row (Reads fields) is).1) (λ e. absurd cc) none-kept
             by_form (Filters g) is = wrote-none m.work (device ∙ ap op_for (row (Filters g) is).does) (λ e. absurd cc) none-kept
             by_form (Gathers g) is = absurd (true≢false (sym (row (Gathers g) is).0.gathers ∙ streams))
 
@@ -186,7 +186,7 @@ module _ {S K : Type 0} (s : source.Ghosts S) (k : sink.Ghosts K) (stages : List
           where
             by_form : (f : StageForm) → form ≡ f → files_by m.work ≡ files_of f (stage_value stages opened i)
             by_form (Makes x) is = one-file m.work (device ∙ ap op_for (row (Makes x) is).does)
-            by_form Reads is = no-files m.work (device ∙ (row Reads is).1) (λ e. absurd cc) none-kept
+            by_form (Reads fields) is = no-files m.work (device ∙ (row (Reads fields) is).1) (λ e. absurd cc) none-kept
             by_form (Filters g) is = no-files m.work (device ∙ ap op_for (row (Filters g) is).does) (λ e. absurd cc) none-kept
             by_form (Gathers g) is = absurd (true≢false (sym (row (Gathers g) is).0.gathers ∙ streams))
 
@@ -200,7 +200,7 @@ module _ {S K : Type 0} (s : source.Ghosts S) (k : sink.Ghosts K) (stages : List
 
     pub gathers-fault : (i : ℕ) (m : Making) → form_for (options_at stages i) (setting_at stages opened i) ≡ Gathers m → stage_fault stages opened i ≡ fault_by m (stage_input stages opened i)
     gathers-fault i m form = let row = gather-row (options_at stages i) (setting_at stages opened i) m form in
-        ap (λ b. cond b (las_fault (opened i).las) (rows.fault_on (row_at stages opened i) (stage_input stages opened i))) row.inner ∙ sym (row.fault (stage_input stages opened i))
+        ap (λ b. cond b (las_fault (las_at stages opened i)) (rows.fault_on (row_at stages opened i) (stage_input stages opened i))) row.inner ∙ sym (row.fault (stage_input stages opened i))
 
     -- a leaf that gave its value, had its fault and keeps what it writes ends so
     pub held-ends : (i : ℕ) (n m : Node (StageWork S K)) → slice_get old i ≡ Some n → is_gathering (role_at stages i) ≡ true → op_of m.work ≡ None

@@ -54,12 +54,7 @@ fn any_short<S: Source, K: FileSink>(nodes: &[Node<StageWork<S, K>>]) -> bool
     ensures short { result ≡ true → SomeShort nodes.now }
     ensures enough { result ≡ false → NoneShort nodes.now }
 {
-    for i in 0..nodes.len() {
-        if nodes[i].work().is_short() {
-            return true;
-        }
-    }
-    false
+    nodes.iter().any(|node| node.work().is_short())
 }
 
 /// Whether one of these nodes has a fault.
@@ -67,12 +62,7 @@ pub fn any_fault<S: Source, K: FileSink>(nodes: &[Node<StageWork<S, K>>]) -> boo
     ensures some { result ≡ true → SomeFault (as_works S.Source K.Sink) nodes.now }
     ensures none { result ≡ false → NoneFaulty (as_works S.Source K.Sink) nodes.now }
 {
-    for i in 0..nodes.len() {
-        if nodes[i].fault().is_some() {
-            return true;
-        }
-    }
-    false
+    nodes.iter().any(|node| node.fault().is_some())
 }
 
 /// How turns of these nodes ended: want of memory goes before a fault.

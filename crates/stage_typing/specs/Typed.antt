@@ -17,6 +17,8 @@ use Rattle.limits_text.specs.Texts.{ranges_of, bounds_of, polygon_of, point_of}
 use Rattle.limits_text.specs.declared.shapes.NamedRange.{NamedRange}
 use Rattle.option_texts.specs.Columns.{columns_of}
 use Rattle.option_texts.specs.Forward.{forward_of}
+use Rattle.option_texts.specs.ExtraDims.{extra_dims_of}
+use Rattle.option_texts.specs.declared.extra_dims.ExtraDims.{ExtraDims}
 use Rattle.option_texts.specs.Ferries.{ferries_of}
 use Rattle.option_texts.specs.Groups.{groups_of}
 use Rattle.option_texts.specs.declared.ferries.NamedFerry.{NamedFerry}
@@ -38,6 +40,7 @@ use Rattle.stage_options.specs.declared.options.TailOptions.{TailOptions}
 use Rattle.stage_options.specs.declared.options.GroupbyOptions.{GroupbyOptions}
 use Rattle.stage_options.specs.declared.options.SplitterOptions.{SplitterOptions}
 use Rattle.stage_options.specs.declared.options.VoxeldownsizeOptions.{VoxeldownsizeOptions}
+use Rattle.stage_options.specs.declared.options.LasReaderOptions.{LasReaderOptions}
 use Rattle.stage_options.specs.declared.options.LasWriterOptions.{LasWriterOptions}
 use Rattle.stage_options.specs.declared.options.TextOptions.{TextOptions}
 use Rattle.stage_options.specs.Expressions.{condition_with, assignments_with}
@@ -128,6 +131,10 @@ takes_given (Some format) minor = takes_format minor format
 -- the minor version whose files have points of the format that is given
 abbrev pub minor_in : Members → Option ℕ
 minor_in ms = option_and_then (where_it (takes_given (format_in ms))) (whole_in 2 4 (codes "minor_version") ms)
+
+-- the extra dimensions that a LAS writer is asked for
+abbrev pub extra_dims_in : Members → Option ExtraDims
+extra_dims_in ms = option_and_then extra_dims_of (option_in as_str (codes "extra_dims") ms)
 
 -- what a LAS writer is told of its file
 abbrev pub las_fields_in : Members → LasOpts
@@ -220,12 +227,15 @@ splitter_options ms = record {
 abbrev pub voxeldownsize_options : Members → VoxeldownsizeOptions
 voxeldownsize_options ms = record { cell = decimal_or (pos 1) (codes "cell") ms }
 
+abbrev pub las_reader_options : List ℕ → Members → LasReaderOptions
+las_reader_options filename ms = record { filename = filename; extra = unwrap_or (option_in truth_of (codes "use_eb_vlr") ms) false }
+
 abbrev pub las_writer_options : List ℕ → Members → LasWriterOptions
-las_writer_options filename ms = record { filename = filename; fields = las_fields_in ms; only = where_in ms }
+las_writer_options filename ms = record { filename = filename; fields = las_fields_in ms; extra = extra_dims_in ms; only = where_in ms }
 
 -- by the type
 abbrev pub typed_of : KindName → Option (List ℕ) → Members → Options
-typed_of kind.ReadersLas filename ms = ReadersLas (record { filename = unwrap_or filename [] })
+typed_of kind.ReadersLas filename ms = ReadersLas (las_reader_options (unwrap_or filename []) ms)
 typed_of kind.FiltersRange filename ms = FiltersRange (range_options ms)
 typed_of kind.FiltersCrop filename ms = FiltersCrop (crop_options ms)
 typed_of kind.FiltersAssign filename ms = FiltersAssign (assign_options ms)

@@ -10,7 +10,7 @@ ghost use Rattle.las_header.specs.ScaleWords.{scale_of_nano};
 ghost use Rattle.las_header.specs.Versions.{is_version, takes_format};
 ghost use Rattle.stage_options.specs.Expressions.{condition_with};
 ghost use Rattle.stage_options.specs.Seen.{given_view};
-ghost use Rattle.stage_typing.specs.Typed.{option_in, whole_in, text_in, decimal_or, scale_in, offset_in, columns_in, forward_in, format_in, takes_given, minor_in, las_fields_in, text_options_in, where_in, expression_in, assignments_in, ranges_in, ferries_in, groups_in, name_in, is_down};
+ghost use Rattle.stage_typing.specs.Typed.{option_in, whole_in, text_in, decimal_or, scale_in, offset_in, columns_in, extra_dims_in, forward_in, format_in, takes_given, minor_in, las_fields_in, text_options_in, where_in, expression_in, assignments_in, ranges_in, ferries_in, groups_in, name_in, is_down};
 ghost use Rattle.stage_options.specs.Values.{whole_of, decimal_of, truth_of};
 
 pub(crate) mod shapes;
@@ -21,7 +21,9 @@ use file_devices::Name;
 use forward_rules::{LasOpts, NameList};
 use las_header::{Format, takes_format};
 use limits_text::RangeList;
-use option_texts::{Groups, NamedColumns, NamedFerries, columns_of, forward_of, groups_of};
+use option_texts::{
+    ExtraDims, Groups, NamedColumns, NamedFerries, columns_of, extra_dims_of, forward_of, groups_of,
+};
 use pipeline_json::member;
 use serde_json::{Map, Value};
 use stage_options::{AssignList, Given, LasFields, Places, TargetName, TextOptions, name_from};
@@ -215,6 +217,19 @@ fn forward_in(alloc: Global, options: &Map<String, Value>) -> Result<NameList, A
     match forward_of(alloc, text)? {
         Some(names) => Ok(NameList::new(names.into_vec())),
         None => Ok(NameList::new(Vec::new(alloc))),
+    }
+}
+
+/// The extra dimensions that a LAS writer is asked for.
+pub(crate) fn extra_dims_in(
+    alloc: Global,
+    options: &Map<String, Value>,
+) -> Result<Option<ExtraDims>, AllocError>
+    ensures { IfOk result (λ dims. dims ≡ extra_dims_in (members_view options.now.entries)) }
+{
+    match text_of(options, "extra_dims") {
+        Some(text) => extra_dims_of(alloc, text),
+        None => Ok(None),
     }
 }
 

@@ -3,7 +3,7 @@
 ghost use Rattle.std.specs.Prelude.{◌≡◌, [], option_map, None, IfOk, IfErr, OnOk, IsTrue};
 ghost use Rattle.std.specs.Option.{unwrap_or};
 ghost use Rattle.serde_json.specs.View.{members_view};
-ghost use Rattle.stage_typing.specs.Typed.{typed_of, is_named, range_options, crop_options, assign_options, ferry_options, expression_options, decimation_options, head_options, returns_options, sort_options, tail_options, groupby_options, splitter_options, voxeldownsize_options, las_writer_options, text_options_in};
+ghost use Rattle.stage_typing.specs.Typed.{typed_of, is_named, range_options, crop_options, assign_options, ferry_options, expression_options, decimation_options, head_options, returns_options, sort_options, tail_options, groupby_options, splitter_options, voxeldownsize_options, las_reader_options, las_writer_options, text_options_in};
 ghost use Rattle.stage_typing.specs.OptionFaults.{first_fault};
 ghost use Rattle.stage_names.specs.Faults.{IsFaultOf};
 ghost use Rattle.stage_options.specs.Values.{is_source, is_target};
@@ -11,8 +11,8 @@ ghost use Rattle.stage_options.specs.declared.options.Options.TheVariants as typ
 
 use crate::members::shapes::shape_in;
 use crate::members::{
-    assignments_in, decimal_or, expression_in, ferries_in, groups_in, is_down, las_fields, name_in,
-    number_in, ranges_in, text_options, truth_or, where_in, whole_or,
+    assignments_in, decimal_or, expression_in, extra_dims_in, ferries_in, groups_in, is_down,
+    las_fields, name_in, number_in, ranges_in, text_options, truth_or, where_in, whole_or,
 };
 use crate::walks::refuse;
 use serde_json::{Map, Value};
@@ -161,13 +161,19 @@ fn filters_voxeldownsize(options: &Map<String, Value>) -> Options
     Options::FiltersVoxeldownsize(VoxeldownsizeOptions { cell })
 }
 
-fn readers_las(alloc: Global, filename: Option<&str>) -> Result<Options, AllocError>
+fn readers_las(
+    alloc: Global,
+    filename: Option<&str>,
+    options: &Map<String, Value>,
+) -> Result<Options, AllocError>
     requires { IsTrue (is_source (unwrap_or (option_map (λ s. s.now) filename) [])) }
-    ensures { IfOk result (λ o. o
-        ≡ typed_as.ReadersLas (record { filename = unwrap_or (option_map (λ s. s.now) filename.entry) [] })) }
+    ensures { IfOk result (λ o. o ≡ typed_as.ReadersLas
+        (las_reader_options (unwrap_or (option_map (λ s. s.now) filename.entry) [])
+        (members_view options.now.entries))) }
 {
     let filename = source_name(alloc, filename)?;
-    Ok(Options::ReadersLas(LasReaderOptions { filename }))
+    let extra = truth_or(options, "use_eb_vlr", false);
+    Ok(Options::ReadersLas(LasReaderOptions { filename, extra }))
 }
 
 fn writers_las(
@@ -181,10 +187,12 @@ fn writers_las(
 {
     let filename = target_name(alloc, filename)?;
     let fields = las_fields(alloc, options)?;
+    let extra = extra_dims_in(alloc, options)?;
     let only = where_in(alloc, options)?;
     Ok(Options::WritersLas(LasWriterOptions {
         filename,
         fields,
+        extra,
         only,
     }))
 }
@@ -214,7 +222,7 @@ fn typed(
         (members_view options.now.entries)) }
 {
     match kind {
-        KindName::ReadersLas => readers_las(alloc, filename),
+        KindName::ReadersLas => readers_las(alloc, filename, options),
         KindName::FiltersRange => filters_range(alloc, options),
         KindName::FiltersCrop => filters_crop(alloc, options),
         KindName::FiltersAssign => filters_assign(alloc, options),

@@ -76,6 +76,7 @@ fn fits(alloc: Global, allowed: Allowed, given: Given<'_>) -> Result<bool, Alloc
         Allowed::Polygon => is_there(given.polygon(alloc)?),
         Allowed::Groups => given.text().is_some_and(|text| groups_of(text).is_some()),
         Allowed::Ferries => is_there(given.ferries(alloc)?),
+        Allowed::ExtraDims => is_there(given.extra_dims(alloc)?),
         Allowed::Condition => is_there(given.condition(alloc)?),
         Allowed::Assignments => is_there(given.assignments(alloc)?),
     })

@@ -22,7 +22,9 @@ use Rattle.decimal_coords.specs.DecimalOfText.{decimal_of_text}
 use Rattle.las_reader.specs.Frames.{LasFault, In_header, In_list}
 use Rattle.cloud_points.specs.declared.faults.PointFault.TheVariants.{Cut}
 use Rattle.cloud_points.specs.Points.{zero_point}
-use Rattle.las_reader.specs.Records.{point_of, points_from}
+use Rattle.las_reader.specs.Files.{Las}
+use Rattle.las_reader.specs.Records.{out_from, point_of, point_with, points_from}
+use Rattle.cloud_points.specs.declared.extra.ExtraField.{ExtraField}
 use Rattle.forward_rules.specs.Forwarded.{ReadFile}
 use Rattle.file_devices.specs.Named.{Names}
 use Rattle.file_devices.specs.declared.devices.Op.TheVariants.{Open}
@@ -76,9 +78,18 @@ holds_by file i role = no_file
 abbrev pub run_by : Result LasFile LasFault → List StageSpec → Result Run Refusal
 run_by file stages = unless_unread (least_from (λ i. unread_by file i (role_at stages i)) (length stages) 0) (runs.run_over stages (λ i. holds_by file i (role_at stages i)))
 
+-- what a file holds, with the values of given fields
+abbrev held_by : List ℕ → List ExtraField → Las
+held_by bytes = (file_or (las_read 0 (las_file_of bytes))).las
+
 -- what a file says of itself; a text writer asks for no more than the format of its points
 abbrev read_of : List ℕ → Format → ReadFile
 read_of bytes format = said_in format (file_or (las_read 0 (las_file_of bytes))).read
+
+-- a file that says this of itself, and holds these points where it is read without extra dimensions
+pub record IsRead (bytes : List ℕ) (said : ReadFile) (las : Las) : Type 0 where
+  is : las_file_of bytes ≡ Ok (record { read = said; las = held_by bytes })
+  plain : held_by bytes [] ≡ las
 
 chain_is : stages_in pipeline_text ≡ Ok (from_las (writer_after 0 (codes "o.txt") ∷ []))
 unfolding is_utf8 chars encode value punctuate lex content
@@ -168,29 +179,29 @@ absent_is : stages_in second_absent ≡ Ok (joining (codes "b.las"))
 unfolding is_utf8 chars encode value punctuate lex content
 absent_is = refl
 
-pub two_read : las_file_of file_a ≡ Ok (record { read = read_of file_a F0; las = record { points = record zero_point { x = pos 1000000000; y = pos 2000000000; z = pos 3000000000; return_number = 1; number_of_returns = 1; classification = 2 } ∷ record zero_point { x = negsuc 9999999; y = pos 0; z = pos 50000000; return_number = 1; number_of_returns = 1; classification = 2 } ∷ []; fault = None } })
-unfolding block_of header_in record_format scales_of offsets_of header_with scale_of_word decimal_of_word entries_from point_of points_from
-two_read = refl
+pub two_read : IsRead (file_a) (read_of file_a F0) (record { points = record zero_point { x = pos 1000000000; y = pos 2000000000; z = pos 3000000000; return_number = 1; number_of_returns = 1; classification = 2 } ∷ record zero_point { x = negsuc 9999999; y = pos 0; z = pos 50000000; return_number = 1; number_of_returns = 1; classification = 2 } ∷ []; fault = None })
+unfolding block_of header_in record_format scales_of offsets_of header_with scale_of_word decimal_of_word entries_from point_of point_with points_from out_from
+two_read = record { is = refl; plain = refl }
 
-pub none_read : las_file_of file_without_points ≡ Ok (record { read = read_of file_without_points F0; las = record { points = []; fault = None } })
-unfolding block_of header_in record_format scales_of offsets_of header_with scale_of_word decimal_of_word entries_from point_of points_from
-none_read = refl
+pub none_read : IsRead (file_without_points) (read_of file_without_points F0) (record { points = []; fault = None })
+unfolding block_of header_in record_format scales_of offsets_of header_with scale_of_word decimal_of_word entries_from point_of point_with points_from out_from
+none_read = record { is = refl; plain = refl }
 
-pub cut_at_1 : las_file_of (take 414 file_a) ≡ Ok (record { read = read_of (take 414 file_a) F0; las = record { points = record zero_point { x = pos 1000000000; y = pos 2000000000; z = pos 3000000000; return_number = 1; number_of_returns = 1; classification = 2 } ∷ []; fault = Some (Cut 1) } })
-unfolding block_of header_in record_format scales_of offsets_of header_with scale_of_word decimal_of_word entries_from point_of points_from
-cut_at_1 = refl
+pub cut_at_1 : IsRead (take 414 file_a) (read_of (take 414 file_a) F0) (record { points = record zero_point { x = pos 1000000000; y = pos 2000000000; z = pos 3000000000; return_number = 1; number_of_returns = 1; classification = 2 } ∷ []; fault = Some (Cut 1) })
+unfolding block_of header_in record_format scales_of offsets_of header_with scale_of_word decimal_of_word entries_from point_of point_with points_from out_from
+cut_at_1 = record { is = refl; plain = refl }
 
-pub cut_at_0 : las_file_of (take 394 file_a) ≡ Ok (record { read = read_of (take 394 file_a) F0; las = record { points = []; fault = Some (Cut 0) } })
-unfolding block_of header_in record_format scales_of offsets_of header_with scale_of_word decimal_of_word entries_from point_of points_from
-cut_at_0 = refl
+pub cut_at_0 : IsRead (take 394 file_a) (read_of (take 394 file_a) F0) (record { points = []; fault = Some (Cut 0) })
+unfolding block_of header_in record_format scales_of offsets_of header_with scale_of_word decimal_of_word entries_from point_of point_with points_from out_from
+cut_at_0 = record { is = refl; plain = refl }
 
-pub longer_read : las_file_of file_of_format_6 ≡ Ok (record { read = read_of file_of_format_6 F6; las = record { points = record zero_point { x = pos 1000000000; y = pos 2000000000; z = pos 3000000000 } ∷ record zero_point { x = negsuc 9999999; y = pos 0; z = pos 50000000 } ∷ []; fault = None } })
-unfolding block_of header_in record_format scales_of offsets_of header_with scale_of_word decimal_of_word entries_from point_of points_from
-longer_read = refl
+pub longer_read : IsRead (file_of_format_6) (read_of file_of_format_6 F6) (record { points = record zero_point { x = pos 1000000000; y = pos 2000000000; z = pos 3000000000 } ∷ record zero_point { x = negsuc 9999999; y = pos 0; z = pos 50000000 } ∷ []; fault = None })
+unfolding block_of header_in record_format scales_of offsets_of header_with scale_of_word decimal_of_word entries_from point_of point_with points_from out_from
+longer_read = record { is = refl; plain = refl }
 
-pub older_read : las_file_of file_of_1_2 ≡ Ok (record { read = read_of file_of_1_2 F0; las = record { points = record zero_point { x = pos 1000000000; y = pos 2000000000; z = pos 3000000000; return_number = 1; number_of_returns = 1; classification = 2 } ∷ record zero_point { x = negsuc 9999999; y = pos 0; z = pos 50000000; return_number = 1; number_of_returns = 1; classification = 2 } ∷ []; fault = None } })
-unfolding block_of header_in record_format scales_of offsets_of header_with scale_of_word decimal_of_word entries_from point_of points_from
-older_read = refl
+pub older_read : IsRead (file_of_1_2) (read_of file_of_1_2 F0) (record { points = record zero_point { x = pos 1000000000; y = pos 2000000000; z = pos 3000000000; return_number = 1; number_of_returns = 1; classification = 2 } ∷ record zero_point { x = negsuc 9999999; y = pos 0; z = pos 50000000; return_number = 1; number_of_returns = 1; classification = 2 } ∷ []; fault = None })
+unfolding block_of header_in record_format scales_of offsets_of header_with scale_of_word decimal_of_word entries_from point_of point_with points_from out_from
+older_read = record { is = refl; plain = refl }
 
 pub older_short : las_file_of (take 226 file_of_1_2) ≡ Err (In_header HeaderSize)
 unfolding block_of header_in
@@ -224,9 +235,9 @@ pub other_scale : las_file_of file_of_neighbour ≡ Err (In_header (ScaleNotDeci
 unfolding block_of header_in record_format scales_of scale_of_word
 other_scale = refl
 
-pub far_read : las_file_of file_far ≡ Ok (record { read = read_of file_far F0; las = record { points = record zero_point { x = pos 3147483646000000000; y = pos 0; z = pos 0 } ∷ []; fault = None } })
-unfolding block_of header_in record_format scales_of offsets_of header_with scale_of_word decimal_of_word entries_from point_of points_from
-far_read = refl
+pub far_read : IsRead (file_far) (read_of file_far F0) (record { points = record zero_point { x = pos 3147483646000000000; y = pos 0; z = pos 0 } ∷ []; fault = None })
+unfolding block_of header_in record_format scales_of offsets_of header_with scale_of_word decimal_of_word entries_from point_of point_with points_from out_from
+far_read = record { is = refl; plain = refl }
 
 pub short_header : las_file_of (take 374 file_a) ≡ Err (In_header HeaderSize)
 unfolding block_of header_in
@@ -258,10 +269,24 @@ pub run_over : (pipeline las : List ℕ) {later : List StageSpec} {file : Result
 run_over pipeline las {later} plan is same = run_is (files_with pipeline las) ∙ ap (λ stages. and_then stages (run_of (files_with pipeline las))) plan
     ∙ same ∙ ap (λ r. run_by r (from_las later)) is
 
+-- the run over a file that says this of itself, and holds these points
+abbrev pub plain_run : ReadFile → Las → List StageSpec → Result Run Refusal
+plain_run said las stages = run_by (Ok (record { read = said; las = λ fields. las })) stages
+
+pub run_read : (pipeline las : List ℕ) {later : List StageSpec} {said : ReadFile} {points : Las} → stages_in pipeline ≡ Ok (from_las later) → IsRead las said points
+    → run_of (files_with pipeline las) (from_las later) ≡ run_by (las_file_of las) (from_las later)
+    → ((held : List ExtraField → Las) → run_by (Ok (record { read = said; las = held })) (from_las later) ≡ plain_run said (held []) (from_las later))
+    → answer run_p (files_with pipeline las) ≡ plain_run said points (from_las later)
+run_read pipeline las {later} {said} plan known same plainly = run_over pipeline las plan known.is same ∙ plainly (held_by las) ∙ ap (λ l. plain_run said l (from_las later)) known.plain
+
 -- the run of the example's pipeline
 pub run_whole : (las : List ℕ) {file : Result LasFile LasFault} → las_file_of las ≡ file → answer run_p (files las) ≡ run_by file (from_las (writer_after 0 (codes "o.txt") ∷ []))
 unfolding evaluated
 run_whole las is = run_over _ las chain_is is refl
+
+pub read_whole : (las : List ℕ) {said : ReadFile} {points : Las} → IsRead las said points → answer run_p (files las) ≡ plain_run said points (from_las (writer_after 0 (codes "o.txt") ∷ []))
+unfolding evaluated
+read_whole las known = run_read _ las chain_is known refl (λ held. refl)
 
 -- a pipeline that is refused
 pub refused : (pipeline : List ℕ) {refusal : Refusal} → stages_in pipeline ≡ Err refusal → answer run_p (files_with pipeline file_a) ≡ Err refusal
@@ -269,23 +294,23 @@ refused pipeline plan = run_is (files_with pipeline file_a) ∙ ap (λ stages. a
 
 pub one_passes : answer run_p (files_with head_of_1 file_a) ≡ Ok first_point
 unfolding digits text_form evaluated
-one_passes = run_over _ _ one_is two_read refl
+one_passes = run_read _ _ one_is two_read refl (λ held. refl)
 
 pub no_point_passes : answer run_p (files_with head_of_0 file_a) ≡ Ok none_pass
 unfolding digits text_form evaluated
-no_point_passes = run_over _ _ zero_is two_read refl
+no_point_passes = run_read _ _ zero_is two_read refl (λ held. refl)
 
 pub tagged_passes : answer run_p (files_with tagged_head file_a) ≡ Ok first_point
 unfolding digits text_form evaluated
-tagged_passes = run_over _ _ tagged_is two_read refl
+tagged_passes = run_read _ _ tagged_is two_read refl (λ held. refl)
 
 pub reader_reads : answer run_p (files_with reader_alone file_a) ≡ Ok only_read
 unfolding digits text_form evaluated
-reader_reads = run_over _ _ reader_is two_read refl
+reader_reads = run_read _ _ reader_is two_read refl (λ held. refl)
 
 pub both_write : answer run_p (files_with writer_between file_a) ≡ Ok all_and_first
 unfolding digits text_form evaluated
-both_write = run_over _ _ between_is two_read refl
+both_write = run_read _ _ between_is two_read refl (λ held. refl)
 
 -- the pipeline's file is there, and its LAS file isn't
 pub absent_las : answer run_p pipeline_alone ≡ Err (Device (Stage 0) Open)
@@ -293,12 +318,12 @@ absent_las = run_is pipeline_alone ∙ ap (λ stages. and_then stages (run_of pi
 
 pub twice_read : answer run_p (files_with twice file_a) ≡ Ok two_points_twice
 unfolding digits text_form evaluated
-twice_read = run_over _ _ twice_is two_read refl
+twice_read = run_read _ _ twice_is two_read refl (λ held. refl)
 
 -- the first file can be read, and the second isn't there
 pub second_unread : answer run_p (files_with second_absent file_a) ≡ Err (Device (Stage 1) Open)
 second_unread = run_is (files_with second_absent file_a) ∙ ap (λ stages. and_then stages (run_of (files_with second_absent file_a))) absent_is
-    ∙ ap (λ r. unless_unread (or_later 0 (why (las_read 0 r)) (Some (1, Device (Stage 1) Open))) (runs.run_over (joining (codes "b.las")) (opened_in (files_with second_absent file_a) (joining (codes "b.las"))))) two_read
+    ∙ ap (λ r. unless_unread (or_later 0 (why (las_read 0 r)) (Some (1, Device (Stage 1) Open))) (runs.run_over (joining (codes "b.las")) (opened_in (files_with second_absent file_a) (joining (codes "b.las"))))) two_read.is
 
 -- ---- the other commands
 

@@ -11,7 +11,9 @@ use file_devices::{Bytes, MemIn, Source, SureOut};
 use forward_rules::{Forwarding, LasForm};
 use las_header::{Format, Header};
 use las_reader::LasReader;
-use las_round_trip::{files_are_read_back, files_become_bytes, points_are_read_back};
+use las_round_trip::{
+    extra_is_read_back, files_are_read_back, files_become_bytes, points_are_read_back,
+};
 use las_vlr::{Vlr, VlrList};
 use las_writer::{
     LasWriter, forms_are_taken, raw_numbers_are_steps, refusals_are_cut, unfinished_grows,
@@ -80,7 +82,7 @@ fn form(alloc: Global, forward: &[&str]) -> Option<LasForm> {
             .add(alloc, &header(step, day, offset), &vlrs, &none)
             .ok()?;
     }
-    Some(forwarding.form())
+    Some(forwarding.form(alloc))
 }
 
 /// What is told of a form: its format, its scales, the offset of X, its source id, encoding, day and year, the first letter
@@ -149,7 +151,7 @@ fn form_of<S: Source>(
     let mut forwarding = Forwarding::begin(alloc, &opts)?;
     forwarding.add(alloc, reader.header(), reader.vlrs(), reader.evlrs())?;
     forms_are_taken();
-    Ok(forwarding.form())
+    Ok(forwarding.form(alloc))
 }
 
 /// The file of the first points of a reader, with all that stands around them.
@@ -201,6 +203,7 @@ fn a_file_is_written_again_as_it_was(rt: HostRuntime) {
     let file = sample();
     let written = read_and_written(rt.alloc(), 4, &file);
     assert!(rt; written.as_deref() == Some(file.as_slice()));
+    extra_is_read_back();
     files_are_read_back();
     files_become_bytes();
     points_are_read_back();

@@ -1,6 +1,9 @@
 use Rattle.std.proofs.Common.{sym}
-use Rattle.extra_bytes.proofs.Laying.{front_is, laid_more}
+use Rattle.extra_bytes.proofs.Laying.{front_is, laid_more, laid_none}
 use Rattle.extra_bytes.proofs.points.put_fields.Goals as goal
+
+pub loop-field-init : goal.loop-field-init
+loop-field-init c = laid_none c.args.fields.now c.args.point.now c.args.at c.args.bytes.now c.requires.laid
 
 pub returns-in_err-end-clause-before : goal.returns-in_err-end-clause-before
 returns-in_err-end-clause-before c =

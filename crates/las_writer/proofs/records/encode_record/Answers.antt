@@ -1,18 +1,14 @@
 use Rattle.std.proofs.Common.{◌≡◌, ◌≤◌, ap, sym, subst, length, take, drop, Ok, arith}
-use Rattle.extra_bytes.specs.Fields.{StandFrom, fields_bytes, fields_size}
-use Rattle.extra_bytes.proofs.Sized.{laid_stand}
-use Rattle.las_header.specs.Formats.{format_size}
+use Rattle.extra_bytes.specs.Fields.{AreLaid, fields_bytes, fields_size}
 use Rattle.las_writer.proofs.HeaderSizes.{record_small}
 use Rattle.las_writer.specs.Records.{grid_for}
 use Rattle.las_writer.proofs.Recorded.{written_whole}
 use Rattle.point_formats.specs.Encoded.{encoded}
 use Rattle.las_writer.proofs.records.encode_record.Goals as goal
 
-pub put_fields-requires-clause-stand : goal.put_fields-requires-clause-stand
-put_fields-requires-clause-stand c =
-    let form = c.args.form.now in
-    subst (StandFrom c.in_ok-size.size) (sym c.as_slice.ensures)
-    (subst (λ n. StandFrom n form.extra) (sym c.in_ok-size.ensures.size) (laid_stand (format_size form.format) form.extra c.requires.form.extra))
+pub put_fields-requires-clause-laid : goal.put_fields-requires-clause-laid
+put_fields-requires-clause-laid c =
+    subst (AreLaid c.in_ok-size.size) (sym c.as_slice.ensures) (subst (λ n. AreLaid n c.args.form.now.extra) (sym c.in_ok-size.ensures.size) c.requires.form.extra)
 
 pub put_fields-requires-clause-room : goal.put_fields-requires-clause-room
 put_fields-requires-clause-room c =

@@ -1,18 +1,33 @@
-use Rattle.std.proofs.Common.{◌≡◌, refl, ap, sym, subst, ◌∙◌, arith}
+use Rattle.std.proofs.Common.{◌≡◌, Some, refl, ap, sym, subst, ◌∙◌, arith}
 use Rattle.stage_kinds.specs.declared.stage_work.StageWork.TheVariants.{Reader, Filter, Collector}
+use Rattle.stage_kinds.specs.declared.file_form.StageForm.TheVariants.{Reads}
 use Rattle.stage_options.specs.Roles.{is_reading, role_of}
 use Rattle.stage_options.specs.Roles as role
 use Rattle.stage_forms.specs.Starts.{IsStarted, op_for}
 use Rattle.run_opening.specs.Begun.{IsForm, IsOpened, IsWork}
 use Rattle.held_devices.specs.Holding.{there}
-use Rattle.run_opening.proofs.Opening.{reader-work, other-work}
+use Rattle.run_opening.proofs.Opening.{by-reader, other-work, reader-work}
 use Rattle.run_opening.proofs.begin.begin_work.Goals as goal
+
+pub read_with-requires-clause-start : goal.read_with-requires-clause-start
+read_with-requires-clause-start g c =
+    let s = g.F.In.Source in
+    let map = g.F.Files.map c.args.files.now in
+    let role = role_of c.args.stage.now.options in
+    (by-reader s map c.args.number role c.in-Some.reader (subst (IsOpened s map c.args.number role) c.in-Some.is c.requires.opened)).1.start
 
 pub returns-clause-ok : goal.returns-clause-ok
 returns-clause-ok g c =
-    subst (λ r. IsWork g.F.In.Source g.F.Out.Sink (g.F.Files.map c.args.files.now) c.args.number c.args.stage.now.options r c.args.form (Reader c.in-Some.reader)) (sym c.in-Some.is)
-    (reader-work g.F.In.Source g.F.Out.Sink (g.F.Files.map c.args.files.now) c.args.number c.args.stage.now.options c.in-Some.reader c.args.form
-    (subst (IsOpened g.F.In.Source (g.F.Files.map c.args.files.now) c.args.number (role_of c.args.stage.now.options)) c.in-Some.is c.requires.opened))
+    let w = c.read_with.ensures in
+    let s = g.F.In.Source in
+    let k = g.F.Out.Sink in
+    let map = g.F.Files.map c.args.files.now in
+    let o = c.args.stage.now.options in
+    let work = reader-work s k map c.args.number o c.in-Some.reader w.with_fields c.in-Reads-form.fields (subst (IsOpened s map c.args.number (role_of o)) c.in-Some.is c.requires.opened)
+    w.source w.header w.lists.0 w.lists.1 w.start w.taken in
+    subst (λ r. IsWork s k map c.args.number o r c.args.form c.read_with.result) (sym c.in-Some.is)
+    (subst (λ f. IsWork s k map c.args.number o (Some c.in-Some.reader) f c.read_with.result) (sym c.in-Reads-form.is)
+    (subst (IsWork s k map c.args.number o (Some c.in-Some.reader) (Reads c.in-Reads-form.fields)) (sym w.is) work))
 
 pub returns-in-Filters-clause-ok : goal.returns-in-Filters-clause-ok
 returns-in-Filters-clause-ok g c =

@@ -1,4 +1,4 @@
-use Rattle.std.proofs.Common.{◌≡◌, ◌+◌, ◌<◌, ◌≤◌, length, reverse, vec_len, refl, ap, sym, subst, ◌∙◌, arith, length-set}
+use Rattle.std.proofs.Common.{◌≡◌, ◌+◌, ◌<◌, ◌≤◌, [], length, reverse, vec_len, refl, ap, sym, subst, ◌∙◌, arith, length-set}
 use Rattle.circular_buffer.proofs.Places.{slice_get-set_other}
 use Rattle.std.proofs.lemmas.List.{reverse-reverse}
 use Rattle.std.proofs.lemmas.Option.{slice_get_read, get_or_from_slice_get}
@@ -9,7 +9,7 @@ use Rattle.stage_kinds.specs.Held.{op_of}
 use Rattle.stage_options.specs.Roles.{role_of, is_writing}
 use Rattle.stage_options.specs.declared.stage.StageSpec.{StageSpec}
 use Rattle.answer_model.specs.Values.{options_at}
-use Rattle.run_opening.specs.Begun.{IsForm, IsOpened, IsWork}
+use Rattle.run_opening.specs.Begun.{IsFine, IsForm, IsOpened, IsWork}
 use Rattle.held_devices.specs.Holding.{there, all_there, all_held}
 use Rattle.held_devices.proofs.Lists.{each-push, popped, one_less}
 use Rattle.held_devices.proofs.Sums.{sum-push, sum-pop, sum-reverse, none-there}
@@ -45,6 +45,16 @@ begin_work-requires-clause-opened g c =
     subst (λ map. IsOpened g.F.In.Source map c.loop-reader.at (role_of c.index-stages-at.result.options) c.in-Some.reader) (sym now.map)
     (subst (λ role. IsOpened g.F.In.Source (g.F.Files.map c.args.files.now) c.loop-reader.at role c.in-Some.reader) (sym (role-is c.args.stages.now c.loop-reader.at c.index-stages-at.result at))
     (c.requires.opened c.loop-reader.at c.in-Some.reader p.0))
+
+pub begin_work-requires-clause-fine : goal.begin_work-requires-clause-fine
+begin_work-requires-clause-fine g c =
+    let now = c.loop-reader.invariant in
+    let p = popped c.args.readers.items c.loop-reader.readers.items c.pop.new.self.items c.loop-reader.at c.in-Some.reader now.left c.in-Some.ensures.items in
+    let n = one_less c.loop-reader.at (vec_len c.loop-reader.readers) (vec_len c.pop.new.self) (length c.args.readers.items) now.count c.in-Some.ensures.cases in
+    let reader-here = get_or_from_slice_get c.args.readers.items c.loop-reader.at c.in-Some.reader None p.0 in
+    let form-there = sym (now.left_forms c.loop-reader.at (omega arith)) ∙ slice_get_read c.loop-reader.forms.items (length c.loop-reader.forms.items) c.loop-reader.at c.index_mut.result.now refl
+    (let a = n.0 in let b = c.requires.count in let d = now.forms in omega (arith, a, b, d)) c.index_mut.ensures.value in
+    subst (IsFine c.in-Some.reader) (sym c.replace-form.ensures.value) (subst (λ r. IsFine r c.index_mut.result.now) reader-here (c.requires.fine c.loop-reader.at c.index_mut.result.now form-there))
 
 pub returns-in-Err-clause-err : goal.returns-in-Err-clause-err
 returns-in-Err-clause-err g c =
@@ -84,7 +94,7 @@ loop-reader-preserved g c =
     let reader-here = get_or_from_slice_get c.args.readers.items c.loop-reader.at c.in-Some.reader None p.0 in
     let form-there = sym (now.left_forms c.loop-reader.at (omega arith)) ∙ slice_get_read c.loop-reader.forms.items (length c.loop-reader.forms.items) c.loop-reader.at c.index_mut.result.now refl
     (let a = n.0 in let b = c.requires.count in let d = now.forms in omega (arith, a, b, d)) c.index_mut.ensures.value in
-    let form-here = c.replace-form.ensures.value ∙ sym (get_or_from_slice_get c.args.bound.forms.items c.loop-reader.at c.index_mut.result.now Reads form-there) in
+    let form-here = c.replace-form.ensures.value ∙ sym (get_or_from_slice_get c.args.bound.forms.items c.loop-reader.at c.index_mut.result.now (Reads []) form-there) in
     let one = subst (λ f. IsWork g.F.In.Source g.F.Out.Sink (files.map c.args.files.now) c.loop-reader.at o (slice_index_or c.args.readers.items c.loop-reader.at None) f c.in-Ok-begin_work.work) form-here
     (subst (λ r. IsWork g.F.In.Source g.F.Out.Sink (files.map c.args.files.now) c.loop-reader.at o r c.replace-form.result c.in-Ok-begin_work.work) (sym reader-here)
     (subst (λ x. IsWork g.F.In.Source g.F.Out.Sink (files.map c.args.files.now) c.loop-reader.at x c.in-Some.reader c.replace-form.result c.in-Ok-begin_work.work) (ap (λ (s : StageSpec). s.options) (sym (stage-is c.args.stages.now c.loop-reader.at c.index-stages-at.result at)))
@@ -94,7 +104,7 @@ loop-reader-preserved g c =
     record {
       left = p.1;
       count = n.1;
-      begun = λ i w e. each-push (λ j v. IsWork g.F.In.Source g.F.Out.Sink (files.map c.args.files.now) j (options_at c.args.stages.now j) (slice_index_or c.args.readers.items j None) (slice_index_or c.args.bound.forms.items j Reads) v) c.loop-reader.works.items c.in-Ok-begin_work.work c.loop-reader.at size now.begun one i w (ap (λ xs. slice_get xs i) (sym pushed) ∙ e);
+      begun = λ i w e. each-push (λ j v. IsWork g.F.In.Source g.F.Out.Sink (files.map c.args.files.now) j (options_at c.args.stages.now j) (slice_index_or c.args.readers.items j None) (slice_index_or c.args.bound.forms.items j (Reads [])) v) c.loop-reader.works.items c.in-Ok-begin_work.work c.loop-reader.at size now.begun one i w (ap (λ xs. slice_get xs i) (sym pushed) ∙ e);
       forms = length-set c.loop-reader.forms.items c.loop-reader.at c.replace-form.new.dest ∙ now.forms;
       left_forms = λ j le. slice_get-set_other c.loop-reader.forms.items c.loop-reader.at j c.replace-form.new.dest (λ e. absurd (omega (arith, le, e))) ∙ now.left_forms j (omega (arith, le));
       works = (let a = c.push_reserved.ensures.len in let b = now.works in omega (arith, a, b));

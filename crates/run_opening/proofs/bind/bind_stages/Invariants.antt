@@ -1,8 +1,9 @@
 use Rattle.std.proofs.Common.{◌≡◌, ◌≤◌, length, vec_len}
 use Rattle.std.specs.Prelude.{vec_capacity}
-use Rattle.answer_model.specs.Values.{names_at}
-use Rattle.stage_forms.specs.Below.{AreBelow, AreInside}
-use Rattle.run_opening.specs.Begun.{AreForms, AreNamesBound, FitRoles}
+use Rattle.answer_model.specs.Values.{Opened, names_at}
+use Rattle.extra_bytes.specs.Asked.{AreOwn}
+use Rattle.stage_forms.specs.Below.{AreBelow, AreInside, HaveReaders}
+use Rattle.run_opening.specs.Begun.{AreFine, AreForms, AreNamesBound, FitRoles}
 use Rattle.run_opening.proofs.bind.bind_stages.Given as goal
 
 abbrev pub invariant-loop-i : goal.invariant-loop-i
@@ -10,7 +11,9 @@ invariant-loop-i g l = record {
   forms : AreForms l.stages l.readers l.forms.items;
   fits : FitRoles l.stages l.forms.items;
   bound : AreNamesBound l.stages l.readers l.i;
-  names : l.names ≡ names_at l.stages l.i;
+  names : (opened : Opened) → HaveReaders l.readers opened → l.names ≡ names_at l.stages opened l.i;
+  fine : AreFine l.readers l.forms.items;
+  own : AreOwn l.names;
   below : AreBelow l.stages l.readers l.belows.items;
   inside : AreInside (length l.readers) l.belows.items;
   count : vec_len l.forms ≡ l.i;

@@ -3,7 +3,7 @@ use Rattle.std.specs.Prelude.{slice_get, Some}
 use Rattle.std.proofs.Math.ListN.{set}
 use Rattle.std.proofs.lemmas.List.{get_or-set_same}
 use Rattle.std.proofs.lemmas.Option.{slice_get-get_or, slice_get_read, get_or_from_slice_get}
-use Rattle.answer_model.specs.Values.{role_at, row_at, stage_at}
+use Rattle.answer_model.specs.Values.{role_at, row_at, stage_at, las_at}
 use Rattle.cloud_points.specs.Events.{is_device}
 use Rattle.cloud_points.specs.Flows.{join_all}
 use Rattle.pipeline_json.specs.Lists.{has, times}
@@ -14,9 +14,9 @@ use Rattle.run_outcome.specs.Faults.{NoneFailed, fault_at}
 use Rattle.set_engine.specs.Evaluated.{AreCaused}
 use Rattle.set_engine.specs.Given.{IsGivenBy, count_for}
 use Rattle.set_engine.specs.Taking.{value_in}
-use Rattle.set_engine.proofs.After.{all-stay, caused-more, front, las-told, none-with, one-later, put-there}
+use Rattle.set_engine.proofs.After.{all-stay, caused-more, front, none-with, one-later, put-there}
 use Rattle.set_engine.proofs.Joined.{stays-elsewhere}
-use Rattle.set_engine.proofs.Starting.{all-fit, are-later, came}
+use Rattle.set_engine.proofs.Starting.{las-told, all-fit, are-later, came}
 use Rattle.set_engine.proofs.UpTo.{length-shapes, inside, once, one-more, none-yet, all-done}
 use Rattle.set_engine.proofs.evaluating.evaluate_stages.Goals as goal
 
@@ -121,8 +121,8 @@ loop-i-preserved g c =
       caused = subst (AreCaused faults old (set works i w)) (sym told) (caused-more faults old works found i v w given.fault now.told was at c.in_ok-views.ensures.caused now.caused);
       up_to = λ none opened tell.
           let calm = none-with found given.fault (subst NoneFailed told none) in
-          let gave : IsGivenBy g.K.Sink.bytes (role_at stages i) (row_at stages opened i) (opened i).las c.in_ok-taken.taken w given =
-          c.in_ok-views.ensures.ok calm.1 (role_at stages i) (row_at stages opened i) (opened i).las (all-fit g.S.Source g.K.Sink.bytes stages old c.requires.starts opened tell i v was) (las-told g.S.Source old opened i v tell was) in
+          let gave : IsGivenBy g.K.Sink.bytes (role_at stages i) (row_at stages opened i) (las_at stages opened i) c.in_ok-taken.taken w given =
+          c.in_ok-views.ensures.ok calm.1 (role_at stages i) (row_at stages opened i) (las_at stages opened i) (all-fit g.S.Source g.K.Sink.bytes stages old c.requires.starts opened tell i v was) (las-told g.S.Source g.K.Sink.bytes stages old c.requires.starts opened i v tell was) in
           one-more g.K.Sink.bytes stages c.requires.tree opened old i lt values c.loop-i.report.items found works (now.up_to calm.0 opened tell) size t there-now c.in_ok-taken.taken input w given gave
           c.take_joined.new.values c.push_reserved.new.self.items c.push.new.self.items c.push-in-loop-i.new.self.items (set works i w) left
           (λ j away. c.in_ok-taken.ensures.others j (ap (λ js. has js j) (sym ins) ∙ away) ∙ ap (λ vs. slice_get vs j) c.as_mut_slice.ensures.value)

@@ -31,9 +31,9 @@ loop-number-preserved g c =
       | in_default w ↦ w.forwarding-is ∙ c.loop-number.invariant ∙ ap (forwarding_of fields) (sym (reads-same readers done j (at ∙ ap Some w.in_default.is))) ∙ one_more
     ]
 
-pub returns-clause-form : goal.returns-clause-form
-returns-clause-form g c =
+pub with_fields-requires-clause-form : goal.with_fields-requires-clause-form
+with_fields-requires-clause-form g c =
     let reads = reads_in c.args.readers.now (take c.loop-number.number-index c.args.below.now) in
     let good = subst AreGoodOptions c.as_options.ensures.fields c.as_options.ensures.bounded in
-    subst IsForm (sym (c.form.ensures c.args.fields.now reads c.loop-number.invariant))
+    subst IsForm (sym (c.form-form.ensures c.args.fields.now reads c.loop-number.invariant))
     (forms_are_taken c.args.fields.now reads good (good-reads c.args.readers.now (take c.loop-number.number-index c.args.below.now)))

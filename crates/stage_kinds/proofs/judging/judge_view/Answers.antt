@@ -1,4 +1,4 @@
-use Rattle.std.proofs.Common.{◌+◌, Some, false, ap, sym, subst, ◌∙◌, arith}
+use Rattle.std.proofs.Common.{◌+◌, Some, ap, sym, subst, ◌∙◌, arith}
 use Rattle.stage_kinds.proofs.Judged.{Judged, none-judged, judged-stops, judged-more, all-judged}
 use Rattle.stage_kinds.proofs.judging.judge_view.Goals as goal
 

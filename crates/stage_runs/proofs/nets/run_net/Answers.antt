@@ -14,6 +14,12 @@ use Rattle.stage_runs.proofs.nets.run_net.Goals as goal
 pub run-requires-clause-fresh : goal.run-requires-clause-fresh
 run-requires-clause-fresh g c = subst (AreFresh (as_works g.S.Source g.K.Sink) c.args.ins) (sym c.new.ensures) c.requires.fresh
 
+pub run-requires-clause-edges : goal.run-requires-clause-edges
+run-requires-clause-edges g c = (
+  c.requires.edges.0,
+  subst (λ (ns : List (Node _)). g.T.Scheduler.fits (length ns) c.requires.edges.0 c.args.edges) (sym c.new.ensures) c.requires.edges.1,
+)
+
 pub returns-clause-later : goal.returns-clause-later
 returns-clause-later g c = subst (AreLaterNodes g.S.Source g.K.Sink c.args.nodes.items) (sym c.into_vec-nodes.ensures)
     (ran-later g.S.Source g.K.Sink c.args.ins c.args.nodes.items c.run.result c.requires.fresh

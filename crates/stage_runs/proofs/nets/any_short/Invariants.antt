@@ -1,7 +1,0 @@
-use Rattle.std.proofs.Common.{◌≡◌, ℕ, ◌<◌, false, Some, slice_get}
-use Rattle.network_core.specs.declared.node.Node.{Node}
-use Rattle.stage_kinds.specs.Stages.{is_short}
-use Rattle.stage_runs.proofs.nets.any_short.Given as goal
-
-abbrev pub invariant-loop-i : goal.invariant-loop-i
-invariant-loop-i g l = (i : ℕ) (n : Node _) → i < l.i → slice_get l.nodes i ≡ Some n → is_short n.work ≡ false
