@@ -137,7 +137,7 @@ pub record StreamsBy {S P F H R : Type 0} (m : Meaning S P F) (st : Stops H P R)
   pub ends : (h : H) (v : List P) (cut : Bool) → (m.at_end (m.after (start h) v) cut).1 ≡ false
 
 module _ {S P F H R : Type 0} (m : Meaning S P F) (law : KeepsCutting m) (st : Stops H P R) (told : ℕ × R → F) (start : H → S) (g : List P → List P) (by : StreamsBy m st told start g) where
-  abbrev at : H → List P → Machine S F
+  abbrev pub at : H → List P → Machine S F
   at h v = chunked m (at_start 1 (start h)) v
 
   clear : (h : H) (v : List P) → st.first h v ≡ None → m.fault (start h) v ≡ None
@@ -151,14 +151,14 @@ module _ {S P F H R : Type 0} (m : Meaning S P F) (law : KeepsCutting m) (st : S
       ∙ ap (λ z. z ++ output m (after_all m (at_start 1 (start h)) (map At v)) ms) (output-chunk m law (at_start 1 (start h)) v refl)
       ∙ ap (λ d. map At (m.emit (start h) v) ++ output m d ms) (after-chunk m law (at_start 1 (start h)) v refl)
 
-  after-points : (h : H) (v : List P) (ms : List (Mark P)) → after_all m (at_start 1 (start h)) (map At v ++ ms) ≡ after_all m (at h v) ms
+  pub after-points : (h : H) (v : List P) (ms : List (Mark P)) → after_all m (at_start 1 (start h)) (map At v ++ ms) ≡ after_all m (at h v) ms
   after-points h v ms = after_all-append m (at_start 1 (start h)) (map At v) ms ∙ ap (λ d. after_all m d ms) (after-chunk m law (at_start 1 (start h)) v refl)
 
   -- a view's end, where there was no fault
   view-gives : (h : H) (v : List P) (ms : List (Mark P)) → st.first h v ≡ None → output m (at h v) (View_end ∷ ms) ≡ View_end ∷ output m (at_start 1 (start (st.behind h v))) ms
   view-gives h v ms e = rw (clear h v e, by.anew h v e) refl
 
-  view-leaves : (h : H) (v : List P) → st.first h v ≡ None → next m (at h v) View_end ≡ at_start 1 (start (st.behind h v))
+  pub view-leaves : (h : H) (v : List P) → st.first h v ≡ None → next m (at h v) View_end ≡ at_start 1 (start (st.behind h v))
   view-leaves h v e = rw (clear h v e, by.anew h v e) refl
 
   ending : (h : H) (v : List P) (cut b : Bool) → is_some (m.fault (start h) v) ≡ b → output m (at h v) (End cut ∷ []) ≡ End (cut || b) ∷ []

@@ -36,7 +36,7 @@ fn judge_passed<R: PointRule>(
 }
 
 /// The fault of the point with this number.
-fn fault_at(number: u64, reason: Reason) -> StageFault
+pub fn fault_at(number: u64, reason: Reason) -> StageFault
     ensures { result ≡ fault_at number reason }
 {
     StageFault::Point(reason.at(number))
@@ -71,7 +71,7 @@ fn judge_point<R: PointRule>(
 }
 
 /// Moves the point down behind those that are kept, if it goes on, and answers how many are kept then.
-pub(crate) fn move_down(points: &mut [Point], kept: usize, at: usize, goes: bool) -> usize
+pub fn move_down(points: &mut [Point], kept: usize, at: usize, goes: bool) -> usize
     requires below { kept ≤ at }
     requires there { at < length points.old }
     ensures kept { (p : Point) → (rest : List Point) → drop at points.old ≡ p ∷ rest → take result points.new

@@ -10,6 +10,7 @@ mod rules;
 mod writer_where;
 
 pub use filter::Filter;
+pub use judge::{fault_at, move_down};
 pub use point_filter::PointFilter;
 pub use rules::{Condition, Crop, Decimation, Head, PointRule, passes};
 pub use writer_where::WriterWhere;

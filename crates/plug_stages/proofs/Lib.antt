@@ -1,0 +1,14 @@
+pub mod Printable
+pub mod Reached
+pub mod Counting
+pub mod Coming
+pub mod NoDevice
+pub mod SamePlug
+pub mod SameTally
+pub mod JudgingAs
+pub mod Showing
+pub mod Spiking
+pub mod Remembering
+pub mod Stopping
+pub mod PlugStreams
+pub mod TallyStreams

@@ -1,0 +1,10 @@
+pub mod Printing
+pub mod Folds
+pub mod Tallied
+pub mod Spikes
+pub mod Extents
+pub mod Classes
+pub mod PlugSteps
+pub mod TallySteps
+pub mod Works
+pub mod Keeps
