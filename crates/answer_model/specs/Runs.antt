@@ -18,6 +18,7 @@ use Rattle.run_report.specs.declared.refusal.Fault.TheVariants as fault
 use Rattle.run_report.specs.declared.refusal.Refusal.{Refusal}
 use Rattle.run_report.specs.declared.refusal.Refusal.TheVariants.{Data, Device, Pipeline}
 use Rattle.run_report.specs.Reports.{report_of}
+use Rattle.plug_stages.specs.Handed.{Handed}
 use Rattle.answer_model.specs.Steps.{and_then, why}
 use Rattle.answer_model.specs.Values.{LasFile, Opened, Output, Ended, role_at, least_from, unbound_at, evaluated}
 
@@ -76,12 +77,16 @@ holds m i (Reads name) = file_or (opened_at i (m name))
 holds m i _ = no_file
 
 -- what the readers' files hold
-abbrev pub opened_in : Names → List StageSpec → Opened
-opened_in m stages i = holds m i (role_at stages i)
+abbrev pub files_in : Names → List StageSpec → ℕ → LasFile
+files_in m stages i = holds m i (role_at stages i)
+
+-- and what the caller handed in
+abbrev pub opened_in : Handed → Names → List StageSpec → Opened
+opened_in handed m stages = record { file = files_in m stages; handed = handed }
 
 -- the names of dimensions in the options of all stages are bound
-abbrev pub AreBound : Names → List StageSpec → Type 0
-AreBound m stages = (i : ℕ) → i < length stages → unbound_at stages (opened_in m stages) i ≡ None
+abbrev pub AreBound : Handed → Names → List StageSpec → Type 0
+AreBound handed m stages = (i : ℕ) → i < length stages → unbound_at stages (opened_in handed m stages) i ≡ None
 
 -- the files of the first so many stages can be read
 abbrev pub AreRead : Names → List StageSpec → ℕ → Type 0
@@ -107,5 +112,5 @@ abbrev pub run_over : List StageSpec → Opened → Result Run Refusal
 run_over stages opened = unless_unbound (least_from (unbound_at stages opened) (length stages) 0) (run_with (evaluated stages opened))
 
 -- what the run of a tree comes to: the refusal of the first stage whose file can't be read, or else what its stages come to
-abbrev pub run_of : Names → List StageSpec → Result Run Refusal
-run_of m stages = unless_unread (least_from (unread_at m stages) (length stages) 0) (run_over stages (opened_in m stages))
+abbrev pub run_of : Handed → Names → List StageSpec → Result Run Refusal
+run_of handed m stages = unless_unread (least_from (unread_at m stages) (length stages) 0) (run_over stages (opened_in handed m stages))

@@ -1,5 +1,5 @@
 -- What each stage of a tree gives on, and its fault, on whole flows.
-use Rattle.std.specs.Prelude.{◌≡◌, ℕ, ◌+◌, ◌<◌, Bool, true, false, ◌||◌, cond, if◌then◌else◌, List, [], ◌∷◌, ◌++◌, map, filter, flat_map, length, slice_index_or, Option, Some, None, Result, Ok, Err}
+use Rattle.std.specs.Prelude.{◌≡◌, ℕ, ◌+◌, ◌<◌, Bool, true, false, ◌||◌, cond, if◌then◌else◌, List, [], ◌∷◌, ◌++◌, map, filter, flat_map, length, slice_index_or, Option, Some, None, option_map, Result, Ok, Err}
 use Rattle.std.proofs.Common.{zero, suc}
 use Rattle.std.specs.List.{range_with_len, list_any}
 use Rattle.cloud_points.specs.declared.dims.Dim.{Dim}
@@ -29,6 +29,8 @@ use Rattle.stage_options.specs.declared.options.Options.{Options}
 use Rattle.stage_options.specs.declared.options.Options.TheVariants.{ReadersLas}
 use Rattle.stage_options.specs.declared.stage.StageSpec.{StageSpec}
 use Rattle.run_report.specs.declared.report.StageCount.{StageCount}
+use Rattle.run_report.specs.declared.tally.TallyLine.{TallyLine}
+use Rattle.plug_stages.specs.Handed.{Handed}
 use Rattle.answer_model.specs.Rows.{Row, Setting, row_of, value_on, fault_on}
 
 -- a file that is read: what a writer may take over, and its points with the values of given fields in extra dimensions
@@ -36,9 +38,10 @@ pub record LasFile : Type 0 where
   pub read : ReadFile
   pub las : List ExtraField → Las
 
--- the readers' files, by the reader's number
-abbrev pub Opened : Type 0
-Opened = ℕ → LasFile
+-- what a run works on: the readers' files, by the reader's number, and what the caller handed in
+pub record Opened : Type 0 where
+  pub file : ℕ → LasFile
+  pub handed : Handed
 
 -- stage k; at a number that no stage has stands a reader
 abbrev pub stage_at : List StageSpec → ℕ → StageSpec
@@ -63,7 +66,7 @@ fold_at none f stages k = fold_below none f stages (k + 1) k
 
 -- the files of the readers from which the points of stage k come: a reader's own, another stage's those of its inputs
 abbrev pub reads_with : List StageSpec → Opened → ℕ → List (List ReadFile) → List ReadFile
-reads_with stages opened k lists = cond (is_reading (role_at stages k)) ((opened k).read ∷ []) (flat_map (λ list. list) lists)
+reads_with stages opened k lists = cond (is_reading (role_at stages k)) ((opened.file k).read ∷ []) (flat_map (λ list. list) lists)
 
 abbrev pub reads_at : List StageSpec → Opened → ℕ → List ReadFile
 reads_at stages opened k = fold_at [] (reads_with stages opened) stages k
@@ -74,7 +77,7 @@ fields_found (ReadersLas o) read = if o.extra then fields_among read.vlrs (forma
 fields_found _ read = []
 
 abbrev pub found_at : List StageSpec → Opened → ℕ → List ExtraField
-found_at stages opened k = fields_found (options_at stages k) (opened k).read
+found_at stages opened k = fields_found (options_at stages k) (opened.file k).read
 
 -- the extra names behind a stage that takes these fields: its ferries' targets are added to those before it, and then the names of the fields
 abbrev pub names_past : List (List ℕ) → Options → List ExtraField → List (List ℕ)
@@ -102,7 +105,7 @@ gives_dim names o found dim = adds names o dim || is_of_fields (fields_past name
 
 -- the dimensions of the points that stage k takes: a reader's those of its file's format, another stage's those of any input
 abbrev pub dims_joined : List StageSpec → Opened → ℕ → List (Dim → Bool) → Dim → Bool
-dims_joined stages opened k sets dim = cond (is_reading (role_at stages k)) (is_among dim (dims_of (opened k).read.values.format)) (list_any (λ set. set dim) sets)
+dims_joined stages opened k sets dim = cond (is_reading (role_at stages k)) (is_among dim (dims_of (opened.file k).read.values.format)) (list_any (λ set. set dim) sets)
 
 -- those of the points that it gives on
 abbrev pub dims_with : List StageSpec → Opened → ℕ → List (Dim → Bool) → Dim → Bool
@@ -124,7 +127,7 @@ unbound_at stages opened k = unbound k (names_at stages opened k) (dims_taken st
 
 -- where stage k stands
 abbrev pub setting_at : List StageSpec → Opened → ℕ → Setting
-setting_at stages opened k = record { names = names_at stages opened k; reads = reads_at stages opened k; dims = dims_taken stages opened k; fields = fields_at stages opened k }
+setting_at stages opened k = record { names = names_at stages opened k; reads = reads_at stages opened k; dims = dims_taken stages opened k; fields = fields_at stages opened k; handed = opened.handed }
 
 -- ---- values
 
@@ -137,7 +140,7 @@ value_of role row las flow = cond (is_reading role) (las_flow las) (value_on row
 
 -- what its file holds, with the fields that it takes
 abbrev pub las_at : List StageSpec → Opened → ℕ → Las
-las_at stages opened k = (opened k).las (fields_at stages opened k)
+las_at stages opened k = (opened.file k).las (fields_at stages opened k)
 
 abbrev pub value_with : List StageSpec → Opened → ℕ → List (Flow Point) → Flow Point
 value_with stages opened k flows = value_of (role_at stages k) (row_at stages opened k) (las_at stages opened k) (join_all flows)
@@ -206,20 +209,38 @@ wrote_with (Writes name) row taken given = Some (up_to_limit (length (filter (ro
 wrote_with (WritesEach name) row taken given = Some (up_to_limit (length (filter (row.writes) (all_of (given.views)))))
 wrote_with _ row taken given = None
 
+-- how many points it shows to a tally of those that it takes
+abbrev pub shown_with : Row → Flow Point → Option ℕ
+shown_with row taken = option_map (λ _. up_to_limit (length (filter (row.writes) (points taken)))) row.says
+
+-- what it writes, or else what it shows
+abbrev pub or_shown : Option ℕ → Option ℕ → Option ℕ
+or_shown (Some n) shown = Some n
+or_shown None shown = shown
+
+-- what its tally says of those that it shows
+abbrev pub said_with : Row → Flow Point → Option TallyLine
+said_with row taken = option_map (λ says. says (filter (row.writes) (points taken))) row.says
+
+abbrev pub said_at : List StageSpec → Opened → ℕ → Option TallyLine
+said_at stages opened k = said_with (row_at stages opened k) (stage_input stages opened k)
+
 abbrev pub files_with : Role → Flow Point → ℕ
 files_with (Writes name) given = 1
 files_with (WritesEach name) given = up_to_limit (length (given.views))
 files_with _ given = 0
 
--- how many views and points a stage gave on, and how many points and files it wrote
+-- how many views and points a stage gave on, how many points and files it wrote, and what its tally says
 abbrev pub count_at : List StageSpec → Opened → ℕ → StageCount
 count_at stages opened k = record {
   stage = k;
   kind = (stage_at stages k).kind;
   views = up_to_limit (length (stage_value stages opened k).views);
   points = up_to_limit (length (points (stage_value stages opened k)));
-  wrote = wrote_with (role_at stages k) (row_at stages opened k) (stage_input stages opened k) (stage_value stages opened k);
+  wrote = or_shown (wrote_with (role_at stages k) (row_at stages opened k) (stage_input stages opened k) (stage_value stages opened k))
+      (shown_with (row_at stages opened k) (stage_input stages opened k));
   files = files_with (role_at stages k) (stage_value stages opened k);
+  tally = said_at stages opened k;
 }
 
 -- those of all stages: the writers of one file in the order of their numbers, and then those of a file of each view

@@ -3,7 +3,7 @@
 ghost use Rattle.std.specs.Prelude.{◌≡◌, [], ◌∷◌, true, false, codes, Ok, Err, Some};
 ghost use Rattle.cloud_points.specs.declared.faults.PointFault.{PointFault};
 ghost use Rattle.answer_model.specs.Values.{evaluated, stage_value, least_fault};
-ghost use Rattle.answer_model.specs.Examples.{both_into, both_through, read, head, merge, write, at_x, whole, cut_short, first_and_second, joined, merged_first};
+ghost use Rattle.answer_model.specs.Examples.{both_into, both_through, read, head, merge, write, at_x, whole, cut_short, first_and_second, joined, merged_first, over_files};
 
 /// Two readers into one writer: their points stand in its file one behind the other, and their views stay apart, so that a
 /// head in its place lets the first point of each file pass.
@@ -40,6 +40,6 @@ pub fn inputs_are_merged()
         ≡ record { views = []; open_view = at_x 1 ∷ at_x 2 ∷ at_x 3 ∷ []; cut = true } }
     ensures fault { evaluated (both_through (merge (0 ∷ 1 ∷ []))) (first_and_second (cut_short (at_x 1 ∷ []) 1))
         ≡ Err (0, PointFault.Cut 1) }
-    ensures none { stage_value (read (codes "a.las") ∷ merge (0 ∷ []) ∷ []) (λ k. whole []) 1
+    ensures none { stage_value (read (codes "a.las") ∷ merge (0 ∷ []) ∷ []) (over_files (λ k. whole [])) 1
         ≡ record { views = [] ∷ []; open_view = []; cut = false } }
 {}

@@ -11,5 +11,5 @@ abbrev pub all_there : {A : Type 0} → List (Option A) → ℕ
 all_there os = sum_by there os
 
 -- how many devices works hold
-abbrev pub all_held : {S K : Type 0} → List (StageWork S K) → ℕ
+abbrev pub all_held : {S K P Q : Type 0} → List (StageWork S K P Q) → ℕ
 all_held works = sum_by (λ w. there (op_of w)) works

@@ -21,6 +21,7 @@ use Rattle.answer_model.proofs.Least.{found}
 use Rattle.network_core.specs.declared.stop.Stop.{Stop}
 use Rattle.run_engine.specs.Stopping.{IsCauseBy}
 use Rattle.lasline_top.specs.Cause.{HasFailed, IsAbsent, Risen, RisenAt}
+use Rattle.plug_stages.specs.Handed.{Handed}
 
 -- ---- counts
 
@@ -106,12 +107,12 @@ bound-device p o None ended e = no-device p o ended e
 bound-device p o (Some f) ended e = cc
 
 -- a run is refused for a device only where the file of a reader isn't there
-pub run_absent : (m : Names) (stages : List StageSpec) (p : Place) (o : Op) → run_of m stages ≡ Err (of.Device p o) → (o ≡ op.Open) × ((name : List ℕ) × (m name ≡ None))
-run_absent m stages p o e = go (least_from (unread_at m stages) (length stages) 0) refl e
+pub run_absent : (handed : Handed) (m : Names) (stages : List StageSpec) (p : Place) (o : Op) → run_of handed m stages ≡ Err (of.Device p o) → (o ≡ op.Open) × ((name : List ℕ) × (m name ≡ None))
+run_absent handed m stages p o e = go (least_from (unread_at m stages) (length stages) 0) refl e
   where
     go : (least : Option (ℕ × Refusal)) → least_from (unread_at m stages) (length stages) 0 ≡ least
-        → unless_unread least (run_over stages (opened_in m stages)) ≡ Err (of.Device p o) → (o ≡ op.Open) × ((name : List ℕ) × (m name ≡ None))
-    go None is e = absurd (bound-device p o (least_from (unbound_at stages (opened_in m stages)) (length stages) 0) (evaluated stages (opened_in m stages)) e)
+        → unless_unread least (run_over stages (opened_in handed m stages)) ≡ Err (of.Device p o) → (o ≡ op.Open) × ((name : List ℕ) × (m name ≡ None))
+    go None is e = absurd (bound-device p o (least_from (unbound_at stages (opened_in handed m stages)) (length stages) 0) (evaluated stages (opened_in handed m stages)) e)
     go (Some first) is e =
         let refused : first.1 ≡ of.Device p o = cc in
         unread-absent m first.0 (role_at stages first.0) p o ((found (unread_at m stages) (length stages) 0 first.0 first.1 is).here ∙ ap (λ r. Some r) refused)
@@ -119,15 +120,15 @@ run_absent m stages p o e = go (least_from (unread_at m stages) (length stages) 
 -- ---- refused runs
 
 -- a device that a run names has failed
-pub cause_risen : (stop : Stop) (rose : Type 0) (map : Option Names) (stages : List StageSpec) (r : Refusal) → IsCauseBy stop rose map stages r → Risen rose ⊥ map r
-cause_risen stop rose map stages of.Memory c = tt
-cause_risen stop rose map stages (of.Data i f) c = tt
-cause_risen stop rose map stages (of.Pipeline f) c = tt
-cause_risen stop rose map stages (of.Usage k) c = tt
-cause_risen stop rose map stages (of.Device at.PipelineFile o) c = absurd c
-cause_risen stop rose map stages (of.Device at.Generated o) c = absurd c
-cause_risen stop rose map stages (of.Device at.Out o) c = absurd c
-cause_risen stop rose map stages (of.Device (at.Stage i) o) (inr c) = rose_failed rose ⊥ map (at.Stage i) o c.0
-cause_risen stop rose map stages (of.Device (at.Stage i) o) (inl c) =
-    let absent = run_absent c.0 stages (at.Stage i) o c.2 in
+pub cause_risen : (handed : Handed) (stop : Stop) (rose : Type 0) (map : Option Names) (stages : List StageSpec) (r : Refusal) → IsCauseBy stop rose handed map stages r → Risen rose ⊥ map r
+cause_risen handed stop rose map stages of.Memory c = tt
+cause_risen handed stop rose map stages (of.Data i f) c = tt
+cause_risen handed stop rose map stages (of.Pipeline f) c = tt
+cause_risen handed stop rose map stages (of.Usage k) c = tt
+cause_risen handed stop rose map stages (of.Device at.PipelineFile o) c = absurd c
+cause_risen handed stop rose map stages (of.Device at.Generated o) c = absurd c
+cause_risen handed stop rose map stages (of.Device at.Out o) c = absurd c
+cause_risen handed stop rose map stages (of.Device (at.Stage i) o) (inr c) = rose_failed rose ⊥ map (at.Stage i) o c.0
+cause_risen handed stop rose map stages (of.Device (at.Stage i) o) (inl c) =
+    let absent = run_absent handed c.0 stages (at.Stage i) o c.2 in
     subst (HasFailed rose ⊥ map (at.Stage i)) (sym absent.0) (inr (c.0, absent.1.0, c.1, absent.1.1))

@@ -64,20 +64,26 @@ gatherer-send = view_send _ _ _ _ _ (declared_send gatherer.TheInside.the_type (
 files-send : IsSend files.the_row
 files-send = declared_send files.the_type (held-send, (writing-send, (search (crosses, fault-send, sendable) depth 60 fits 20000, (search sendable, tt))))
 
-pub work-send : (S K : RattleType) (g : Ghosts K.Denot) → IsSend S → IsSend K → IsSend (work.the_row S K g)
-work-send S K g s k = variants_send (work.enum S K g) (
+pub work-send : (S K P Q : RattleType) (k : Ghosts K.Denot) → IsSend S → IsSend K → IsSend P → IsSend Q → IsSend (work.the_row S K P Q k)
+work-send S K P Q k s-send k-send p-send q-send = variants_send (work.enum S K P Q k) (
   (search (crosses, sendable) depth 60 fits 20000, tt),
   (
     (filter-send, tt),
     (
-      (gatherer-send, tt),
+      (search (crosses, tree.crosses, sendable) depth 60 fits 20000, tt),
       (
-        (held-send, tt),
+        (search (crosses, tree.crosses, sendable) depth 60 fits 20000, tt),
         (
-          (files-send, tt),
+          (gatherer-send, tt),
           (
-            (search (crosses, tree.crosses, sendable) depth 60 fits 20000, tt),
-            tt,
+            (held-send, tt),
+            (
+              (files-send, tt),
+              (
+                (search (crosses, tree.crosses, sendable) depth 60 fits 20000, tt),
+                tt,
+              ),
+            ),
           ),
         ),
       ),

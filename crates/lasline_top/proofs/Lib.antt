@@ -8,4 +8,6 @@ pub mod Failing
 pub mod Statuses
 pub mod Called
 pub mod Reading
+pub mod Runnable
+pub mod Back
 mod Crossing

@@ -17,6 +17,7 @@ use Rattle.lasline_top.specs.Words.{Plan_file}
 use Rattle.lasline_top.specs.Answer.{plan_in, planned, printed}
 use Rattle.lasline_top.specs.Ends.{WasRefused}
 use Rattle.lasline_top.proofs.Printed.{part_put, unprinted}
+use Rattle.plug_stages.specs.Handed.{Handed}
 
 -- what refuses the first of two steps refuses both
 pub because-then : {A B : Type 0} (r : Refusal) (first : Result A Refusal) (f : A → Result B Refusal) (failed later : Place → Op → Type 0) → ((p : Place) (o : Op) → failed p o → later p o)
@@ -39,11 +40,11 @@ plan-is file stages old new m plan told = ap (λ p. and_then p (λ ss. Ok (print
 nothing-put : (old new : Option Names) → new ≡ old → WerePut old [] new
 nothing-put old new same n e x is = sym e ∙ sym same ∙ is
 
-pub file-plan-unprinted : (file : List ℕ) (stages : List StageSpec) (files out : Type 0) (old new : Option Names) (out0 out1 : Option (List ℕ)) (text : List ℕ) (r : Refusal) → r ≡ of.Device at.Out op.Write → out
+pub file-plan-unprinted : (handed : Handed) (file : List ℕ) (stages : List StageSpec) (files out : Type 0) (old new : Option Names) (out0 out1 : Option (List ℕ)) (text : List ℕ) (r : Refusal) → r ≡ of.Device at.Out op.Write → out
     → new ≡ old → ((m : Names) → old ≡ Some m → plan_in m file ≡ Ok stages) → text ≡ plan_text (plan_of stages) → AppendsPart out0 text out1
-    → WasRefused (Ok (Plan_file file)) files out old new out0 out1 r
-file-plan-unprinted file stages files out old new out0 out1 text r is rose same plan text-is report =
-    unprinted (Plan_file file) files out old new out0 out1 r is rose part
+    → WasRefused handed (Ok (Plan_file file)) files out old new out0 out1 r
+file-plan-unprinted handed file stages files out old new out0 out1 text r is rose same plan text-is report =
+    unprinted handed (Plan_file file) files out old new out0 out1 r is rose part
     (λ m t. (rose, subst IsOk (sym (plan m t)) refl))
     (λ m t. part_put (planned m file) old new out0 out1 (part m t))
   where

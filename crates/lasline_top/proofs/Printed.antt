@@ -14,6 +14,7 @@ use Rattle.lasline_top.specs.Answer.{done}
 use Rattle.lasline_top.specs.Cause.{AtTask}
 use Rattle.lasline_top.specs.Left.{AreTold, IsLeftBy}
 use Rattle.lasline_top.specs.Ends.{WasRefused}
+use Rattle.plug_stages.specs.Handed.{Handed}
 
 -- ---- runs that were right
 
@@ -41,12 +42,12 @@ part_ok r old new out0 out1 = ok-only r (IsPartDone old new out0 out1)
 -- ---- the output failed
 
 -- a command whose text couldn't be printed is refused for that
-pub unprinted : (task : Task) (files out : Type 0) (old new : Option Names) (out0 out1 : Option (List ℕ)) (r : Refusal) → r ≡ of.Device at.Out op.Write → out
-    → ((m : Names) → AreTold (Ok task) old new m → IsOkAnd (done m task) (IsPartDone old new out0 out1))
-    → ((m : Names) → AreTold (Ok task) old new m → AtTask files out m (Ok task) at.Out op.Write)
-    → ((m : Names) → AreTold (Ok task) old new m → IsLeftBy (Ok task) (of.Device at.Out op.Write) old new m)
-    → WasRefused (Ok task) files out old new out0 out1 r
-unprinted task files out old new out0 out1 r is rose part device left = subst (WasRefused (Ok task) files out old new out0 out1) (sym is) (record {
+pub unprinted : (handed : Handed) (task : Task) (files out : Type 0) (old new : Option Names) (out0 out1 : Option (List ℕ)) (r : Refusal) → r ≡ of.Device at.Out op.Write → out
+    → ((m : Names) → AreTold (Ok task) old new m → IsOkAnd (done handed m task) (IsPartDone old new out0 out1))
+    → ((m : Names) → AreTold (Ok task) old new m → AtTask handed files out m (Ok task) at.Out op.Write)
+    → ((m : Names) → AreTold (Ok task) old new m → IsLeftBy handed (Ok task) (of.Device at.Out op.Write) old new m)
+    → WasRefused handed (Ok task) files out old new out0 out1 r
+unprinted handed task files out old new out0 out1 r is rose part device left = subst (WasRefused handed (Ok task) files out old new out0 out1) (sym is) (record {
   because = λ m t. inl (inr (device m t));
   risen = rose;
   out_risen = λ o e. (named o e, rose);

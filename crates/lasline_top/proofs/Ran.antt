@@ -22,12 +22,13 @@ use Rattle.run_engine.specs.declared.engine.Engine.TheVariants as chosen
 use Rattle.run_engine.specs.Stopping.{IsCauseBy, IsFaultIn, IsRefusedFor, ends_at}
 use Rattle.lasline_top.specs.Tasks.{engine_view}
 use Rattle.lasline_top.specs.Words.{Engine, Run_file, stop_in}
-use Rattle.lasline_top.specs.Answer.{ran, stages_in, text_run}
+use Rattle.lasline_top.specs.Answer.{named, ran, runnable_in, stages_in, text_run}
 use Rattle.lasline_top.specs.Cause.{IsOfRun, AtStages}
 use Rattle.lasline_top.specs.Ends.{WasRefused, WasStopped}
 use Rattle.lasline_top.specs.Stopping.{IsSeen}
 use Rattle.lasline_top.proofs.Absent.{cause_risen}
 use Rattle.lasline_top.proofs.Printed.{part_ok, part_put, unprinted}
+use Rattle.plug_stages.specs.Handed.{Handed}
 
 -- ---- refusals of a run
 
@@ -41,8 +42,8 @@ because-more (of.Pipeline f) expected failed later more h = h
 because-more (of.Usage k) expected failed later more h = h
 
 -- why the run of a text is refused, by the cause of the run of its stages
-module _ (stop : Stop) (rose : Type 0) (old new : Option Names) (text : List ℕ) (stages : List StageSpec) (is : stages_in text ≡ Ok stages) where
-  of-run : (r : Refusal) → IsCauseBy stop rose old stages r → IsOfRun r
+module _ (handed : Handed) (stop : Stop) (rose : Type 0) (old new : Option Names) (text : List ℕ) (stages : List StageSpec) (is : runnable_in handed text ≡ Ok stages) where
+  of-run : (r : Refusal) → IsCauseBy stop rose handed old stages r → IsOfRun r
   of-run of.Memory c = tt
   of-run (of.Data i f) c = tt
   of-run (of.Pipeline f) c = tt
@@ -52,38 +53,38 @@ module _ (stop : Stop) (rose : Type 0) (old new : Option Names) (text : List ℕ
   of-run (of.Device at.Out o) c = absurd c
   of-run (of.Usage k) c = absurd c
 
-  answers : (r : Refusal) (m : Names) → run_of m stages ≡ Err r → text_run m text ≡ Err r
-  answers r m e = ap (λ p. and_then p (run_of m)) is ∙ e
+  answers : (r : Refusal) (m : Names) → run_of handed m stages ≡ Err r → text_run handed m text ≡ Err r
+  answers r m e = ap (λ p. and_then p (run_of handed m)) is ∙ e
 
-  seen-because : (ends : Stop) (i : ℕ) (f : Fault) (m : Names) → IsRefusedFor ends m stages i f → (text_run m text ≡ Err (of.Data i f)) ⊎ IsSeen ends m (stages_in text) (of.Data i f)
+  seen-because : (ends : Stop) (i : ℕ) (f : Fault) (m : Names) → IsRefusedFor ends handed m stages i f → (text_run handed m text ≡ Err (of.Data i f)) ⊎ IsSeen ends handed m (runnable_in handed text) (of.Data i f)
   seen-because Last i f m c = inl (answers (of.Data i f) m c)
   seen-because First i f m (inl c) = inl (answers (of.Data i f) m c)
-  seen-because First i f m (inr c) = inr (subst (λ p. IsOkAnd p (λ ss. IsFaultIn m ss i f)) (sym is) c)
+  seen-because First i f m (inr c) = inr (subst (λ p. IsOkAnd p (λ ss. IsFaultIn handed m ss i f)) (sym is) c)
 
-  run-because : (r : Refusal) (m : Names) → old ≡ Some m → IsCauseBy stop rose old stages r → Because (text_run m text) (AtStages rose ⊥ m (stages_in text) ⊥) r ⊎ IsSeen stop m (stages_in text) r
+  run-because : (r : Refusal) (m : Names) → old ≡ Some m → IsCauseBy stop rose handed old stages r → Because (text_run handed m text) (AtStages handed rose ⊥ m (runnable_in handed text) ⊥) r ⊎ IsSeen stop handed m (runnable_in handed text) r
   run-because of.Memory m t c = inl tt
   run-because (of.Data i f) m t c = seen-because stop i f m (c m t)
   run-because (of.Pipeline f) m t c = inl (answers (of.Pipeline f) m (c m t))
   run-because (of.Device (at.Stage i) o) m t (inl a) =
       let told : Some a.0 ≡ Some m = sym a.1 ∙ t in
       let one : a.0 ≡ m = cc in
-      inl (inl (answers (of.Device (at.Stage i) o) m (subst (λ n. run_of n stages ≡ Err (of.Device (at.Stage i) o)) one a.2)))
-  run-because (of.Device (at.Stage i) o) m t (inr a) = inl (inr (a.0, subst (λ p. IsOkAnd p (λ ss. MayFail m ss i o)) (sym is) (a.1 m t)))
+      inl (inl (answers (of.Device (at.Stage i) o) m (subst (λ n. run_of handed n stages ≡ Err (of.Device (at.Stage i) o)) one a.2)))
+  run-because (of.Device (at.Stage i) o) m t (inr a) = inl (inr (a.0, subst (λ p. IsOkAnd p (λ ss. MayFail handed m ss i o)) (sym is) (a.1 m t)))
   run-because (of.Device at.PipelineFile o) m t c = absurd c
   run-because (of.Device at.Generated o) m t c = absurd c
   run-because (of.Device at.Out o) m t c = absurd c
   run-because (of.Usage k) m t c = absurd c
 
-  run-stopped : (r : Refusal) → IsCauseBy stop rose old stages r → ((m : Names) → old ≡ Some m → IsLeft r old new (run_of m stages)) → WasStopped stop rose old new text r
+  run-stopped : (r : Refusal) → IsCauseBy stop rose handed old stages r → ((m : Names) → old ≡ Some m → IsLeft r old new (run_of handed m stages)) → WasStopped handed stop rose old new text r
   run-stopped r c left = record {
     of_run = of-run r c;
     because = λ m t. run-because r m t c;
-    risen = cause_risen stop rose old stages r c;
-    left = λ m t. subst (λ p. IsLeft r old new (and_then p (run_of m))) (sym is) (left m t);
+    risen = cause_risen handed stop rose old stages r c;
+    left = λ m t. subst (λ p. IsLeft r old new (and_then p (run_of handed m))) (sym is) (left m t);
   }
 
-  pub if-stopped : {T : Type 0} (result : Result T Refusal) → IfErr result (IsCauseBy stop rose old stages) → IfErr result (λ r. (m : Names) → old ≡ Some m → IsLeft r old new (run_of m stages))
-      → IfErr result (WasStopped stop rose old new text)
+  pub if-stopped : {T : Type 0} (result : Result T Refusal) → IfErr result (IsCauseBy stop rose handed old stages) → IfErr result (λ r. (m : Names) → old ≡ Some m → IsLeft r old new (run_of handed m stages))
+      → IfErr result (WasStopped handed stop rose old new text)
   if-stopped (Ok x) c left = tt
   if-stopped (Err r) c left = run-stopped r c left
 
@@ -95,11 +96,11 @@ ends-so chosen.Whole stop = refl
 -- ---- the run of a file
 
 -- what the run of its text comes to, that of a file does
-pub ran-as : (file text : List ℕ) (counts : List StageCount) (old middle new : Option Names) → ((m : Names) → old ≡ Some m → file_at (m file) at.PipelineFile ≡ Ok text) → middle ≡ old
-    → ((m : Names) → middle ≡ Some m → IsOkAnd (text_run m text) (IsRun middle new counts)) → (m : Names) → old ≡ Some m → IsOkAnd (ran m file) (IsRun old new counts)
-ran-as file text counts old middle new is same run m t =
-    subst (λ p. IsOkAnd (and_then (and_then p stages_in) (run_of m)) (IsRun old new counts)) (sym (is m t))
-    (subst (λ o. IsOkAnd (text_run m text) (IsRun o new counts)) same (run m (same ∙ t)))
+pub ran-as : (handed : Handed) (file text : List ℕ) (counts : List StageCount) (old middle new : Option Names) → ((m : Names) → old ≡ Some m → file_at (m file) at.PipelineFile ≡ Ok text) → middle ≡ old
+    → ((m : Names) → middle ≡ Some m → IsOkAnd (text_run handed m text) (IsRun middle new counts)) → (m : Names) → old ≡ Some m → IsOkAnd (ran handed m file) (IsRun old new counts)
+ran-as handed file text counts old middle new is same run m t =
+    subst (λ p. IsOkAnd (and_then (and_then (and_then p stages_in) (named handed)) (run_of handed m)) (IsRun old new counts)) (sym (is m t))
+    (subst (λ o. IsOkAnd (text_run handed m text) (IsRun o new counts)) same (run m (same ∙ t)))
 
 pub done_is : (r : Result Run Refusal) (old new : Option Names) (counts shown : List StageCount) (out0 out1 : Option (List ℕ)) → shown ≡ counts → IsOkAnd r (IsRun old new counts) → Appends out0 (report_of shown) out1
     → IsOkAnd r (IsDone old new out0 out1)
@@ -112,13 +113,13 @@ part_done_is (Ok run) old new counts shown out0 out1 same h report = record { pu
 part_done_is (Err s) old new counts shown out0 out1 same h report = absurd h
 
 -- where only its report couldn't be printed
-pub run-unprinted : (file : List ℕ) (engine : Engine) (files out : Type 0) (old new : Option Names) (counts shown : List StageCount) (out0 out1 : Option (List ℕ)) (r : Refusal) → r ≡ of.Device at.Out op.Write → out → shown ≡ counts
-    → ((m : Names) → old ≡ Some m → IsOkAnd (ran m file) (IsRun old new counts)) → AppendsPart out0 (report_of shown) out1
-    → WasRefused (Ok (Run_file file engine)) files out old new out0 out1 r
-run-unprinted file engine files out old new counts shown out0 out1 r is rose same run report =
-    unprinted (Run_file file engine) files out old new out0 out1 r is rose part
-    (λ m t. (rose, part_ok (ran m file) old new out0 out1 (part m t)))
-    (λ m t. part_put (ran m file) old new out0 out1 (part m t))
+pub run-unprinted : (handed : Handed) (file : List ℕ) (engine : Engine) (files out : Type 0) (old new : Option Names) (counts shown : List StageCount) (out0 out1 : Option (List ℕ)) (r : Refusal) → r ≡ of.Device at.Out op.Write → out → shown ≡ counts
+    → ((m : Names) → old ≡ Some m → IsOkAnd (ran handed m file) (IsRun old new counts)) → AppendsPart out0 (report_of shown) out1
+    → WasRefused handed (Ok (Run_file file engine)) files out old new out0 out1 r
+run-unprinted handed file engine files out old new counts shown out0 out1 r is rose same run report =
+    unprinted handed (Run_file file engine) files out old new out0 out1 r is rose part
+    (λ m t. (rose, part_ok (ran handed m file) old new out0 out1 (part m t)))
+    (λ m t. part_put (ran handed m file) old new out0 out1 (part m t))
   where
-    part : (m : Names) → old ≡ Some m → IsOkAnd (ran m file) (IsPartDone old new out0 out1)
-    part m t = part_done_is (ran m file) old new counts shown out0 out1 same (run m t) report
+    part : (m : Names) → old ≡ Some m → IsOkAnd (ran handed m file) (IsPartDone old new out0 out1)
+    part m t = part_done_is (ran handed m file) old new counts shown out0 out1 same (run m t) report

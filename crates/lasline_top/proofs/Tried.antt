@@ -18,7 +18,7 @@ use Rattle.answer_model.specs.Runs.{Run}
 use Rattle.run_outcome.specs.Cause.{Because, WerePut, IsRun, IsDone, IsPartDone, IsLeft}
 use Rattle.lasline_top.specs.Texts.{generated_line}
 use Rattle.lasline_top.specs.Words.{Engine, Trial, stop_in}
-use Rattle.lasline_top.specs.Answer.{made, behind, stages_in, text_run, trial_name, trial_text, with_trial, trial_run, done}
+use Rattle.lasline_top.specs.Answer.{made, behind, runnable_in, text_run, trial_name, trial_text, with_trial, trial_run, done}
 use Rattle.lasline_top.specs.Cause.{IsOfRun, AtStages, AtTask, AtTrial}
 use Rattle.lasline_top.specs.Left.{IsTrialLeft}
 use Rattle.lasline_top.specs.Ends.{WasDone, WasRefused, WasStopped}
@@ -26,6 +26,7 @@ use Rattle.lasline_top.proofs.Planned.{because-then}
 use Rattle.lasline_top.proofs.Printed.{ok-only, ok-more, unprinted}
 use Rattle.lasline_top.proofs.Absent.{risen_more, absent_behind}
 use Rattle.lasline_top.proofs.Ran.{because-more}
+use Rattle.plug_stages.specs.Handed.{Handed}
 
 -- ---- the map behind the file that was made
 
@@ -39,12 +40,12 @@ told-between count old (Some n) new m put-in untold told end =
 -- ---- refusals
 
 -- what refuses the run of the pipeline refuses the trial
-module _ (count : ℕ) (engine : Engine) (files out : Type 0) where
-  trial-because : (m : Names) (r : Refusal) → Because (trial_run m count) (AtTrial files out m count) r → Because (done m (Trial count engine)) (AtTask files out m (Ok (Trial count engine))) r
+module _ (handed : Handed) (count : ℕ) (engine : Engine) (files out : Type 0) where
+  trial-because : (m : Names) (r : Refusal) → Because (trial_run handed m count) (AtTrial handed files out m count) r → Because (done handed m (Trial count engine)) (AtTask handed files out m (Ok (Trial count engine))) r
   trial-because m r h =
-      because-then r (trial_run m count) (λ run. Ok (behind (made count trial_name) run)) (AtTrial files out m count) (AtTask files out m (Ok (Trial count engine))) (λ p o h. h) h
+      because-then r (trial_run handed m count) (λ run. Ok (behind (made count trial_name) run)) (AtTrial handed files out m count) (AtTask handed files out m (Ok (Trial count engine))) (λ p o h. h) h
 
-  run-left : (r : Refusal) (old new : Option Names) (m : Names) → IsOfRun r → IsLeft r (Some (with_trial m count)) new (trial_run m count) → IsTrialLeft r old new m count
+  run-left : (r : Refusal) (old new : Option Names) (m : Names) → IsOfRun r → IsLeft r (Some (with_trial m count)) new (trial_run handed m count) → IsTrialLeft handed r old new m count
   run-left of.Memory old new m inside left = inr left
   run-left (of.Data i f) old new m inside left = left
   run-left (of.Pipeline f) old new m inside left = left
@@ -54,7 +55,7 @@ module _ (count : ℕ) (engine : Engine) (files out : Type 0) where
   run-left (of.Device at.Out o) old new m inside left = absurd inside
   run-left (of.Usage k) old new m inside left = absurd inside
 
-  at-trial : (rose : Type 0) (m : Names) → (rose → files) → (p : Place) (o : Op) → AtStages rose ⊥ (with_trial m count) (stages_in trial_text) ⊥ p o → AtTrial files out m count p o
+  at-trial : (rose : Type 0) (m : Names) → (rose → files) → (p : Place) (o : Op) → AtStages handed rose ⊥ (with_trial m count) (runnable_in handed trial_text) ⊥ p o → AtTrial handed files out m count p o
   at-trial rose m more (at.Stage i) o h = (more h.0, h.1)
   at-trial rose m more at.PipelineFile o h = absurd h
   at-trial rose m more at.Generated o h = absurd h
@@ -66,41 +67,41 @@ module _ (count : ℕ) (engine : Engine) (files out : Type 0) where
   at-trial rose m more at.Out op.Keep h = absurd h
 
   pub trial-stopped : (rose : Type 0) (text : List ℕ) (old middle new : Option Names) (out0 out1 : Option (List ℕ)) (r : Refusal) → out1 ≡ out0 → IsPut old trial_name (generated_file count) middle → text ≡ trial_text
-      → (rose → files) → (middle ≡ None → new ≡ None) → WasStopped (stop_in engine) rose middle new text r → WasRefused (Ok (Trial count engine)) files out old new out0 out1 r
+      → (rose → files) → (middle ≡ None → new ≡ None) → WasStopped handed (stop_in engine) rose middle new text r → WasRefused handed (Ok (Trial count engine)) files out old new out0 out1 r
   trial-stopped rose text old middle new out0 out1 r quiet put-in is more untold text-stopped = record {
     because = λ m t. elim (stopped.because (with_trial m count) (told-between count old middle new m put-in untold t.0 t.1)) [
-      | inl b ↦ inl (trial-because m r (because-more r (trial_run m count) (AtStages rose ⊥ (with_trial m count) (stages_in trial_text) ⊥) (AtTrial files out m count) (at-trial rose m more) b))
+      | inl b ↦ inl (trial-because m r (because-more r (trial_run handed m count) (AtStages handed rose ⊥ (with_trial m count) (runnable_in handed trial_text) ⊥) (AtTrial handed files out m count) (at-trial rose m more) b))
       | inr s ↦ inr s
     ];
     risen = risen_more rose ⊥ files out middle old r more (λ never. absurd never) (absent_behind trial_name (generated_file count) old middle put-in) stopped.risen;
     out_risen = λ o e. absurd (subst IsOfRun e stopped.of_run);
     left = λ m t. let told = told-between count old middle new m put-in untold t.0 t.1 in
-        run-left r old new m stopped.of_run (subst (λ o. IsLeft r o new (trial_run m count)) told (stopped.left (with_trial m count) told));
+        run-left r old new m stopped.of_run (subst (λ o. IsLeft r o new (trial_run handed m count)) told (stopped.left (with_trial m count) told));
     quiet = inl quiet;
   }
     where
-      stopped : WasStopped (stop_in engine) rose middle new trial_text r
-      stopped = subst (λ b. WasStopped (stop_in engine) rose middle new b r) is text-stopped
+      stopped : WasStopped handed (stop_in engine) rose middle new trial_text r
+      stopped = subst (λ b. WasStopped handed (stop_in engine) rose middle new b r) is text-stopped
 
 -- ---- runs that were right
 
 -- what the pipeline came to, over the map with the file
-pub trial-ran : (count : ℕ) (text : List ℕ) (counts : List StageCount) (old middle new : Option Names) → IsPut old trial_name (generated_file count) middle → text ≡ trial_text → (middle ≡ None → new ≡ None)
-    → ((m : Names) → middle ≡ Some m → IsOkAnd (text_run m text) (IsRun middle new counts)) → (m : Names) → (old ≡ Some m) × (is_some new ≡ true)
-    → IsOkAnd (trial_run m count) (IsRun (Some (with_trial m count)) new counts)
-trial-ran count text counts old middle new put-in is untold run m t =
+pub trial-ran : (handed : Handed) (count : ℕ) (text : List ℕ) (counts : List StageCount) (old middle new : Option Names) → IsPut old trial_name (generated_file count) middle → text ≡ trial_text → (middle ≡ None → new ≡ None)
+    → ((m : Names) → middle ≡ Some m → IsOkAnd (text_run handed m text) (IsRun middle new counts)) → (m : Names) → (old ≡ Some m) × (is_some new ≡ true)
+    → IsOkAnd (trial_run handed m count) (IsRun (Some (with_trial m count)) new counts)
+trial-ran handed count text counts old middle new put-in is untold run m t =
     let told = told-between count old middle new m put-in untold t.0 t.1 in
-    subst (λ b. IsOkAnd (text_run (with_trial m count) b) (IsRun (Some (with_trial m count)) new counts)) is
-    (subst (λ o. IsOkAnd (text_run (with_trial m count) text) (IsRun o new counts)) told (run (with_trial m count) told))
+    subst (λ b. IsOkAnd (text_run handed (with_trial m count) b) (IsRun (Some (with_trial m count)) new counts)) is
+    (subst (λ o. IsOkAnd (text_run handed (with_trial m count) text) (IsRun o new counts)) told (run (with_trial m count) told))
 
 -- the file and the outputs of the run were put then
 behind-put : (count : ℕ) (old new : Option Names) (m : Names) (run : Run) → old ≡ Some m → WerePut (Some (with_trial m count)) run.outputs new → WerePut old (behind (made count trial_name) run).outputs new
 behind-put count old new m run told h n e = let same : Some n ≡ Some m = sym e ∙ told in let is : n ≡ m = cc in rw is (h (with_trial m count) refl)
 
-pub trial-done : (count : ℕ) (engine : Engine) (old new : Option Names) (counts shown : List StageCount) (out0 out1 out2 : Option (List ℕ)) → shown ≡ counts
-    → ((m : Names) → (old ≡ Some m) × (is_some new ≡ true) → IsOkAnd (trial_run m count) (IsRun (Some (with_trial m count)) new counts))
-    → Appends out0 (generated_line count) out1 → Appends out1 (report_of shown) out2 → WasDone (Ok (Trial count engine)) old new out0 out2
-trial-done count engine old new counts shown out0 out1 out2 same run line report m t = go (trial_run m count) (run m t)
+pub trial-done : (handed : Handed) (count : ℕ) (engine : Engine) (old new : Option Names) (counts shown : List StageCount) (out0 out1 out2 : Option (List ℕ)) → shown ≡ counts
+    → ((m : Names) → (old ≡ Some m) × (is_some new ≡ true) → IsOkAnd (trial_run handed m count) (IsRun (Some (with_trial m count)) new counts))
+    → Appends out0 (generated_line count) out1 → Appends out1 (report_of shown) out2 → WasDone handed (Ok (Trial count engine)) old new out0 out2
+trial-done handed count engine old new counts shown out0 out1 out2 same run line report m t = go (trial_run handed m count) (run m t)
   where
     go : (r : Result Run Refusal) → IsOkAnd r (IsRun (Some (with_trial m count)) new counts) → IsOkAnd (and_then r (λ run. Ok (behind (made count trial_name) run))) (IsDone old new out0 out2)
     go (Ok x) h = record {
@@ -110,14 +111,14 @@ trial-done count engine old new counts shown out0 out1 out2 same run line report
     go (Err e) h = absurd h
 
 -- where only a text couldn't be printed
-pub trial-unprinted : (count : ℕ) (engine : Engine) (files out : Type 0) (old new : Option Names) (counts : List StageCount) (out0 out1 : Option (List ℕ)) (r : Refusal) → r ≡ of.Device at.Out op.Write → out
-    → ((m : Names) → (old ≡ Some m) × (is_some new ≡ true) → IsOkAnd (trial_run m count) (IsRun (Some (with_trial m count)) new counts))
-    → AppendsPart out0 (generated_line count ++ report_of counts) out1 → WasRefused (Ok (Trial count engine)) files out old new out0 out1 r
-trial-unprinted count engine files out old new counts out0 out1 r is rose run text =
-    unprinted (Trial count engine) files out old new out0 out1 r is rose
-    (λ m t. go m t (trial_run m count) (run m t))
-    (λ m t. (rose, ok-only (trial_run m count) (IsRun (Some (with_trial m count)) new counts) (run m t)))
-    (λ m t. ok-more (trial_run m count) (IsRun (Some (with_trial m count)) new counts) (λ x. WerePut (Some (with_trial m count)) x.outputs new) (λ x h. h.put) (run m t))
+pub trial-unprinted : (handed : Handed) (count : ℕ) (engine : Engine) (files out : Type 0) (old new : Option Names) (counts : List StageCount) (out0 out1 : Option (List ℕ)) (r : Refusal) → r ≡ of.Device at.Out op.Write → out
+    → ((m : Names) → (old ≡ Some m) × (is_some new ≡ true) → IsOkAnd (trial_run handed m count) (IsRun (Some (with_trial m count)) new counts))
+    → AppendsPart out0 (generated_line count ++ report_of counts) out1 → WasRefused handed (Ok (Trial count engine)) files out old new out0 out1 r
+trial-unprinted handed count engine files out old new counts out0 out1 r is rose run text =
+    unprinted handed (Trial count engine) files out old new out0 out1 r is rose
+    (λ m t. go m t (trial_run handed m count) (run m t))
+    (λ m t. (rose, ok-only (trial_run handed m count) (IsRun (Some (with_trial m count)) new counts) (run m t)))
+    (λ m t. ok-more (trial_run handed m count) (IsRun (Some (with_trial m count)) new counts) (λ x. WerePut (Some (with_trial m count)) x.outputs new) (λ x h. h.put) (run m t))
   where
     go : (m : Names) → (old ≡ Some m) × (is_some new ≡ true) → (r : Result Run Refusal) → IsOkAnd r (IsRun (Some (with_trial m count)) new counts)
         → IsOkAnd (and_then r (λ run. Ok (behind (made count trial_name) run))) (IsPartDone old new out0 out1)

@@ -25,6 +25,7 @@ use Rattle.lasline_top.specs.Left.{AreTold, IsLeftBy}
 use Rattle.lasline_top.specs.Reading.{IsReadAhead, IsReadBy}
 use Rattle.lasline_top.specs.Refusals.{status_for}
 use Rattle.lasline_top.specs.Stopping.{MayCome, MayEnd}
+use Rattle.plug_stages.specs.Handed.{Handed}
 
 -- what can be seen at one time: of the files what names have, how often they failed, how far they were read and how many objects
 -- are handed out; of the output and of the errors their bytes and how often they failed
@@ -64,12 +65,12 @@ abbrev pub Told : List (List ℕ) → Seen → Seen → Names → Type 0
 Told words before after m = AreTold (task_of words) before.map after.map m
 
 -- a call with these words, over what was seen before, has answered this and left what is seen after it
-pub record HasAnswered (words : List (List ℕ)) (before after : Seen) (status : Status) : Type 0 where
+pub record HasAnswered (handed : Handed) (words : List (List ℕ)) (before after : Seen) (status : Status) : Type 0 where
   -- an Ok run has kept exactly the files that are defined, and printed the report
   pub kept : status ≡ ends.Ok → (m : Names) → Told words before after m
-      → IsOkAnd (answer words m) (λ run. WerePut before.map run.outputs after.map)
+      → IsOkAnd (answer handed words m) (λ run. WerePut before.map run.outputs after.map)
   pub report : status ≡ ends.Ok → (m : Names) → Told words before after m
-      → IsOkAnd (answer words m) (λ run. Appends before.out run.report after.out)
+      → IsOkAnd (answer handed words m) (λ run. Appends before.out run.report after.out)
   -- a page is printed whatever the files tell, or a part of it where printing failed
   pub page : status ≡ ends.Ok → (text : List ℕ) → task_of words ≡ Ok (Print text) → Appends before.out text after.out
   pub page_part : (status ≡ ends.Ok → ⊥) → (text : List ℕ) → task_of words ≡ Ok (Print text)
@@ -77,27 +78,27 @@ pub record HasAnswered (words : List (List ℕ)) (before after : Seen) (status :
   -- each other answer has its cause: the pipeline has that fault, the files hold it, or the words are no command. Where turns end at
   -- the first fault it may be that of any stage
   pub pipeline : (f : PipeFault) → status ≡ ends.Pipeline f → (m : Names) → Told words before after m
-      → answer words m ≡ Err (of.Pipeline f)
+      → answer handed words m ≡ Err (of.Pipeline f)
   pub «data» : (i : ℕ) (f : Fault) → status ≡ ends.Data i f → (m : Names) → Told words before after m
-      → MayCome (task_of words) m (Err (of.Data i f))
+      → MayCome handed (task_of words) m (Err (of.Data i f))
   pub usage : (k : ℕ) → status ≡ ends.Usage k → task_of words ≡ Err (of.Usage k)
   pub words_first : (refusal : Refusal) → task_of words ≡ Err refusal → status ≡ status_for refusal
   -- or a device failed, once the command had come that far: its count rose, or a file to read isn't there
   pub device : (p : Place) (o : Op) → status ≡ ends.Device p o → (m : Names) → Told words before after m
-      → (answer words m ≡ Err (of.Device p o)) ⊎ AtTask (FilesRose before after) (OutRose before after) m (task_of words) p o
+      → (answer handed words m ≡ Err (of.Device p o)) ⊎ AtTask handed (FilesRose before after) (OutRose before after) m (task_of words) p o
   pub risen : (p : Place) (o : Op) → status ≡ ends.Device p o
       → HasFailed (FilesRose before after) (OutRose before after) before.map p o
   pub out_risen : (o : Op) → status ≡ ends.Device at.Out o → (o ≡ op.Write) × OutRose before after
   -- where no device fails, the answer is one that is defined, or want of memory
   pub complete : (m : Names) → Told words before after m → (FilesRose before after → ⊥) → (OutRose before after → ⊥)
-      → MayEnd (task_of words) m status ⊎ (status ≡ ends.Memory)
+      → MayEnd handed (task_of words) m status ⊎ (status ≡ ends.Memory)
   -- after a refusal the files are as before, but for the first outputs where one couldn't be kept, for all where only the report
   -- couldn't be printed, and for the file that a trial made
   pub refused : (refusal : Refusal) → status ≡ status_for refusal → (m : Names) → Told words before after m
-      → IsLeftBy (task_of words) refusal before.map after.map m
+      → IsLeftBy handed (task_of words) refusal before.map after.map m
   -- and nothing was printed, or where only the output failed a part of what there was to print
   pub quiet : (status ≡ ends.Ok → ⊥) → (after.out ≡ before.out) ⊎ ((status ≡ ends.Device at.Out op.Write)
-      × ((m : Names) → Told words before after m → IsOkAnd (answer words m) (IsPartDone before.map after.map before.out after.out)))
+      × ((m : Names) → Told words before after m → IsOkAnd (answer handed words m) (IsPartDone before.map after.map before.out after.out)))
   -- the line that says why goes to the errors, and nothing goes there on Ok
   pub silent : status ≡ ends.Ok → after.err ≡ before.err
   pub told_why : (refusal : Refusal) → status ≡ status_for refusal
@@ -112,5 +113,5 @@ pub record HasAnswered (words : List (List ℕ)) (before after : Seen) (status :
       → IsReadAhead (task_of words) m before.read_to after.read_to refusal
 
 -- it has answered some status, and this is the code of that
-abbrev pub HasExited : List (List ℕ) → Seen → Seen → ℕ → Type 0
-HasExited words before after code = (status : Status) × (code ≡ code_of status) × HasAnswered words before after status
+abbrev pub HasExited : Handed → List (List ℕ) → Seen → Seen → ℕ → Type 0
+HasExited handed words before after code = (status : Status) × (code ≡ code_of status) × HasAnswered handed words before after status

@@ -12,7 +12,8 @@ use Rattle.run_report.specs.declared.refusal.Refusal.{Refusal}
 use Rattle.run_report.specs.declared.refusal.Refusal.TheVariants as of
 use Rattle.run_outcome.specs.Cause.{MayFail}
 use Rattle.lasline_top.specs.Words.{Task, Run_file, Plan_file, Make_file, Trial, Print}
-use Rattle.lasline_top.specs.Answer.{plan_in, ran, stages_in, trial_text, with_trial, trial_run}
+use Rattle.lasline_top.specs.Answer.{plan_in, ran, runnable_in, runnable_of, trial_text, with_trial, trial_run}
+use Rattle.plug_stages.specs.Handed.{Handed}
 
 -- a refusal that isn't for the words
 abbrev pub IsOfFiles : Refusal → Type 0
@@ -69,15 +70,15 @@ AtOut rose op.Write = rose
 AtOut rose o = ⊥
 
 -- a device of a run's stages, where the run had come that far, or the output, where the run was right
-abbrev pub AtStages : Type 0 → Type 0 → Names → Result (List StageSpec) Refusal → Type 0 → Place → Op → Type 0
-AtStages files_rose out_rose m plan right (at.Stage i) o = files_rose × IsOkAnd plan (λ stages. MayFail m stages i o)
-AtStages files_rose out_rose m plan right at.Out o = AtOut (out_rose × right) o
-AtStages files_rose out_rose m plan right place o = ⊥
+abbrev pub AtStages : Handed → Type 0 → Type 0 → Names → Result (List StageSpec) Refusal → Type 0 → Place → Op → Type 0
+AtStages handed files_rose out_rose m plan right (at.Stage i) o = files_rose × IsOkAnd plan (λ stages. MayFail handed m stages i o)
+AtStages handed files_rose out_rose m plan right at.Out o = AtOut (out_rose × right) o
+AtStages handed files_rose out_rose m plan right place o = ⊥
 
 -- that of a command that runs this file
-abbrev pub AtFile : Type 0 → Type 0 → Names → List ℕ → Place → Op → Type 0
-AtFile files_rose out_rose m file at.PipelineFile o = AtText files_rose at.PipelineFile o
-AtFile files_rose out_rose m file p o = AtStages files_rose out_rose m (plan_in m file) (IsOk (ran m file)) p o
+abbrev pub AtFile : Handed → Type 0 → Type 0 → Names → List ℕ → Place → Op → Type 0
+AtFile handed files_rose out_rose m file at.PipelineFile o = AtText files_rose at.PipelineFile o
+AtFile handed files_rose out_rose m file p o = AtStages handed files_rose out_rose m (runnable_of handed m file) (IsOk (ran handed m file)) p o
 
 -- of one that plans it
 abbrev pub AtPlan : Type 0 → Type 0 → Names → List ℕ → Place → Op → Type 0
@@ -94,19 +95,19 @@ AtMade files_rose out_rose at.Out o = AtOut out_rose o
 AtMade files_rose out_rose p o = ⊥
 
 -- of one that makes such a file and runs the pipeline of the trial on it
-abbrev pub AtTrial : Type 0 → Type 0 → Names → ℕ → Place → Op → Type 0
-AtTrial files_rose out_rose m count at.Generated o = AtMade files_rose out_rose at.Generated o
-AtTrial files_rose out_rose m count p o = AtStages files_rose out_rose (with_trial m count) (stages_in trial_text) (IsOk (trial_run m count)) p o
+abbrev pub AtTrial : Handed → Type 0 → Type 0 → Names → ℕ → Place → Op → Type 0
+AtTrial handed files_rose out_rose m count at.Generated o = AtMade files_rose out_rose at.Generated o
+AtTrial handed files_rose out_rose m count p o = AtStages handed files_rose out_rose (with_trial m count) (runnable_in handed trial_text) (IsOk (trial_run handed m count)) p o
 
 -- the device that an answer names may be at fault: its count rose, and the command had come that far. One that prints a page has the
 -- output alone
-abbrev pub AtTask : Type 0 → Type 0 → Names → Result Task Refusal → Place → Op → Type 0
-AtTask files_rose out_rose m (Ok (Run_file file engine)) p o = AtFile files_rose out_rose m file p o
-AtTask files_rose out_rose m (Ok (Plan_file file)) p o = AtPlan files_rose out_rose m file p o
-AtTask files_rose out_rose m (Ok (Make_file count name)) p o = AtMade files_rose out_rose p o
-AtTask files_rose out_rose m (Ok (Trial count engine)) p o = AtTrial files_rose out_rose m count p o
-AtTask files_rose out_rose m (Ok (Print text)) p o = (p ≡ at.Out) × AtOut out_rose o
-AtTask files_rose out_rose m (Err refusal) p o = ⊥
+abbrev pub AtTask : Handed → Type 0 → Type 0 → Names → Result Task Refusal → Place → Op → Type 0
+AtTask handed files_rose out_rose m (Ok (Run_file file engine)) p o = AtFile handed files_rose out_rose m file p o
+AtTask handed files_rose out_rose m (Ok (Plan_file file)) p o = AtPlan files_rose out_rose m file p o
+AtTask handed files_rose out_rose m (Ok (Make_file count name)) p o = AtMade files_rose out_rose p o
+AtTask handed files_rose out_rose m (Ok (Trial count engine)) p o = AtTrial handed files_rose out_rose m count p o
+AtTask handed files_rose out_rose m (Ok (Print text)) p o = (p ≡ at.Out) × AtOut out_rose o
+AtTask handed files_rose out_rose m (Err refusal) p o = ⊥
 
 -- a line was printed, or where its append failed a part of it
 abbrev pub ToldWhy : Option (List ℕ) → Option (List ℕ) → ℕ → ℕ → List ℕ → Type 0

@@ -10,6 +10,7 @@ use Rattle.answer_model.specs.Steps.{and_then}
 use Rattle.run_outcome.specs.Cause.{IsLeft}
 use Rattle.lasline_top.specs.Words.{Task, Make_file, Trial}
 use Rattle.lasline_top.specs.Answer.{done, trial_name, with_trial, trial_run}
+use Rattle.plug_stages.specs.Handed.{Handed}
 
 -- the files tell what names have: at entry, and at the return too where the command reads a file that it wrote
 abbrev pub AreTold : Result Task Refusal → Option Names → Option Names → Names → Type 0
@@ -25,14 +26,14 @@ IsMadeLeft (of.Device at.Out o) old name bytes new = IsPut old name bytes new
 IsMadeLeft refusal old name bytes new = new ≡ old
 
 -- and of a trial: as much, where the file couldn't be made, and else the file, and of the run what that leaves
-abbrev pub IsTrialLeft : Refusal → Option Names → Option Names → Names → ℕ → Type 0
-IsTrialLeft of.Memory old new m count =
-    IsUnmade generating.Memory old trial_name (generated_file count) new ⊎ IsLeft of.Memory (Some (with_trial m count)) new (trial_run m count)
-IsTrialLeft (of.Device at.Generated o) old new m count = IsUnmade (generating.Device o) old trial_name (generated_file count) new
-IsTrialLeft refusal old new m count = IsLeft refusal (Some (with_trial m count)) new (trial_run m count)
+abbrev pub IsTrialLeft : Handed → Refusal → Option Names → Option Names → Names → ℕ → Type 0
+IsTrialLeft handed of.Memory old new m count =
+    IsUnmade generating.Memory old trial_name (generated_file count) new ⊎ IsLeft of.Memory (Some (with_trial m count)) new (trial_run handed m count)
+IsTrialLeft handed (of.Device at.Generated o) old new m count = IsUnmade (generating.Device o) old trial_name (generated_file count) new
+IsTrialLeft handed refusal old new m count = IsLeft refusal (Some (with_trial m count)) new (trial_run handed m count)
 
 -- what the refusal of a command leaves
-abbrev pub IsLeftBy : Result Task Refusal → Refusal → Option Names → Option Names → Names → Type 0
-IsLeftBy (Ok (Make_file count name)) refusal old new m = IsMadeLeft refusal old name (generated_file count) new
-IsLeftBy (Ok (Trial count engine)) refusal old new m = IsTrialLeft refusal old new m count
-IsLeftBy task refusal old new m = IsLeft refusal old new (and_then task (done m))
+abbrev pub IsLeftBy : Handed → Result Task Refusal → Refusal → Option Names → Option Names → Names → Type 0
+IsLeftBy handed (Ok (Make_file count name)) refusal old new m = IsMadeLeft refusal old name (generated_file count) new
+IsLeftBy handed (Ok (Trial count engine)) refusal old new m = IsTrialLeft handed refusal old new m count
+IsLeftBy handed task refusal old new m = IsLeft refusal old new (and_then task (done handed m))

@@ -12,3 +12,4 @@ pub mod Ends
 pub mod Codes
 pub mod Calls
 pub mod Threads
+pub mod Back

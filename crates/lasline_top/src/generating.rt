@@ -3,6 +3,7 @@
 ghost use Rattle.std.specs.Prelude.{◌≡◌, ◌≤◌, Ok, IfErr, OnOk};
 ghost use Rattle.file_devices.specs.Counts.{Rose};
 ghost use Rattle.cloud_gen.specs.GeneratedFile.{generated_file, IsPut};
+ghost use Rattle.plug_stages.specs.Handed.{Handed};
 ghost use Rattle.lasline_top.specs.Words.{Make_file};
 ghost use Rattle.lasline_top.specs.Cause.{IsOfFiles};
 ghost use Rattle.lasline_top.specs.Ends.{WasDone, WasRefused, WasUnmade};
@@ -44,9 +45,9 @@ pub(crate) fn make_file<F: Files, K: Sink>(
     files: &mut F,
     out: &mut K,
 ) -> Result<(), Refusal>
-    ensures ok { OnOk result (WasDone (Ok (Make_file count.points name.now)) (F.map files.old)
-        (F.map files.new) (K.bytes out.old) (K.bytes out.new)) }
-    ensures err { IfErr result (WasRefused (Ok (Make_file count.points name.now))
+    ensures ok { (handed : Handed) → OnOk result (WasDone handed (Ok (Make_file count.points name.now))
+        (F.map files.old) (F.map files.new) (K.bytes out.old) (K.bytes out.new)) }
+    ensures err { (handed : Handed) → IfErr result (WasRefused handed (Ok (Make_file count.points name.now))
         (Rose (F.faults files.old) (F.faults files.new)) (Rose (K.faults out.old) (K.faults out.new))
         (F.map files.old) (F.map files.new) (K.bytes out.old) (K.bytes out.new)) }
     ensures of_files { IfErr result IsOfFiles }

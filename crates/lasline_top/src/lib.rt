@@ -3,6 +3,7 @@
 
 mod count;
 mod generating;
+mod naming;
 mod pages;
 mod pipeline_file;
 mod planning;
@@ -15,8 +16,9 @@ mod texts;
 mod threads;
 mod words;
 
+pub use plug_stages::Plugs;
 pub use program::{AlwaysOpen, run_program};
 pub use run_report::{Fault, Place, Refusal, StageCount, fault_text, report_text};
 pub use solo::{lasline_solo, refused};
 pub use status::Status;
-pub use threads::lasline;
+pub use threads::{lasline, lasline_plugged};

@@ -56,7 +56,7 @@ pub(crate) fn read_text<F: Files>(
 }
 
 /// The refusal for a pipeline.
-fn refusal_of(e: PipeErr) -> Refusal
+pub(crate) fn refusal_of(e: PipeErr) -> Refusal
     ensures { result ≡ refusal_of e }
 {
     match e {

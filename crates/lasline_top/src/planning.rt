@@ -5,6 +5,7 @@ ghost use Rattle.file_devices.specs.Counts.{Rose};
 ghost use Rattle.lasline_top.specs.Words.{Plan_file};
 ghost use Rattle.lasline_top.specs.Cause.{IsOfFiles};
 ghost use Rattle.lasline_top.specs.Ends.{WasDone, WasRefused};
+ghost use Rattle.plug_stages.specs.Handed.{Handed};
 ghost use Rattle.run_engine.specs.ReadAhead.{ReadAtMost};
 
 use crate::pipeline_file::read_plan;
@@ -23,9 +24,9 @@ pub(crate) fn plan_file<F: Files, K: Sink>(
     files: &mut F,
     out: &mut K,
 ) -> Result<(), Refusal>
-    ensures ok { OnOk result (WasDone (Ok (Plan_file name.now)) (F.map files.old) (F.map files.new)
-        (K.bytes out.old) (K.bytes out.new)) }
-    ensures err { IfErr result (WasRefused (Ok (Plan_file name.now))
+    ensures ok { (handed : Handed) → OnOk result (WasDone handed (Ok (Plan_file name.now)) (F.map files.old)
+        (F.map files.new) (K.bytes out.old) (K.bytes out.new)) }
+    ensures err { (handed : Handed) → IfErr result (WasRefused handed (Ok (Plan_file name.now))
         (Rose (F.faults files.old) (F.faults files.new)) (Rose (K.faults out.old) (K.faults out.new))
         (F.map files.old) (F.map files.new) (K.bytes out.old) (K.bytes out.new)) }
     ensures of_files { IfErr result IsOfFiles }

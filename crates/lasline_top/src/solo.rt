@@ -12,6 +12,8 @@ ghost use Rattle.lasline_top.specs.Cause.{ToldWhy};
 ghost use Rattle.lasline_top.specs.Ends.{WasDone, WasRefused};
 ghost use Rattle.lasline_top.specs.Left.{AreTold};
 ghost use Rattle.lasline_top.specs.Reading.{IsReadAhead, IsReadBy};
+ghost use Rattle.lasline_top.specs.Back.{IsHandedBack};
+ghost use Rattle.plug_stages.specs.Handed.{handed_by, none_handed};
 ghost use Rattle.lasline_top.specs.Calls.{HasAnswered, seen};
 
 use crate::generating::make_file;
@@ -22,24 +24,33 @@ use crate::status::Status;
 use crate::words::{Task, stop_for, task_of};
 use file_devices::{Files, Sink};
 use network_solo::{OneThread, Scheduler};
+use plug_stages::{Places, PlugFilter, PlugTally, Plugs};
 use run_report::{Refusal, fault_text};
 use stage_kinds::StageWork;
 use std::alloc::Global;
 
 /// Does a command and prints its report, or its page.
-fn run_command<F: Files, K: Sink, T: Scheduler<StageWork<F::In, F::Out>>>(
+fn run_command<
+    F: Files,
+    K: Sink,
+    P: PlugFilter,
+    Q: PlugTally,
+    T: Scheduler<StageWork<F::In, F::Out, P, Q>>,
+>(
     alloc: Global,
     scheduler: &T,
     words: &[String],
     files: &mut F,
+    places: &mut Places<P, Q>,
     out: &mut K,
 ) -> Result<(), Refusal>
     requires sound { T.sound scheduler.now }
     requires stop { T.stop scheduler.now ≡ stop_for (task_of (map string_bytes words.now)) }
-    ensures ok { OnOk result (WasDone (task_of (map string_bytes words.now)) (F.map files.old)
-        (F.map files.new) (K.bytes out.old) (K.bytes out.new)) }
-    ensures err { IfErr result (WasRefused (task_of (map string_bytes words.now))
-        (Rose (F.faults files.old) (F.faults files.new)) (Rose (K.faults out.old) (K.faults out.new))
+    ensures ok { OnOk result (WasDone (handed_by P.PlugFilter Q.PlugTally places.old)
+        (task_of (map string_bytes words.now)) (F.map files.old) (F.map files.new)
+        (K.bytes out.old) (K.bytes out.new)) }
+    ensures err { IfErr result (WasRefused (handed_by P.PlugFilter Q.PlugTally places.old)
+        (task_of (map string_bytes words.now)) (Rose (F.faults files.old) (F.faults files.new)) (Rose (K.faults out.old) (K.faults out.new))
         (F.map files.old) (F.map files.new) (K.bytes out.old) (K.bytes out.new)) }
     ensures words_first { (refusal : Refusal) → task_of (map string_bytes words.now) ≡ Err refusal
         → result ≡ Err refusal }
@@ -49,6 +60,8 @@ fn run_command<F: Files, K: Sink, T: Scheduler<StageWork<F::In, F::Out>>>(
         → OnOk result (Appends (K.bytes out.old) text (K.bytes out.new)) }
     ensures page_part { (text : List ℕ) → task_of (map string_bytes words.now) ≡ Ok (Print text)
         → OnErr result (AppendsPart (K.bytes out.old) text (K.bytes out.new)) }
+    ensures back { IsHandedBack P.PlugFilter Q.PlugTally (task_of (map string_bytes words.now))
+        (F.map files.old) (F.map files.new) places.old places.new }
     ensures lent { F.lent files.new ≡ F.lent files.old }
     ensures later { F.faults files.old ≤ F.faults files.new }
     ensures opened { IsReadBy (task_of (map string_bytes words.now)) (F.read_to files.old)
@@ -58,10 +71,14 @@ fn run_command<F: Files, K: Sink, T: Scheduler<StageWork<F::In, F::Out>>>(
         → IsReadAhead (task_of (map string_bytes words.now)) m (F.read_to files.old) (F.read_to files.new) refusal) }
 {
     match task_of(words)? {
-        Task::Run { file, engine } => run_file(alloc, file, engine, scheduler, files, out),
+        Task::Run { file, engine } => {
+            run_file(alloc, file, engine, scheduler, files, places, out)
+        }
         Task::Plan { file } => plan_file(alloc, file, files, out),
         Task::Generate { count, name } => make_file(alloc, count, name, files, out),
-        Task::Trial { count, engine } => run_trial(alloc, count, engine, scheduler, files, out),
+        Task::Trial { count, engine } => {
+            run_trial(alloc, count, engine, scheduler, files, places, out)
+        }
         Task::Print(page) => print_text(page, out),
     }
 }
@@ -79,28 +96,39 @@ pub fn refused<E: Sink>(refusal: Refusal, err: &mut E) -> Status
 }
 
 /// Does a command, whose stages take turns as the scheduler has it, and says why where it was refused.
-pub(crate) fn do_command<F: Files, K: Sink, E: Sink, T: Scheduler<StageWork<F::In, F::Out>>>(
+pub(crate) fn do_command<
+    F: Files,
+    K: Sink,
+    E: Sink,
+    P: PlugFilter,
+    Q: PlugTally,
+    T: Scheduler<StageWork<F::In, F::Out, P, Q>>,
+>(
     alloc: Global,
     scheduler: &T,
     words: &[String],
     files: &mut F,
+    places: &mut Places<P, Q>,
     out: &mut K,
     err: &mut E,
 ) -> Status
     requires sound { T.sound scheduler.now }
     requires stop { T.stop scheduler.now ≡ stop_for (task_of (map string_bytes words.now)) }
-    ensures answered { HasAnswered (map string_bytes words.now)
+    ensures answered { HasAnswered (handed_by P.PlugFilter Q.PlugTally places.old) (map string_bytes words.now)
         (seen F.Files K.Sink E.Sink files.old out.old err.old)
         (seen F.Files K.Sink E.Sink files.new out.new err.new)
         result }
+    ensures back { IsHandedBack P.PlugFilter Q.PlugTally (task_of (map string_bytes words.now))
+        (F.map files.old) (F.map files.new) places.old places.new }
 {
-    match run_command(alloc, scheduler, words, files, out) {
+    match run_command(alloc, scheduler, words, files, places, out) {
         Ok(()) => Status::Ok,
         Err(refusal) => refused(refusal, err),
     }
 }
 
-/// Does a command on one thread, whatever `--workers` says. It always returns, and waits for nobody.
+/// Does a command on one thread, whatever `--workers` says, with no filter and no tally of a caller. It always returns, and waits for
+/// nobody.
 ///
 /// `words` are the command line without the program's name:
 ///
@@ -131,11 +159,23 @@ pub fn lasline_solo<F: Files, K: Sink, E: Sink>(
     out: &mut K,
     err: &mut E,
 ) -> Status
-    ensures answered { HasAnswered (map string_bytes words.now)
+    ensures answered { HasAnswered none_handed (map string_bytes words.now)
         (seen F.Files K.Sink E.Sink files.old out.old err.old)
         (seen F.Files K.Sink E.Sink files.new out.new err.new)
         result }
 {
     let stop = stop_for(words);
-    do_command(alloc, &OneThread { stop }, words, files, out, err)
+    let mut plugs = Plugs {
+        filters: Vec::new(alloc),
+        tallies: Vec::new(alloc),
+    };
+    do_command(
+        alloc,
+        &OneThread { stop },
+        words,
+        files,
+        &mut plugs,
+        out,
+        err,
+    )
 }

@@ -4,17 +4,21 @@ ghost use Rattle.std.specs.Prelude.{◌≡◌, ◌<◌, ◌≤◌, map, string_b
 ghost use Rattle.network_core.specs.declared.stop.Stop.TheVariants.{Last};
 ghost use Rattle.network_workers.specs.Crews.{HasRun, MayRun};
 ghost use Rattle.stage_runs.specs.Works.{as_works};
+ghost use Rattle.plug_stages.specs.Handed.{handed_by, none_handed};
+ghost use Rattle.lasline_top.specs.Back.{IsHandedBack};
 ghost use Rattle.lasline_top.specs.Calls.{HasAnswered, seen};
 ghost use Rattle.lasline_top.specs.Threads.{are_several};
 ghost use Rattle.lasline_top.specs.Words.{stop_for, task_of};
 
-use crate::solo::{do_command, lasline_solo};
+use crate::solo::do_command;
 use crate::status::Status;
-use crate::words::options_of;
+use crate::words::{options_of, stop_for};
 use command_words::RunOptions;
 use file_devices::{FileSink, Files, Gate, Sink, Source};
 use network_core::{InsList, NodeList};
+use network_solo::OneThread;
 use network_workers::{Crew, WorkerRoom, run_tree_by};
+use plug_stages::{BoxedFilter, BoxedTally, Places, PlugFilter, PlugTally, Plugs};
 use stage_kinds::StageWork;
 use std::alloc::Global;
 use std::sync::Wait;
@@ -29,16 +33,23 @@ fn are_several(options: RunOptions) -> bool
 }
 
 /// Lets the nodes of a run take turns on several threads.
-fn run_nodes<S: Source + Send, O: FileSink + Send, R: Threads + Wait + Sync, G: Gate>(
+fn run_nodes<
+    S: Source + Send,
+    O: FileSink + Send,
+    P: PlugFilter + Send,
+    Q: PlugTally + Send,
+    R: Threads + Wait + Sync,
+    G: Gate,
+>(
     rt: &R,
-    nodes: NodeList<StageWork<S, O>>,
+    nodes: NodeList<StageWork<S, O, P, Q>>,
     ins: InsList,
-    room: WorkerRoom<StageWork<S, O>>,
+    room: WorkerRoom<StageWork<S, O, P, Q>>,
     patience: u64,
     gate: &G,
-) -> NodeList<StageWork<S, O>>
-    requires { MayRun (as_works S.Source O.Sink) nodes ins room }
-    ensures { HasRun (as_works S.Source O.Sink) nodes ins result }
+) -> NodeList<StageWork<S, O, P, Q>>
+    requires { MayRun (as_works S.Source O.Sink P.PlugFilter Q.PlugTally) nodes ins room }
+    ensures { HasRun (as_works S.Source O.Sink P.PlugFilter Q.PlugTally) nodes ins result }
 {
     run_tree_by(rt, nodes, ins, room, patience, gate)
 }
@@ -47,6 +58,8 @@ fn run_nodes<S: Source + Send, O: FileSink + Send, R: Threads + Wait + Sync, G: 
 fn do_by_crew<
     S: Source + Send,
     O: FileSink + Send,
+    P: PlugFilter + Send,
+    Q: PlugTally + Send,
     F: Files<In = S, Out = O>,
     K: Sink,
     E: Sink,
@@ -58,6 +71,7 @@ fn do_by_crew<
     options: RunOptions,
     words: &[String],
     files: &mut F,
+    places: &mut Places<P, Q>,
     out: &mut K,
     err: &mut E,
     gate: &G,
@@ -65,22 +79,64 @@ fn do_by_crew<
     requires some { 0 < options.workers }
     requires most { options.workers ≤ 32 }
     requires last { stop_for (task_of (map string_bytes words.now)) ≡ Last }
-    ensures answered { HasAnswered (map string_bytes words.now)
+    ensures answered { HasAnswered (handed_by P.PlugFilter Q.PlugTally places.old) (map string_bytes words.now)
         (seen F.Files K.Sink E.Sink files.old out.old err.old)
         (seen F.Files K.Sink E.Sink files.new out.new err.new)
         result }
+    ensures back { IsHandedBack P.PlugFilter Q.PlugTally (task_of (map string_bytes words.now))
+        (F.map files.old) (F.map files.new) places.old places.new }
 {
     let patience = options.patience as u64;
     let crew = Crew {
         workers: options.workers,
-        run: |nodes: NodeList<StageWork<S, O>>, ins: InsList, room: WorkerRoom<
-            StageWork<S, O>,
-        >| -> NodeList<StageWork<S, O>>
-            requires { MayRun (as_works S.Source O.Sink) nodes ins room }
-            ensures { HasRun (as_works S.Source O.Sink) nodes ins result }
+        run: |nodes: NodeList<StageWork<S, O, P, Q>>, ins: InsList, room: WorkerRoom<
+            StageWork<S, O, P, Q>,
+        >| -> NodeList<StageWork<S, O, P, Q>>
+            requires { MayRun (as_works S.Source O.Sink P.PlugFilter Q.PlugTally) nodes ins room }
+            ensures { HasRun (as_works S.Source O.Sink P.PlugFilter Q.PlugTally) nodes ins result }
         { run_nodes(rt, nodes, ins, room, patience, gate) },
     };
-    do_command(alloc, &crew, words, files, out, err)
+    do_command(alloc, &crew, words, files, places, out, err)
+}
+
+/// Does a command with filters and tallies of a caller, by as many workers as its words ask for.
+fn do_with<
+    F: Files,
+    K: Sink,
+    E: Sink,
+    P: PlugFilter + Send,
+    Q: PlugTally + Send,
+    R: Threads + Wait + Sync,
+    G: Gate,
+>(
+    rt: &R,
+    alloc: Global,
+    words: &[String],
+    files: &mut F,
+    places: &mut Places<P, Q>,
+    out: &mut K,
+    err: &mut E,
+    gate: &G,
+) -> Status
+where
+    F::In: Send,
+    F::Out: Send,
+    ensures answered { HasAnswered (handed_by P.PlugFilter Q.PlugTally places.old) (map string_bytes words.now)
+        (seen F.Files K.Sink E.Sink files.old out.old err.old)
+        (seen F.Files K.Sink E.Sink files.new out.new err.new)
+        result }
+    ensures back { IsHandedBack P.PlugFilter Q.PlugTally (task_of (map string_bytes words.now))
+        (F.map files.old) (F.map files.new) places.old places.new }
+{
+    match options_of(words) {
+        Some(options) if are_several(options) => {
+            do_by_crew(rt, alloc, options, words, files, places, out, err, gate)
+        }
+        _ => {
+            let stop = stop_for(words);
+            do_command(alloc, &OneThread { stop }, words, files, places, out, err)
+        }
+    }
 }
 
 /// Does a command as `lasline_solo` does. Only where `--workers` of a run or a trial asks for more than one, and neither `--whole` nor
@@ -103,16 +159,45 @@ pub fn lasline<F: Files, K: Sink, E: Sink, R: Threads + Wait + Sync, G: Gate>(
 where
     F::In: Send,
     F::Out: Send,
-    ensures answered { HasAnswered (map string_bytes words.now)
+    ensures answered { HasAnswered none_handed (map string_bytes words.now)
         (seen F.Files K.Sink E.Sink files.old out.old err.old)
         (seen F.Files K.Sink E.Sink files.new out.new err.new)
         result }
 {
-    let Some(options) = options_of(words) else {
-        return lasline_solo(alloc, words, files, out, err);
+    let mut plugs = Plugs {
+        filters: Vec::new(alloc),
+        tallies: Vec::new(alloc),
     };
-    if !are_several(options) {
-        return lasline_solo(alloc, words, files, out, err);
-    }
-    do_by_crew(rt, alloc, options, words, files, out, err, gate)
+    do_with(rt, alloc, words, files, &mut plugs, out, err, gate)
+}
+
+/// Does a command as `lasline` does, with filters and tallies of the caller: a stage `filters.plug` shows its points to the filter that it
+/// names, and a stage `writers.tally` to the tally. Of two with one name the first is meant.
+///
+/// A run or a trial is refused with `PlugUnknown` for the first stage that names one which isn't there, and with `PlugTaken` for the first
+/// that names one which an earlier stage names, behind all other faults of the pipeline's text. At the return each place holds again what
+/// it held, but for what that remembers; and exactly that, where no stage names it.
+pub fn lasline_plugged<F: Files, K: Sink, E: Sink, R: Threads + Wait + Sync, G: Gate>(
+    rt: &R,
+    alloc: Global,
+    words: &[String],
+    files: &mut F,
+    out: &mut K,
+    err: &mut E,
+    gate: &G,
+    plugs: &mut Plugs,
+) -> Status
+where
+    F::In: Send,
+    F::Out: Send,
+    ensures answered { HasAnswered
+        (handed_by ⟦<BoxedFilter as PlugFilter>⟧ ⟦<BoxedTally as PlugTally>⟧ plugs.old)
+        (map string_bytes words.now)
+        (seen F.Files K.Sink E.Sink files.old out.old err.old)
+        (seen F.Files K.Sink E.Sink files.new out.new err.new)
+        result }
+    ensures back { IsHandedBack ⟦<BoxedFilter as PlugFilter>⟧ ⟦<BoxedTally as PlugTally>⟧
+        (task_of (map string_bytes words.now)) (F.map files.old) (F.map files.new) plugs.old plugs.new }
+{
+    do_with(rt, alloc, words, files, plugs, out, err, gate)
 }

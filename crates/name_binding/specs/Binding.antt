@@ -24,12 +24,12 @@ use Rattle.stage_options.specs.Where.{only_of}
 use Rattle.whole_filters.specs.declared.gathering.Gathering.TheVariants.{Sort, Tail, GroupBy, Squares, Voxels}
 use Rattle.whole_filters.specs.declared.gathering.Squares.{Squares as Grid}
 use Rattle.name_binding.specs.declared.binding.BoundStage.{BoundStage}
-use Rattle.name_binding.specs.declared.binding.BoundStage.TheVariants.{Reads, Filters, Gathers, Writes}
+use Rattle.name_binding.specs.declared.binding.BoundStage.TheVariants.{Reads, Filters, Plugs, Gathers, Writes, Tallies}
 use Rattle.name_binding.specs.declared.binding.BoundFilter.{BoundFilter}
 use Rattle.name_binding.specs.declared.binding.BoundFilter.TheVariants as filter
 use Rattle.stage_options.specs.declared.options.Options.{Options}
 use Rattle.stage_options.specs.declared.options.SplitterOptions.{SplitterOptions}
-use Rattle.stage_options.specs.declared.options.Options.TheVariants.{ReadersLas, FiltersRange, FiltersCrop, FiltersAssign, FiltersFerry, FiltersExpression, FiltersDecimation, FiltersHead, FiltersReturns, FiltersSort, FiltersTail, FiltersGroupby, FiltersSplitter, FiltersVoxeldownsize, WritersLas, WritersText}
+use Rattle.stage_options.specs.declared.options.Options.TheVariants.{ReadersLas, FiltersRange, FiltersCrop, FiltersAssign, FiltersFerry, FiltersExpression, FiltersDecimation, FiltersHead, FiltersReturns, FiltersPlug, FiltersSort, FiltersTail, FiltersGroupby, FiltersSplitter, FiltersVoxeldownsize, WritersLas, WritersText, WritersTally}
 
 -- ---- the first name that isn't that of a dimension which points have, or that has to be a number and isn't
 
@@ -130,6 +130,7 @@ squares_of o = record { length = edge_of o.length; x = o.origin_x; y = o.origin_
 -- its format
 abbrev pub bound_with : (Dim → Bool) → List (List ℕ) → List Assignment → Options → BoundStage
 bound_with has names ferries (ReadersLas o) = Reads
+bound_with has names ferries (FiltersPlug o) = Plugs (bound_where names o.only)
 bound_with has names ferries (FiltersSort o) = Gathers (Sort (dim_of names o.dimension) o.down)
 bound_with has names ferries (FiltersTail o) = Gathers (Tail o.count)
 bound_with has names ferries (FiltersGroupby o) = Gathers (GroupBy (dim_of names o.dimension))
@@ -137,6 +138,7 @@ bound_with has names ferries (FiltersSplitter o) = Gathers (Squares (squares_of 
 bound_with has names ferries (FiltersVoxeldownsize o) = Gathers (Voxels (edge_of o.cell))
 bound_with has names ferries (WritersLas o) = Writes (bound_where names o.only) (asked_fields names 0 (asked_in has names o.extra))
 bound_with has names ferries (WritersText o) = Writes (bound_where names o.only) []
+bound_with has names ferries (WritersTally o) = Tallies (bound_where names o.only)
 bound_with has names ferries o = Filters (bound_filter names ferries o) (bound_where names (only_of o))
 
 -- the fields that it writes are laid one right behind another

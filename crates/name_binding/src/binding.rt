@@ -37,12 +37,18 @@ pub enum BoundStage {
     /// It is a filter of the points for which this condition holds; None is all.
     Filters(BoundFilter, Option<Bound>),
 
+    /// It shows its points to a filter that the caller handed in: those for which this condition holds; None is all.
+    Plugs(Option<Bound>),
+
     /// It needs whole views.
     Gathers(Gathering),
 
     /// It writes a file of the points for which this condition holds; None is all. The records of a LAS file hold these extra
     /// dimensions, the first of which begins behind the fields of the format.
     Writes(Option<Bound>, FieldList),
+
+    /// It shows its points to a tally that the caller handed in: those for which this condition holds; None is all.
+    Tallies(Option<Bound>),
 }
 
 /// A filter's options with dimensions in place of names, beside its `where`.
@@ -124,7 +130,7 @@ impl<'a> Binder<'a> {
         }
     }
 
-    /// The condition of the points that a stage with these options judges or writes.
+    /// The condition of the points that a stage with these options judges, writes or shows.
     fn only(&self, options: &Options) -> Result<Option<Bound>, PipeErr>
         ensures ok { IfOk result (λ b. b ≡ bound_where self.now.names.now (only_of options.now)) }
         ensures none { OnOk result (where_refused self.now.stage self.now.names.now
@@ -293,13 +299,15 @@ impl<'a> Binder<'a> {
             Options::FiltersReturns(o) => BoundFilter::Returns(o.groups),
             Options::FiltersMerge(_)
             | Options::ReadersLas(_)
+            | Options::FiltersPlug(_)
             | Options::FiltersSort(_)
             | Options::FiltersTail(_)
             | Options::FiltersGroupby(_)
             | Options::FiltersSplitter(_)
             | Options::FiltersVoxeldownsize(_)
             | Options::WritersLas(_)
-            | Options::WritersText(_) => BoundFilter::Merge,
+            | Options::WritersText(_)
+            | Options::WritersTally(_) => BoundFilter::Merge,
         })
     }
 
@@ -313,32 +321,38 @@ impl<'a> Binder<'a> {
             (own_refused self.now.stage self.now.names.now (holds self.now.layout.now) options.now)) }
         ensures laid { AreOwn self.now.names.now → IfOk result IsLaidStage }
     {
-        Ok(match options {
-            Options::ReadersLas(_) => BoundStage::Reads,
+        match options {
+            Options::ReadersLas(_) => Ok(BoundStage::Reads),
+            Options::FiltersPlug(_) => Ok(BoundStage::Plugs(self.only(options)?)),
             Options::FiltersSort(o) => {
-                BoundStage::Gathers(Gathering::Sort(self.dim(&o.dimension)?, o.down))
+                let dim = self.dim(&o.dimension)?;
+                Ok(BoundStage::Gathers(Gathering::Sort(dim, o.down)))
             }
-            Options::FiltersTail(o) => BoundStage::Gathers(Gathering::Tail(o.count)),
+            Options::FiltersTail(o) => Ok(BoundStage::Gathers(Gathering::Tail(o.count))),
             Options::FiltersGroupby(o) => {
-                BoundStage::Gathers(Gathering::GroupBy(self.dim(&o.dimension)?))
+                let dim = self.dim(&o.dimension)?;
+                Ok(BoundStage::Gathers(Gathering::GroupBy(dim)))
             }
-            Options::FiltersSplitter(o) => BoundStage::Gathers(Gathering::Squares(squares_of(o))),
-            Options::FiltersVoxeldownsize(o) => BoundStage::Gathers(Gathering::Voxels(edge_of(
-                o.cell,
-            ))),
+            Options::FiltersSplitter(o) => {
+                Ok(BoundStage::Gathers(Gathering::Squares(squares_of(o))))
+            }
+            Options::FiltersVoxeldownsize(o) => {
+                Ok(BoundStage::Gathers(Gathering::Voxels(edge_of(o.cell))))
+            }
             Options::WritersLas(o) => {
                 let extra = self.extra(&o.extra)?;
-                BoundStage::Writes(self.only(options)?, extra)
+                Ok(BoundStage::Writes(self.only(options)?, extra))
             }
             Options::WritersText(o) => {
                 self.columns(o.columns.as_slice())?;
-                BoundStage::Writes(self.only(options)?, FieldList::none(self.alloc))
+                Ok(BoundStage::Writes(self.only(options)?, FieldList::none(self.alloc)))
             }
+            Options::WritersTally(_) => Ok(BoundStage::Tallies(self.only(options)?)),
             _ => {
                 let filter = self.filter(options, ferries)?;
-                BoundStage::Filters(filter, self.only(options)?)
+                Ok(BoundStage::Filters(filter, self.only(options)?))
             }
-        })
+        }
     }
 }
 

@@ -10,6 +10,24 @@ use stage_typing::type_tree;
 use std::alloc::{AllocError, Global};
 use std::test::Fail;
 
+/// The options of a writer as words.
+fn shown_writer(alloc: Global, options: &Options) -> Result<String, AllocError> {
+    match options {
+        Options::WritersLas(options) => { format!(in alloc; "write {}", options.filename.as_str()) }
+        Options::WritersText(options) => {
+            format!(in alloc; "write {}", options.filename.as_str())
+        }
+        Options::WritersTally(options) => {
+            format!(in alloc;
+                "tally {} {}",
+                options.tally.as_str(),
+                options.only.is_some()
+            )
+        }
+        _ => String::from_str(alloc, "no writer"),
+    }
+}
+
 /// Options as words.
 fn shown_options(alloc: Global, options: &Options) -> Result<String, AllocError> {
     match options {
@@ -30,6 +48,9 @@ fn shown_options(alloc: Global, options: &Options) -> Result<String, AllocError>
         }
         Options::FiltersHead(options) => format!(in alloc; "head {}", options.count),
         Options::FiltersReturns(_) => String::from_str(alloc, "returns"),
+        Options::FiltersPlug(options) => {
+            format!(in alloc; "plug {} {}", options.plug.as_str(), options.only.is_some())
+        }
         Options::FiltersMerge(_) => String::from_str(alloc, "merge"),
         Options::FiltersSort(options) => {
             format!(in alloc; "sort {} {}", options.dimension.as_str(), options.down)
@@ -45,10 +66,7 @@ fn shown_options(alloc: Global, options: &Options) -> Result<String, AllocError>
             )
         }
         Options::FiltersVoxeldownsize(options) => { format!(in alloc; "voxels {}", options.cell) }
-        Options::WritersLas(options) => { format!(in alloc; "write {}", options.filename.as_str()) }
-        Options::WritersText(options) => {
-            format!(in alloc; "write {}", options.filename.as_str())
-        }
+        _ => shown_writer(alloc, options),
     }
 }
 
@@ -318,6 +336,47 @@ const STAGES: &[(&str, &str)] = &[
         "write o",
     ),
     (r#","b.las","o.txt""#, "write o.txt"),
+    (
+        r#",{"type":"filters.plug","plug":"low","where":"Z > 1"}"#,
+        "plug low true",
+    ),
+    (r#",{"type":"filters.plug","plug":""}"#, "plug  false"),
+    (r#",{"type":"filters.plug","where":1}"#, "missing 1 plug"),
+    (r#",{"type":"filters.plug","plug":1}"#, "wrong 1 plug"),
+    (
+        r#",{"type":"filters.plug","plug":"low","where":"Z"}"#,
+        "wrong 1 where",
+    ),
+    (
+        r#",{"type":"filters.plug","plug":"low","tally":"low"}"#,
+        "unknown 1 tally",
+    ),
+    (
+        r#",{"type":"filters.plug","filename":"o","plug":"low"}"#,
+        "unknown 1 filename",
+    ),
+    (
+        r#",{"type":"writers.tally","tally":"low","where":"Z > 1"}"#,
+        "tally low true",
+    ),
+    (r#",{"type":"writers.tally","tally":""}"#, "tally  false"),
+    (r#",{"type":"writers.tally","where":1}"#, "missing 1 tally"),
+    (
+        r#",{"type":"writers.tally","tally":["low"]}"#,
+        "wrong 1 tally",
+    ),
+    (
+        r#",{"type":"writers.tally","tally":"low","plug":"low"}"#,
+        "unknown 1 plug",
+    ),
+    (
+        r#",{"type":"writers.tally","filename":"o","tally":"low"}"#,
+        "unknown 1 filename",
+    ),
+    (
+        r#",{"type":"filters.plug","plug":"low"},{"type":"writers.tally","tally":"low"},{"type":"writers.tally","tally":"low"}"#,
+        "tally low false",
+    ),
 ];
 
 /// Names of two writers, and the options of the second one or the first fault.
@@ -447,7 +506,8 @@ fn shown_stage(alloc: Global, tree: &Tree, i: usize) -> Result<String, AllocErro
 #[test]
 fn stages_keep_their_types_and_inputs(rt: HostRuntime) -> Result<(), Fail> {
     let alloc = rt.alloc();
-    let text = r#"["a.las",{"type":"filters.head","count":3},{"type":"filters.merge"},"o.txt"]"#;
+    let text =
+        r#"["a.las",{"type":"filters.head","count":3},{"type":"filters.merge"},{"type":"filters.plug","plug":"p"},{"type":"writers.tally","tally":"t"},"o.txt"]"#;
     let Ok(raw) = read_pipeline(alloc, text.as_bytes()) else {
         assert!(rt; false, "no tree");
         return Ok(());
@@ -460,7 +520,9 @@ fn stages_keep_their_types_and_inputs(rt: HostRuntime) -> Result<(), Fail> {
         "readers.las readers.las takes 0 from 0 reads a.las",
         "filters.head filters.head takes 1 from 0 filters ",
         "filters.merge filters.merge takes 1 from 1 filters ",
-        "writers.text writers.text takes 1 from 2 writes o.txt",
+        "filters.plug filters.plug takes 1 from 2 filters ",
+        "writers.tally writers.tally takes 1 from 3 filters ",
+        "writers.text writers.text takes 1 from 4 writes o.txt",
         "no stage",
     ];
     for (i, words) in wanted.iter().enumerate() {

@@ -1,4 +1,5 @@
 pub mod Printable
+pub mod Placing
 pub mod Reached
 pub mod Counting
 pub mod Coming
@@ -12,3 +13,5 @@ pub mod Remembering
 pub mod Stopping
 pub mod PlugStreams
 pub mod TallyStreams
+pub mod Told
+pub mod Out

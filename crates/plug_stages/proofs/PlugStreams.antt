@@ -11,7 +11,7 @@ use Rattle.cloud_points.specs.Queue.{up_to_limit}
 use Rattle.cloud_points.specs.declared.faults.StageFault.{StageFault}
 use Rattle.network_theory.specs.Machine.{made_of, fault_on, state_after}
 use Rattle.stage_meanings.specs.Filters.{reason_of, found, first_from, first_unjudged, before_stop, fault_at, told_stop}
-use Rattle.stage_meanings.specs.Steps.{Steps, unless, given, reached, stopped, steps_meaning}
+use Rattle.stage_meanings.specs.Steps.{Steps, unless, given, reached, steps_meaning}
 use Rattle.stage_meanings.proofs.StepsCut.{steps_keep}
 use Rattle.stage_meanings.proofs.Streams.{within, first-append, Stops, StreamsBy, streams_give, streams_fault}
 use Rattle.stage_meanings.specs.declared.reason.Reason.{Reason}

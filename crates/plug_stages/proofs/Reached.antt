@@ -1,6 +1,5 @@
 -- The six numbers that are remembered are the least and the greatest coordinates.
 use Rattle.std.proofs.Common.{◌≡◌, ℤ, List, [], ◌∷◌, map, refl}
-use Rattle.std.specs.Prelude.{fold}
 use Rattle.cloud_points.specs.declared.point.Point.{Point}
 use Rattle.plug_stages.specs.Extents.{lesser, greater, least, greatest, bounds_text, extent_with, extent_text}
 use Rattle.plug_stages.specs.Tallied.{tallied}

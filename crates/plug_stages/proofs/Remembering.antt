@@ -2,9 +2,9 @@
 use Rattle.std.proofs.Common.{◌≡◌, ℕ, Bool, List, [], ◌∷◌, ◌++◌, map, Option, Some, None, refl, ap, sym, ◌∙◌, append_assoc}
 use Rattle.cloud_points.specs.Events.{first_fault}
 use Rattle.cloud_points.specs.Flows.{Flow, all_of, points}
-use Rattle.cloud_points.specs.Marks.{Mark, At, View_end, End, view_marks, flow_marks}
+use Rattle.cloud_points.specs.Marks.{Mark, At, View_end, End, view_marks}
 use Rattle.cloud_points.specs.Meaning.{Meaning, KeepsCutting}
-use Rattle.network_theory.specs.Machine.{Machine, after_all, at_start, state_after}
+use Rattle.network_theory.specs.Machine.{after_all, at_start, state_after}
 use Rattle.stage_meanings.proofs.Streams.{Stops, StreamsBy, after-points, view-leaves}
 
 pub none_first : {F : Type 0} (a b : Option F) → first_fault a b ≡ None → a ≡ None

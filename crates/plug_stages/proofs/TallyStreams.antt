@@ -1,12 +1,11 @@
 -- A tally's stage gives all views as they are, and the tally is shown all points that pass.
 use Rattle.std.proofs.Common.{◌≡◌, ℕ, ◌+◌, ◌-◌, true, false, cond, List, [], ◌∷◌, ◌++◌, length, take, Option, Some, None, refl, ap, sym, ◌∙◌, arith}
-use Rattle.std.specs.Prelude.{ℤ, Bool, Result, Ok, Err, filter}
-use Rattle.std.specs.List.{cons_option}
+use Rattle.std.specs.Prelude.{ℤ, Bool, Result, Ok, Err}
 use Rattle.std.specs.Option.{option_map}
 use Rattle.std.proofs.lemmas.List.{length-append}
 use Rattle.std.proofs.lemmas.List.Elements.{filter-append}
 use Rattle.std.proofs.lemmas.List.Sums.{fold-append}
-use Rattle.cloud_points.specs.Flows.{Flow, all_of, points, map_views}
+use Rattle.cloud_points.specs.Flows.{Flow, all_of, points}
 use Rattle.cloud_points.specs.Marks.{flow_marks}
 use Rattle.cloud_points.specs.Meaning.{Meaning, KeepsCutting, Nature}
 use Rattle.cloud_points.specs.Queue.{up_to_limit}

@@ -6,5 +6,7 @@ pub mod Extents
 pub mod Classes
 pub mod PlugSteps
 pub mod TallySteps
+pub mod Handed
 pub mod Works
 pub mod Keeps
+pub mod Out

@@ -1,5 +1,5 @@
 -- The stage of a plug, by its steps.
-use Rattle.std.specs.Prelude.{ℕ, ◌+◌, ℤ, Bool, true, false, List, [], length, map, Option, Some, Result, Ok, if◌then◌else◌}
+use Rattle.std.specs.Prelude.{ℕ, ℤ, Bool, true, false, List, Some, Result, Ok, if◌then◌else◌}
 use Rattle.std.specs.Option.{option_map}
 use Rattle.cloud_points.specs.Meaning.{Meaning, Nature}
 use Rattle.cloud_points.specs.Queue.{up_to_limit}

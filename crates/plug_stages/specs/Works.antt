@@ -1,5 +1,5 @@
 -- The works of the stages of plugs and of tallies.
-use Rattle.std.specs.Prelude.{◌≡◌, ℤ, List, [], Some}
+use Rattle.std.specs.Prelude.{◌≡◌}
 use Rattle.cloud_points.specs.Clearing.{cleared}
 use Rattle.cloud_points.specs.Layouts.{holds}
 use Rattle.cloud_points.specs.Meaning.{Meaning, Nature}
@@ -7,6 +7,7 @@ use Rattle.cloud_points.specs.declared.faults.StageFault.{StageFault}
 use Rattle.cloud_points.specs.declared.point.Point.{Point}
 use Rattle.stage_meanings.specs.Conditions.{passes}
 use Rattle.stage_meanings.specs.Steps.{Steps}
+use Rattle.plug_stages.specs.Handed.{filter_nature, tally_nature_at}
 use Rattle.plug_stages.specs.PlugSteps.{plug_stage, plug_steps}
 use Rattle.plug_stages.specs.TallySteps.{tally_stage, tally_steps}
 use Rattle.plug_stages.specs.declared.filter.PlugFilter as filter
@@ -27,7 +28,7 @@ module _ {P : Type 0} (plug : filter.Ghosts P) where
 
   -- whose it is: the plug of a place
   abbrev pub plug_nature : PlugWork P → Nature Point
-  plug_nature w = record { place = w.place; called = plug.called w.plug; opening = plug.opening w.plug; step = plug.step w.plug; text = λ s. [] }
+  plug_nature w = filter_nature plug w.place w.plug
 
   abbrev pub plug_meaning : PlugWork P → Meaning PlugSpot Point StageFault
   plug_meaning w = plug_stage (plug_nature w) (plug.opening w.plug) (plug.step w.plug) (cleared (holds w.layout)) (passes w.only)
@@ -51,13 +52,7 @@ module _ {T : Type 0} (tally : tally_type.Ghosts T) where
   tally_steps_in w = tally_steps (tally.step w.tally) (passes w.only)
 
   abbrev pub tally_nature : TallyWork T → Nature Point
-  tally_nature w = record {
-    place = w.place;
-    called = tally.called w.tally;
-    opening = tally.opening w.tally;
-    step = λ s p. (tally.step w.tally s p, Some p);
-    text = tally.text w.tally;
-  }
+  tally_nature w = tally_nature_at tally w.place w.tally
 
   abbrev pub tally_meaning : TallyWork T → Meaning TallySpot Point StageFault
   tally_meaning w = tally_stage (tally_nature w) (tally.step w.tally) (passes w.only)

@@ -1,6 +1,6 @@
 //! What the stages of plugs and of tallies make of whole flows.
 
-ghost use Rattle.std.specs.Prelude.{◌≡◌, ℕ, ℤ, Bool, List, [], length, map, filter, None, Result};
+ghost use Rattle.std.specs.Prelude.{◌≡◌, ℕ, ℤ, Bool, List, [], length, map, filter, None, Some, Result};
 ghost use Rattle.std.specs.Option.{option_map};
 ghost use Rattle.cloud_points.specs.declared.point.Point.{Point};
 ghost use Rattle.cloud_points.specs.Flows.{Flow, map_views, points};
@@ -9,7 +9,7 @@ ghost use Rattle.cloud_points.specs.Meaning.{KeepsCutting, Nature};
 ghost use Rattle.network_theory.specs.Machine.{made_of, fault_on, state_after};
 ghost use Rattle.stage_meanings.specs.Filters.{before_stop, first_unjudged, told_stop};
 ghost use Rattle.stage_meanings.specs.declared.reason.Reason.{Reason};
-ghost use Rattle.plug_stages.specs.Folds.{Step, plug_fold, state_past, step_where};
+ghost use Rattle.plug_stages.specs.Folds.{Step, plug_fold, state_behind, state_past, step_where};
 ghost use Rattle.plug_stages.specs.PlugSteps.{all_pass, plug_spot_at, plug_stage};
 ghost use Rattle.plug_stages.specs.Tallied.{tallied};
 ghost use Rattle.plug_stages.specs.TallySteps.{passing, tally_spot_at, tally_stage};
@@ -40,7 +40,8 @@ pub fn plugs_fold()
 
 /// The stage of a tally does the same however its points are cut into chunks. A node of it gives its flow as it is, up to the
 /// first point, counted over all views, at which the `where` has no value; that is its only fault. Where there is none, the
-/// tally was shown all points that pass, over all views in order, and remembers what they came to.
+/// tally was shown all points that pass, over all views in order, and remembers what they came to. That is what a step that
+/// lets each point go on remembers behind them.
 pub fn tallies_count()
     ensures cuts { (nature : Nature Point) (step : List ℤ → Point → List ℤ) (only : Point → Result Bool Reason)
         → KeepsCutting (tally_stage nature step only) }
@@ -58,4 +59,6 @@ pub fn tallies_count()
         → state_after (tally_stage nature step only) (tally_spot_at 0 0 s) f
         ≡ tally_spot_at (length (points f)) (length (passing only (points f)))
         (tallied step s (passing only (points f))) }
+    ensures same { (step : List ℤ → Point → List ℤ) (s : List ℤ) (points : List Point)
+        → state_behind (λ t p. (step t p, Some p)) s points ≡ tallied step s points }
 {}

@@ -24,9 +24,10 @@ pub trait PlugTally: Drop {
     /// What it says in the end of what it remembers. No call changes it.
     ghost text: { Self → List ℤ → List ℕ };
 
-    /// What it is called.
+    /// What it is called: at most 64 bytes.
     fn name(&self) -> &str
-        ensures { result.now ≡ called self.now };
+        ensures name { result.now ≡ called self.now }
+        ensures short { length (called self.now) ≤ 64 };
 
     /// Begins.
     fn begin(&mut self)

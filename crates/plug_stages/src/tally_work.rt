@@ -59,6 +59,14 @@ impl<T: PlugTally> TallyWork<T> {
         (tally, place)
     }
 
+    /// What the tally is called: at most 64 bytes.
+    pub fn name(&self) -> &str
+        ensures name { result.now ≡ T.called self.now.tally }
+        ensures short { length (T.called self.now.tally) ≤ 64 }
+    {
+        self.tally.name()
+    }
+
     /// How many points the tally was shown, up to the greatest u64.
     pub fn shown(&self) -> u64
         ensures { result ≡ self.now.shown }

@@ -5,3 +5,4 @@ pub mod Filing
 pub mod Taking
 pub mod Written
 pub mod Taken
+pub mod Placed

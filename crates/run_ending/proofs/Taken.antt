@@ -9,7 +9,9 @@ use Rattle.held_devices.proofs.Lists.{some_at}
 use Rattle.stage_forms.specs.Later.{AreLater}
 use Rattle.stage_forms.specs.Starts.{HaveDevices, op_for}
 use Rattle.stage_kinds.specs.declared.stage_work.StageWork.{StageWork}
-use Rattle.stage_kinds.specs.declared.stage_work.StageWork.TheVariants.{Reader, Filter, Collector, Views, ViewFiles, Writer}
+use Rattle.stage_kinds.specs.declared.stage_work.StageWork.TheVariants.{Reader, Filter, Plug, Tally, Collector, Views, ViewFiles, Writer}
+use Rattle.plug_stages.specs.declared.filter.PlugFilter as plug_type
+use Rattle.plug_stages.specs.declared.tally.PlugTally as tally_type
 use Rattle.stage_kinds.specs.Held.{op_of}
 use Rattle.stage_kinds.specs.Stages.{keeps_of}
 use Rattle.stage_options.specs.Roles.{Role, Reads, Filters, Gathers, Writes, WritesEach}
@@ -25,7 +27,7 @@ on-ok-more (Ok r) p f = f p
 on-ok-more (Err e) p f = tt
 
 -- works that hold the same devices later hold as many
-held-same : {S K : Type 0} (xs ys : List (StageWork S K)) → length ys ≡ length xs → ((i : ℕ) (v w : StageWork S K) → slice_get xs i ≡ Some v → slice_get ys i ≡ Some w → op_of w ≡ op_of v) → all_held ys ≡ all_held xs
+held-same : {S K P Q : Type 0} (xs ys : List (StageWork S K P Q)) → length ys ≡ length xs → ((i : ℕ) (v w : StageWork S K P Q) → slice_get xs i ≡ Some v → slice_get ys i ≡ Some w → op_of w ≡ op_of v) → all_held ys ≡ all_held xs
 held-same [] [] e same = refl
 held-same [] (y ∷ ys) e same = absurd (omega (arith, e))
 held-same (x ∷ xs) [] e same = absurd (omega (arith, e))
@@ -36,14 +38,16 @@ held-same (x ∷ xs) (y ∷ ys) e same =
     let d = held-same xs ys (omega (arith, e)) (λ i. same (suc i)) in
     omega (arith, a, b, c, d)
 
-pub same-held : {S K : Type 0} (faults : StageWork S K → ℕ) (old new : List (StageWork S K)) → AreLater faults old new → all_held new ≡ all_held old
-same-held faults old new later = held-same old new later.count later.op
+pub same-held : {S K P Q : Type 0} (fs : plug_type.Ghosts P) (ts : tally_type.Ghosts Q) (faults : StageWork S K P Q → ℕ) (old new : List (StageWork S K P Q)) → AreLater fs ts faults old new → all_held new ≡ all_held old
+same-held fs ts faults old new later = held-same old new later.count later.op
 
 -- it keeps no views, or its stage writes no single file
-not-both : {S K : Type 0} (w : StageWork S K) (role : Role) → op_of w ≡ op_for role
-    → (keeps_of w ≡ None) ⊎ ((bytes : K → Option (List ℕ)) (m : Option Names) (v : StageWork S K) → kept_one bytes m role v ≡ m)
+not-both : {S K P Q : Type 0} (w : StageWork S K P Q) (role : Role) → op_of w ≡ op_for role
+    → (keeps_of w ≡ None) ⊎ ((bytes : K → Option (List ℕ)) (m : Option Names) (v : StageWork S K P Q) → kept_one bytes m role v ≡ m)
 not-both (Reader r) role e = inl refl
 not-both (Filter f) role e = inl refl
+not-both (Plug v) role e = inl refl
+not-both (Tally v) role e = inl refl
 not-both (Collector c) role e = inl refl
 not-both (Views h) role e = inl refl
 not-both (Writer v) role e = inl refl
@@ -53,9 +57,9 @@ not-both (ViewFiles t) Gathers e = inr (λ bytes m v. refl)
 not-both (ViewFiles t) (WritesEach name) e = inr (λ bytes m v. refl)
 not-both (ViewFiles t) (Writes name) e = absurd (none-some Write e)
 
-module _ {S K : Type 0} (faults : StageWork S K → ℕ) (stages : List StageSpec) (old new : List (StageWork S K)) (later : AreLater faults old new)
-    (others : (i : ℕ) (w : StageWork S K) → slice_get old i ≡ Some w → keeps_of w ≡ None → slice_get new i ≡ Some w) (fit : HaveDevices stages old) where
-  before : (i : ℕ) (w : StageWork S K) → slice_get new i ≡ Some w → (v : StageWork S K) × (slice_get old i ≡ Some v)
+module _ {S K P Q : Type 0} (fs : plug_type.Ghosts P) (ts : tally_type.Ghosts Q) (faults : StageWork S K P Q → ℕ) (stages : List StageSpec) (old new : List (StageWork S K P Q)) (later : AreLater fs ts faults old new)
+    (others : (i : ℕ) (w : StageWork S K P Q) → slice_get old i ≡ Some w → keeps_of w ≡ None → slice_get new i ≡ Some w) (fit : HaveDevices stages old) where
+  before : (i : ℕ) (w : StageWork S K P Q) → slice_get new i ≡ Some w → (v : StageWork S K P Q) × (slice_get old i ≡ Some v)
   before i w e = some_at old i (let a = slice_get_within new i w e in let b = later.count in omega (arith, a, b))
 
   pub fit-later : HaveDevices stages new
@@ -65,7 +69,7 @@ module _ {S K : Type 0} (faults : StageWork S K → ℕ) (stages : List StageSpe
     same-if : (i : ℕ) (m : Option Names) → kept_if bytes m (role_at stages i) (slice_get new i) ≡ kept_if bytes m (role_at stages i) (slice_get old i)
     same-if i m = go (slice_get new i) (slice_get old i) refl refl
       where
-        go : (x y : Option (StageWork S K)) → slice_get new i ≡ x → slice_get old i ≡ y → kept_if bytes m (role_at stages i) x ≡ kept_if bytes m (role_at stages i) y
+        go : (x y : Option (StageWork S K P Q)) → slice_get new i ≡ x → slice_get old i ≡ y → kept_if bytes m (role_at stages i) x ≡ kept_if bytes m (role_at stages i) y
         go None None e f = refl
         go None (Some v) e f = absurd (none-some _ (sym e ∙ (some_at new i (let a = slice_get_within old i v f in let b = later.count in omega (arith, a, b))).1))
         go (Some w) None e f = absurd (none-some _ (sym f ∙ (before i w e).1))

@@ -16,11 +16,11 @@ nothing-shown : (o : Option ViewFiles) → option_map shown_files o ≡ None →
 nothing-shown None e = refl
 nothing-shown (Some t) e = absurd (none-some _ (sym e))
 
-module _ {S K : Type 0} (old now : List (StageWork S K)) (i : ℕ) (v w : StageWork S K) (was : slice_get old i ≡ Some v) (here : slice_get now i ≡ Some v)
+module _ {S K P Q : Type 0} (old now : List (StageWork S K P Q)) (i : ℕ) (v w : StageWork S K P Q) (was : slice_get old i ≡ Some v) (here : slice_get now i ≡ Some v)
     (o : Option ViewFiles) (kept : option_map shown_files o ≡ keeps_of v) (same : o ≡ None → w ≡ v) where
   -- a work that keeps nothing stays
-  pub others-more : ((k : ℕ) (x : StageWork S K) → slice_get old k ≡ Some x → keeps_of x ≡ None → slice_get now k ≡ Some x)
-      → (k : ℕ) (x : StageWork S K) → slice_get old k ≡ Some x → keeps_of x ≡ None → slice_get (slice_set now i w) k ≡ Some x
+  pub others-more : ((k : ℕ) (x : StageWork S K P Q) → slice_get old k ≡ Some x → keeps_of x ≡ None → slice_get now k ≡ Some x)
+      → (k : ℕ) (x : StageWork S K P Q) → slice_get old k ≡ Some x → keeps_of x ≡ None → slice_get (slice_set now i w) k ≡ Some x
   others-more before k x e none = elim (eqb_tells k i) [
     | inl p ↦ (
         let is : v ≡ x = same_Some v x (sym was ∙ ap (slice_get old) (sym p.1) ∙ e) in
@@ -29,7 +29,7 @@ module _ {S K : Type 0} (old now : List (StageWork S K)) (i : ℕ) (v w : StageW
     | inr p ↦ slice_get-set_other now i k w p.1 ∙ before k x e none
   ]
 
-module _ {S K : Type 0} (works : List (StageWork S K)) (i : ℕ) (w : StageWork S K) (at : slice_get works i ≡ Some w) (each : List EachStage)
+module _ {S K P Q : Type 0} (works : List (StageWork S K P Q)) (i : ℕ) (w : StageWork S K P Q) (at : slice_get works i ≡ Some w) (each : List EachStage)
     (before : map shown_each each ++ kept_from i (drop i works) ≡ kept_from 0 works) where
   step : (o : Option ViewFiles) → option_map shown_files o ≡ keeps_of w → map shown_each each ++ (kept_at i (option_map shown_files o) ++ kept_from (i + 1) (drop (i + 1) works)) ≡ kept_from 0 works
   step o kept = ap (λ ks. map shown_each each ++ (kept_at i ks ++ kept_from (i + 1) (drop (i + 1) works))) kept ∙ ap (λ ws. map shown_each each ++ kept_from i ws) (sym (drop-at works i w at)) ∙ before
@@ -47,7 +47,7 @@ module _ {S K : Type 0} (works : List (StageWork S K)) (i : ℕ) (w : StageWork 
       ∙ step (Some e.files) (ap (option_map shown_files) (sym some) ∙ kept)
 
 -- those of all works were taken
-pub all-taken : {S K : Type 0} (works : List (StageWork S K)) (i : ℕ) (each : List EachStage) → i ≡ length works → map shown_each each ++ kept_from i (drop i works) ≡ kept_from 0 works → map shown_each each ≡ kept_from 0 works
+pub all-taken : {S K P Q : Type 0} (works : List (StageWork S K P Q)) (i : ℕ) (each : List EachStage) → i ≡ length works → map shown_each each ++ kept_from i (drop i works) ≡ kept_from 0 works → map shown_each each ≡ kept_from 0 works
 all-taken works i each all kept = sym (append-nil (map shown_each each)) ∙ ap (λ ws. map shown_each each ++ kept_from i ws) (sym (ap (λ n. drop n works) all ∙ past works)) ∙ kept
   where
     past : {A : Type 0} (xs : List A) → drop (length xs) xs ≡ []

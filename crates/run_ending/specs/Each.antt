@@ -63,7 +63,7 @@ kept_at i None = []
 kept_at i (Some k) = (i, k) ∷ []
 
 -- by the works from number i on
-abbrev pub kept_from : {S K : Type 0} → ℕ → List (StageWork S K) → List Kept
+abbrev pub kept_from : {S K P Q : Type 0} → ℕ → List (StageWork S K P Q) → List Kept
 kept_from i [] = []
 kept_from i (w ∷ ws) = kept_at i (keeps_of w) ++ kept_from (i + 1) ws
 

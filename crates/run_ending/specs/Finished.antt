@@ -14,26 +14,26 @@ use Rattle.run_report.specs.declared.refusal.Refusal.TheVariants as of
 use Rattle.stage_kinds.specs.Stages.{HoldsAll, keeps_of, writing_of}
 
 -- a writer that held points tells the whole file of those that it chose, once it is finished
-abbrev pub IsFinished : {S K : Type 0} → (K → Option (List ℕ)) → StageWork S K → StageWork S K → Type 0
+abbrev pub IsFinished : {S K P Q : Type 0} → (K → Option (List ℕ)) → StageWork S K P Q → StageWork S K P Q → Type 0
 IsFinished bytes v w = (x : Writing) (ps : List Point) → HoldsAll bytes x ps v → IsAsTold (told_by bytes w) (Some (file_bytes x.form (chosen x.only ps)))
 
-abbrev pub AreFinished : {S K : Type 0} → (K → Option (List ℕ)) → List (StageWork S K) → List (StageWork S K) → Type 0
-AreFinished {S} {K} bytes old new = (i : ℕ) (v w : StageWork S K) → slice_get old i ≡ Some v → slice_get new i ≡ Some w → IsFinished bytes v w
+abbrev pub AreFinished : {S K P Q : Type 0} → (K → Option (List ℕ)) → List (StageWork S K P Q) → List (StageWork S K P Q) → Type 0
+AreFinished {S} {K} {P} {Q} bytes old new = (i : ℕ) (v w : StageWork S K P Q) → slice_get old i ≡ Some v → slice_get new i ≡ Some w → IsFinished bytes v w
 
 -- and what works keep of views, they still keep
-abbrev pub AreKept : {S K : Type 0} → List (StageWork S K) → List (StageWork S K) → Type 0
-AreKept {S} {K} old new = (i : ℕ) (v w : StageWork S K) → slice_get old i ≡ Some v → slice_get new i ≡ Some w → keeps_of w ≡ keeps_of v
+abbrev pub AreKept : {S K P Q : Type 0} → List (StageWork S K P Q) → List (StageWork S K P Q) → Type 0
+AreKept {S} {K} {P} {Q} old new = (i : ℕ) (v w : StageWork S K P Q) → slice_get old i ≡ Some v → slice_get new i ≡ Some w → keeps_of w ≡ keeps_of v
 
 -- the device of a writer failed in this as its file was finished
-pub record UnfinishedAt {S K : Type 0} (faults : StageWork S K → ℕ) (old new : List (StageWork S K)) (i : ℕ) (o : Op) : Type 0 where
-  pub before : StageWork S K
-  pub after : StageWork S K
+pub record UnfinishedAt {S K P Q : Type 0} (faults : StageWork S K P Q → ℕ) (old new : List (StageWork S K P Q)) (i : ℕ) (o : Op) : Type 0 where
+  pub before : StageWork S K P Q
+  pub after : StageWork S K P Q
   pub was : slice_get old i ≡ Some before
   pub is : slice_get new i ≡ Some after
   pub named : option_map (λ (x : Writing). finishing_op x.form) (writing_of before) ≡ Some o
   pub rose : Rose (faults before) (faults after)
 
 -- a writer couldn't finish, since its device failed
-abbrev pub IsUnfinished : {S K : Type 0} → (StageWork S K → ℕ) → List (StageWork S K) → List (StageWork S K) → Refusal → Type 0
+abbrev pub IsUnfinished : {S K P Q : Type 0} → (StageWork S K P Q → ℕ) → List (StageWork S K P Q) → List (StageWork S K P Q) → Refusal → Type 0
 IsUnfinished faults old new (of.Device (at.Stage i) o) = UnfinishedAt faults old new i o
 IsUnfinished faults old new refusal = ⊥

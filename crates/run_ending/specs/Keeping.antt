@@ -12,23 +12,23 @@ use Rattle.run_report.specs.declared.refusal.Refusal.{Refusal}
 use Rattle.run_report.specs.declared.refusal.Refusal.TheVariants.{Memory, Device}
 use Rattle.answer_model.specs.Values.{role_at}
 
-module _ {S K : Type 0} (bytes : K → Option (List ℕ)) where
+module _ {S K P Q : Type 0} (bytes : K → Option (List ℕ)) where
   -- the map after the file of a stage that does this is kept, if it writes one
-  abbrev pub kept_one : Option Names → Role → StageWork S K → Option Names
+  abbrev pub kept_one : Option Names → Role → StageWork S K P Q → Option Names
   kept_one old (Writes name) w = kept old name (told_by bytes w)
   kept_one old _ w = old
 
-  abbrev pub kept_if : Option Names → Role → Option (StageWork S K) → Option Names
+  abbrev pub kept_if : Option Names → Role → Option (StageWork S K P Q) → Option Names
   kept_if old role None = old
   kept_if old role (Some w) = kept_one old role w
 
   -- the map after the files of the first so many stages are kept, in their order
-  abbrev pub kept_first : ℕ → Option Names → List StageSpec → List (StageWork S K) → Option Names
+  abbrev pub kept_first : ℕ → Option Names → List StageSpec → List (StageWork S K P Q) → Option Names
   kept_first zero old stages works = old
   kept_first (suc i) old stages works = kept_if (kept_first i old stages works) (role_at stages i) (slice_get works i)
 
   -- the file of a stage wasn't kept: memory was wanting or its device failed, and those before it are kept, and it is or isn't
-  pub record BrokeOff (rose : Type 0) (old new : Option Names) (stages : List StageSpec) (works : List (StageWork S K)) (refusal : Refusal) : Type 0 where
+  pub record BrokeOff (rose : Type 0) (old new : Option Names) (stages : List StageSpec) (works : List (StageWork S K P Q)) (refusal : Refusal) : Type 0 where
     pub stage : ℕ
     pub inside : stage < length works
     pub writes : is_writing (role_at stages stage) ≡ true

@@ -6,22 +6,25 @@ ghost use Rattle.stage_forms.specs.Later.{AreLater};
 ghost use Rattle.run_ending.specs.Finished.{AreFinished, AreKept, IsUnfinished};
 
 use file_devices::{FileSink, Source};
+use plug_stages::{PlugFilter, PlugTally};
 use run_report::{Place, Refusal};
 use stage_kinds::StageWork;
 
 /// The works of a run, and what a step of it came to.
-pub struct Ran<S, K: FileSink, T> {
+pub struct Ran<S, K: FileSink, P: PlugFilter, Q: PlugTally, T> {
     /// The works, in the order of the stages.
-    pub works: Vec<StageWork<S, K>>,
+    pub works: Vec<StageWork<S, K, P, Q>>,
 
     /// What the step came to.
     pub outcome: T,
 }
 
 /// Has each writer finish its file, in the order of the stages. The first one whose device fails is told.
-pub fn finish<S: Source, K: FileSink>(works: Vec<StageWork<S, K>>) -> Ran<S, K, Result<(), Refusal>>
+pub fn finish<S: Source, K: FileSink, P: PlugFilter, Q: PlugTally>(
+    works: Vec<StageWork<S, K, P, Q>>,
+) -> Ran<S, K, P, Q, Result<(), Refusal>>
     requires few { length works.items ≤ 64 }
-    ensures later { AreLater (faults_of S.faults K.faults) works.items result.works.items }
+    ensures later { AreLater P.PlugFilter Q.PlugTally (faults_of S.faults K.faults) works.items result.works.items }
     ensures kept { AreKept works.items result.works.items }
     ensures finished { OnOk result.outcome (AreFinished K.bytes works.items result.works.items) }
     ensures err { IfErr result.outcome

@@ -1,23 +1,29 @@
 //! The files of a run are kept.
 
-ghost use Rattle.std.specs.Prelude.{◌≡◌, ◌≤◌, ◌+◌, ℕ, length, OnOk, IfErr};
+ghost use Rattle.std.specs.Prelude.{◌≡◌, ◌≤◌, ◌+◌, ℕ, Bool, List, [], Option, length, OnOk, IfErr};
 ghost use Rattle.file_devices.specs.Counts.{Rose};
-ghost use Rattle.stage_kinds.specs.Held.{op_of};
+ghost use Rattle.plug_stages.specs.Handed.{filter_nature, tally_nature_at};
+ghost use Rattle.plug_stages.specs.Out.{AreOut};
+ghost use Rattle.stage_kinds.specs.Held.{held_by, op_of};
 ghost use Rattle.stage_options.specs.Roles.{role_of};
 ghost use Rattle.stage_forms.specs.Starts.{op_for, HaveDevices};
+ghost use Rattle.held_devices.specs.Handing.{FiltersOut, TalliesOut, with_filter, with_tally};
 ghost use Rattle.held_devices.specs.Holding.{there, all_held};
 ghost use Rattle.run_ending.specs.Keeping.{kept_one, kept_first, NotKept, BrokeOff};
 
 use file_devices::{DeviceErr, Files, Op};
 use held_devices::release_works;
+use plug_stages::{Places, PlugFilter, PlugTally, put_back};
 use run_report::{Place, Refusal};
 use stage_kinds::{Held, StageWork};
 use stage_options::{Role, StageSpec};
 
-/// Keeps the file of a stage under its name, if it writes one; any other is given back.
-fn keep_work<F: Files>(
+/// Keeps the file of a stage under its name, if it writes one; any other is given back, and a filter or a tally is put back into its
+/// place.
+fn keep_work<F: Files, P: PlugFilter, Q: PlugTally>(
     files: &mut F,
-    work: StageWork<F::In, F::Out>,
+    places: &mut Places<P, Q>,
+    work: StageWork<F::In, F::Out, P, Q>,
     stage: &StageSpec,
     number: u32,
 ) -> Result<(), Refusal>
@@ -29,6 +35,8 @@ fn keep_work<F: Files>(
         (kept_one F.Out.bytes (F.map files.old) (role_of stage.now.options) work)) }
     ensures lent { (others : ℕ) → F.lent files.old ≡ others + there (op_of work) → F.lent files.new ≡ others }
     ensures later { F.faults files.old ≤ F.faults files.new }
+    ensures filters { places.new.filters.items ≡ with_filter (held_by work) places.old.filters.items }
+    ensures tallies { places.new.tallies.items ≡ with_tally (held_by work) places.old.tallies.items }
 {
     match (stage.options.role(), work.release()) {
         (Role::Writes(name), Held::Sink(sink)) => match files.keep(name, sink) {
@@ -44,15 +52,24 @@ fn keep_work<F: Files>(
             files.done_in(source);
             Ok(())
         }
+        (_, Held::Filter(plug, at)) => {
+            put_back(&mut places.filters, at, plug);
+            Ok(())
+        }
+        (_, Held::Tally(tally, at)) => {
+            put_back(&mut places.tallies, at, tally);
+            Ok(())
+        }
         (_, Held::Nothing) => Ok(()),
     }
 }
 
 /// Keeps the files of a run's writers under their names, in the order of the stages; the first one that can't be kept is the
-/// last one that is tried. All that the works hold is given back.
-pub(crate) fn keep_works<F: Files>(
+/// last one that is tried. All that the works hold is given back, and put back where it is the caller's.
+pub(crate) fn keep_works<F: Files, P: PlugFilter, Q: PlugTally>(
     files: &mut F,
-    works: Vec<StageWork<F::In, F::Out>>,
+    places: &mut Places<P, Q>,
+    works: Vec<StageWork<F::In, F::Out, P, Q>>,
     stages: &[StageSpec],
 ) -> Result<(), Refusal>
     requires fit { HaveDevices stages.now works.items }
@@ -65,15 +82,21 @@ pub(crate) fn keep_works<F: Files>(
     ensures lent { (others : ℕ) → F.lent files.old ≡ others + all_held works.items
         → F.lent files.new ≡ others }
     ensures later { F.faults files.old ≤ F.faults files.new }
+    ensures filters { (used : ℕ → Bool) (before : List (Option P))
+        → FiltersOut P.PlugFilter used works.items before places.old.filters.items
+        → AreOut (filter_nature P.PlugFilter) used [] before places.new.filters.items }
+    ensures tallies { (used : ℕ → Bool) (before : List (Option Q))
+        → TalliesOut Q.PlugTally used works.items before places.old.tallies.items
+        → AreOut (tally_nature_at Q.PlugTally) used [] before places.new.tallies.items }
 {
     let mut works = works;
     works.reverse();
     let mut at = 0;
     while let Some(work) = works.pop() {
-        match keep_work(files, work, &stages[at], at as u32) {
+        match keep_work(files, places, work, &stages[at], at as u32) {
             Ok(()) => {}
             Err(refusal) => {
-                release_works(files, works);
+                release_works(files, places, works);
                 return Err(refusal);
             }
         }

@@ -3,7 +3,7 @@
 ghost use Rattle.std.specs.Prelude.{◌≡◌, ◌≤◌, ◌∷◌, [], ℕ, None, Some, true, length, map, option_map, slice_get, IfErr, IfOk, OnOk};
 ghost use Rattle.file_devices.specs.Counts.{Rose};
 ghost use Rattle.stage_kinds.specs.Files.{IsFileForm, unwritten as unplaced};
-ghost use Rattle.stage_kinds.specs.Held.{faults_of, op_of};
+ghost use Rattle.stage_kinds.specs.Held.{HoldsSame, faults_of, op_of};
 ghost use Rattle.stage_kinds.specs.Stages.{keeps_of, stops_nowhere};
 ghost use Rattle.stage_kinds.specs.declared.stage_work.StageWork as work_type;
 ghost use Rattle.stage_meanings.specs.Conditions.{passes};
@@ -14,6 +14,7 @@ ghost use Rattle.run_outcome.specs.Cause.{WerePut};
 ghost use Rattle.run_ending.specs.Each.{AreInside, BrokeOffAt, Stops, all_files, each_files, file_of, files_from, kept_from, shown_each, shown_files, undone, unwritten};
 
 use file_devices::{DeviceErr, FileSink, Files, Op, Source};
+use plug_stages::{PlugFilter, PlugTally};
 use run_report::{Place, Refusal};
 use stage_kinds::{StageWork, ViewErr, ViewFiles, Writing, write_view};
 use stage_options::{Role, StageSpec, numbered};
@@ -30,11 +31,14 @@ pub(crate) struct EachStage {
 }
 
 /// Takes the views out of a work that keeps them for their files; in its place stays a work without a device. Any other work stays.
-fn take_files<S: Source, K: FileSink>(work: &mut StageWork<S, K>) -> Option<ViewFiles>
+fn take_files<S: Source, K: FileSink, P: PlugFilter, Q: PlugTally>(
+    work: &mut StageWork<S, K, P, Q>,
+) -> Option<ViewFiles>
     ensures kept { option_map shown_files result ≡ keeps_of work.old }
     ensures same { result ≡ None → work.new ≡ work.old }
     ensures op { op_of work.new ≡ op_of work.old }
     ensures faults { faults_of S.faults K.faults work.new ≡ faults_of S.faults K.faults work.old }
+    ensures holds { HoldsSame P.PlugFilter Q.PlugTally work.old work.new }
 {
     if !work.keeps_views() {
         return None;
@@ -47,16 +51,16 @@ fn take_files<S: Source, K: FileSink>(work: &mut StageWork<S, K>) -> Option<View
 
 /// Takes the views out of all works that keep them for their files. Refuses only where memory is wanting, which is taken only where there
 /// are such works.
-pub(crate) fn take_each<S: Source, K: FileSink>(
+pub(crate) fn take_each<S: Source, K: FileSink, P: PlugFilter, Q: PlugTally>(
     alloc: Global,
-    works: &mut Vec<StageWork<S, K>>,
+    works: &mut Vec<StageWork<S, K, P, Q>>,
 ) -> Result<Vec<EachStage>, AllocError>
     requires few { length works.old.items ≤ 64 }
     ensures kept { IfOk result (λ each. map shown_each each.items ≡ kept_from 0 works.old.items) }
     ensures inside { IfOk result (λ each. AreInside (length works.old.items) each.items) }
-    ensures others { (i : ℕ) (w : work_type.StageWork S K) → slice_get works.old.items i ≡ Some w
+    ensures others { (i : ℕ) (w : work_type.StageWork S K P Q) → slice_get works.old.items i ≡ Some w
         → keeps_of w ≡ None → slice_get works.new.items i ≡ Some w }
-    ensures later { AreLater (faults_of S.faults K.faults) works.old.items works.new.items }
+    ensures later { AreLater P.PlugFilter Q.PlugTally (faults_of S.faults K.faults) works.old.items works.new.items }
 {
     let mut each = Vec::new(alloc);
     for i in 0..works.len() {

@@ -28,7 +28,7 @@ use Rattle.run_report.specs.declared.refusal.Refusal.{Refusal}
 use Rattle.run_report.specs.declared.refusal.Refusal.TheVariants.{Data}
 use Rattle.stage_kinds.specs.Leads.{begins_at, number_of, reached_of}
 use Rattle.stage_kinds.specs.declared.stage_work.StageWork.{StageWork}
-use Rattle.stage_kinds.specs.declared.stage_work.StageWork.TheVariants.{Reader, Filter, Collector, Views, ViewFiles, Writer}
+use Rattle.stage_kinds.specs.declared.stage_work.StageWork.TheVariants.{Reader, Filter, Plug, Tally, Collector, Views, ViewFiles, Writer}
 use Rattle.stage_options.specs.Roles.{is_writing}
 use Rattle.stage_options.specs.declared.stage.StageSpec.{StageSpec}
 use Rattle.answer_model.specs.Runs.{opened_in}
@@ -44,26 +44,29 @@ use Rattle.run_engine.specs.declared.engine.Engine.TheVariants as engine
 use Rattle.run_engine.specs.declared.job.Step.{Step}
 use Rattle.run_engine.specs.declared.job.Step.TheVariants.{Done, Short}
 use Rattle.run_engine.specs.declared.shape.Shape.{Shape}
+use Rattle.plug_stages.specs.declared.filter.PlugFilter as plug_type
+use Rattle.plug_stages.specs.declared.tally.PlugTally as tally_type
+use Rattle.plug_stages.specs.Handed.{Handed}
 
-module _ {S K : Type 0} (s : source.Ghosts S) (k : sink.Ghosts K) (stages : List StageSpec) (queue chunk : ℕ) where
+module _ {S K P Q : Type 0} (s : source.Ghosts S) (k : sink.Ghosts K) (fs : plug_type.Ghosts P) (ts : tally_type.Ghosts Q) (stages : List StageSpec) (queue chunk : ℕ) where
   -- where no node has a fault they didn't end at one
-  pub none-ahead : (new : List (Node (StageWork S K))) (works after : List (StageWork S K)) (found : List (Option StageFault)) → (KeepPoints stages → NoneFaulty (as_works s k) new) → AreFaultsOf new found
-      → AreReadAhead s stages queue chunk works after found
+  pub none-ahead : (new : List (Node (StageWork S K P Q))) (works after : List (StageWork S K P Q)) (found : List (Option StageFault)) → (KeepPoints stages → NoneFaulty (as_works s k fs ts) new) → AreFaultsOf new found
+      → AreReadAhead s fs ts stages queue chunk works after found
   none-ahead new works after found sound are keep opened tell plain front i f over =
-      let m = mapped-at (λ (n : Node (StageWork S K)). n.fault) new i (Some f) (ap (λ fs. slice_get fs i) (sym are) ∙ over.fault) in
+      let m = mapped-at (λ (n : Node (StageWork S K P Q)). n.fault) new i (Some f) (ap (λ fs. slice_get fs i) (sym are) ∙ over.fault) in
       absurd (none-some f (sym (sound keep i m.0 m.1) ∙ m.2))
 
-  pub some-ahead : (old new : List (Node (StageWork S K))) (works : List (StageWork S K)) (found : List (Option StageFault)) → HaveReadAhead s stages queue chunk old new
-      → ((j : ℕ) (n : Node (StageWork S K)) → slice_get old j ≡ Some n → n.chunk ≡ chunk) → map work_of old ≡ works → AreFaultsOf new found → AreReadAhead s stages queue chunk works (map work_of new) found
-  some-ahead old new works found ahead cuts made are = subst (AreReadAhead s stages queue chunk works (map work_of new)) (sym are)
-      (subst (λ ws. AreReadAhead s stages queue chunk ws (map work_of new) (map (λ (n : Node (StageWork S K)). n.fault) new)) made (ahead cuts))
+  pub some-ahead : (old new : List (Node (StageWork S K P Q))) (works : List (StageWork S K P Q)) (found : List (Option StageFault)) → HaveReadAhead s fs ts stages queue chunk old new
+      → ((j : ℕ) (n : Node (StageWork S K P Q)) → slice_get old j ≡ Some n → n.chunk ≡ chunk) → map work_of old ≡ works → AreFaultsOf new found → AreReadAhead s fs ts stages queue chunk works (map work_of new) found
+  some-ahead old new works found ahead cuts made are = subst (AreReadAhead s fs ts stages queue chunk works (map work_of new)) (sym are)
+      (subst (λ ws. AreReadAhead s fs ts stages queue chunk ws (map work_of new) (map (λ (n : Node (StageWork S K P Q)). n.fault) new)) made (ahead cuts))
 
-module _ {S K : Type 0} (E : Type 0) (s : source.Ghosts S) (k : sink.Ghosts K) (stages : List StageSpec) (old new : List (StageWork S K)) where
-  pub read-short : (chosen : Engine) → HaveReadBy {E = E} s k chosen stages old new Short
+module _ {S K P Q : Type 0} (E : Type 0) (s : source.Ghosts S) (k : sink.Ghosts K) (fs : plug_type.Ghosts P) (ts : tally_type.Ghosts Q) (stages : List StageSpec) (old new : List (StageWork S K P Q)) where
+  pub read-short : (chosen : Engine) → HaveReadBy {E = E} s k fs ts chosen stages old new Short
   read-short (engine.Queues shape) = tt
   read-short engine.Whole = tt
 
-  pub read-done : (chosen : Engine) (ended : Ended) → ((shape : Shape) → chosen ≡ engine.Queues shape → AreReadAhead s stages shape.queue shape.chunk old new ended.faults.items) → HaveReadBy {E = E} s k chosen stages old new (Done ended)
+  pub read-done : (chosen : Engine) (ended : Ended) → ((shape : Shape) → chosen ≡ engine.Queues shape → AreReadAhead s fs ts stages shape.queue shape.chunk old new ended.faults.items) → HaveReadBy {E = E} s k fs ts chosen stages old new (Done ended)
   read-done (engine.Queues shape) ended ahead = ahead shape refl
   read-done engine.Whole ended ahead = tt
 
@@ -126,28 +129,30 @@ ended-at stages found i f size refused writes readers told = go (why-refused fou
           told = told;
         }
 
-module _ {S K : Type 0} (E : Type 0) (s : source.Ghosts S) (k : sink.Ghosts K) (m : Names) (stages : List StageSpec) (shape : Shape) (old new : List (StageWork S K)) (ready : AreReady s k (Some m) stages old) where
+module _ {S K P Q : Type 0} (E : Type 0) (s : source.Ghosts S) (k : sink.Ghosts K) (fs : plug_type.Ghosts P) (ts : tally_type.Ghosts Q) (handed : Handed) (m : Names) (stages : List StageSpec) (shape : Shape) (old new : List (StageWork S K P Q)) (ready : AreReady s k fs ts handed (Some m) stages old) where
   begins-so : sum_by begins_at old ≤ all_begin m stages
   begins-so =
       let a = sum-range begins_at (λ i. begins_in (header_at m (role_at stages i))) 0 old one in
       subst (λ n. sum_by begins_at old ≤ sum_by (λ i. begins_in (header_at m (role_at stages i))) (range_with_len 0 n)) ready.count a
     where
-      one : (i : ℕ) (w : StageWork S K) → slice_get old i ≡ Some w → begins_at w ≤ begins_in (header_at m (role_at stages (0 + i)))
+      one : (i : ℕ) (w : StageWork S K P Q) → slice_get old i ≡ Some w → begins_at w ≤ begins_in (header_at m (role_at stages (0 + i)))
       one i (Reader r) e =
           let h : header_at m (role_at stages (0 + i)) ≡ Some r.header = ap (λ n. header_at m (role_at stages n)) {x = 0 + i} {y = i} (omega arith) ∙ ready.headers m refl i r e in
           subst (λ o. r.header.points_at ≤ begins_in o) (sym h) (omega arith)
       one i (Filter f) e = omega arith
+      one i (Plug f) e = omega arith
+      one i (Tally f) e = omega arith
       one i (Collector c) e = omega arith
       one i (Views h) e = omega arith
       one i (ViewFiles t) e = omega arith
       one i (Writer w) e = omega arith
 
   -- a run that ended at this point has read no further than so
-  pub read-no-more : (stop : Stop) (before : List (StageWork S K)) (step : Step S K E) (i : ℕ) (f : PointFault) → HaveCome s k stop stages before new step → HaveReadBy s k (engine.Queues shape) stages old new step → CameTo (Data i (fault.Point f)) step
+  pub read-no-more : (stop : Stop) (before : List (StageWork S K P Q)) (step : Step S K P Q E) (i : ℕ) (f : PointFault) → HaveCome s k fs ts stop stages before new step → HaveReadBy s k fs ts (engine.Queues shape) stages old new step → CameTo (Data i (fault.Point f)) step
       → (first now : Option ℕ) → IsAsTold now (option_map (λ n. n + sum_by (reached_of s.reached) new) first) → HasReadNoMore m stages shape.queue shape.chunk i (stage.Point f) first now
   read-no-more stop before (Done ended) i f came ahead refused first now read keep writes readers told bytes plain j is =
       let over = ended-at stages ended.faults.items i f came.count refused writes readers told in
-      let more = ahead keep (opened_in m stages) (ready.tell m refl) (λ x r e. (plain x r.header (ready.headers m refl x r e)).0) ready.front i (stage.Point f) over in
+      let more = ahead keep (opened_in handed m stages) (ready.tell m refl) (λ x r e. (plain x r.header (ready.headers m refl x r e)).0) ready.front i (stage.Point f) over in
       let most = more.bytes bytes (λ x r e. (plain x r.header (ready.headers m refl x r e)).1) in
       read-at-most (sum_by (reached_of s.reached) new) (all_begin m stages + most_read (number_of (stage.Point f)) (length stages) shape.queue shape.chunk * bytes) first now read
       (omega (arith, most, begins-so)) j is

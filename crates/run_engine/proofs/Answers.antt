@@ -26,7 +26,7 @@ use Rattle.cloud_points.specs.declared.faults.StageFault.{StageFault}
 use Rattle.cloud_points.specs.declared.faults.StageFault.TheVariants as stage
 use Rattle.stage_kinds.specs.declared.stage_work.StageWork.{StageWork}
 use Rattle.stage_kinds.specs.declared.held.Held.{Held}
-use Rattle.stage_kinds.specs.declared.held.Held.TheVariants.{Nothing, Source, Sink}
+use Rattle.stage_kinds.specs.declared.held.Held.TheVariants.{Nothing, Source, Sink, Filter, Tally}
 use Rattle.stage_kinds.specs.Held.{op_of, faults_of, held_by, op_on}
 use Rattle.stage_kinds.specs.Stages.{keeps_of}
 use Rattle.stage_options.specs.Roles.{Role, Reads, Filters, Gathers, Writes, WritesEach, is_writing, writing_by}
@@ -44,7 +44,7 @@ use Rattle.answer_model.specs.Rows.{Setting}
 use Rattle.answer_model.specs.Values.{Opened, Output, options_at, role_at, row_at, setting_at, stage_fault, stage_value, least_fault, written, written_at, output_at, outputs_at}
 use Rattle.answer_model.specs.Runs.{Run, AreRead, run_of, opened_in}
 use Rattle.answer_model.proofs.Least.{least-at}
-use Rattle.stage_forms.specs.Starts.{form_for, kept_for, op_for, writes_as, HaveDevices, AreTold}
+use Rattle.stage_forms.specs.Starts.{form_for, kept_for, op_for, writes_as, HaveDevices, AreGiven, AreTold}
 use Rattle.stage_forms.proofs.Works.{each-row, writes-form}
 use Rattle.std.proofs.lemmas.List.Sums.{sum_by-cons}
 use Rattle.held_devices.specs.Holding.{there, all_held}
@@ -68,6 +68,9 @@ use Rattle.run_ending.proofs.Finished.{finishing-writes}
 use Rattle.run_outcome.proofs.Runs.{right_run, run-right, run-fault}
 use Rattle.run_engine.proofs.Each.{works-files}
 use Rattle.run_engine.proofs.Puts.{outputs_below, below-more, below-split, were-put}
+use Rattle.plug_stages.specs.declared.filter.PlugFilter as plug_type
+use Rattle.plug_stages.specs.declared.tally.PlugTally as tally_type
+use Rattle.plug_stages.specs.Handed.{Handed}
 
 -- an early refusal leaves the files as they were
 pub early-left : (r : Refusal) (old new : Option Names) (expected : Result Run Refusal) → IsEarly r → new ≡ old → IsLeft r old new expected
@@ -193,10 +196,10 @@ each-las o setting x e p is patch = by_kind o e
     by_kind o e = cc
 
 -- what is kept stands at a work
-abbrev pub KeptAt : {S K : Type 0} → List (StageWork S K) → ℕ → ℕ → Writing × Flow Point → Type 0
-KeptAt {S} {K} works i stage k = (j : ℕ) × (w : StageWork S K) × ((slice_get works j ≡ Some w) × (keeps_of w ≡ Some k)) × (stage ≡ i + j)
+abbrev pub KeptAt : {S K P Q : Type 0} → List (StageWork S K P Q) → ℕ → ℕ → Writing × Flow Point → Type 0
+KeptAt {S} {K} {P} {Q} works i stage k = (j : ℕ) × (w : StageWork S K P Q) × ((slice_get works j ≡ Some w) × (keeps_of w ≡ Some k)) × (stage ≡ i + j)
 
-pub kept-work : {S K : Type 0} (works : List (StageWork S K)) (i place stage : ℕ) (k : Writing × Flow Point) → slice_get (kept_from i works) place ≡ Some (stage, k) → KeptAt works i stage k
+pub kept-work : {S K P Q : Type 0} (works : List (StageWork S K P Q)) (i place stage : ℕ) (k : Writing × Flow Point) → slice_get (kept_from i works) place ≡ Some (stage, k) → KeptAt works i stage k
 kept-work [] i place stage k e = absurd (none-some _ e)
 kept-work (w ∷ works) i place stage k e = by_kept (λ p f. kept-work works (i + 1) p stage k f) (keeps_of w) refl place e
   where
@@ -218,6 +221,8 @@ kept-form stages opened i x flow e = go (form_for (options_at stages i) (setting
     go (form.Gathers (Each y)) e = ap (λ (k : Writing × Flow Point). form.Gathers (Each k.0)) (same_Some _ _ e)
     go (form.Gathers (Made g)) e = absurd (none-some _ e)
     go (form.Filters f) e = absurd (none-some _ e)
+    go (form.Plugs n) e = absurd (none-some _ e)
+    go (form.Tallies n) e = absurd (none-some _ e)
     go (form.Writes y) e = absurd (none-some _ e)
     go (form.Reads fields) e = absurd (none-some _ e)
 
@@ -246,10 +251,12 @@ pub rose-given : (before after files end : ℕ) → Rose before after → satura
 rose-given before after files end rose back = omega (arith, rose, back)
 
 -- what a work does with its device isn't a keeping
-op-early : {S K : Type 0} (i : ℕ) (h : Held S K) (o : Op) → op_on h ≡ Some o → IsEarly (of.Device (at.Stage i) o)
+op-early : {S K P Q : Type 0} (i : ℕ) (h : Held S K P Q) (o : Op) → op_on h ≡ Some o → IsEarly (of.Device (at.Stage i) o)
 op-early i Nothing o e = cc
 op-early i (Source s) op.Keep e = cc
 op-early i (Sink k) op.Keep e = cc
+op-early i (Filter f at) op.Keep e = cc
+op-early i (Tally t at) op.Keep e = cc
 op-early i h op.Open e = tt
 op-early i h op.Read e = tt
 op-early i h op.Create e = tt
@@ -265,9 +272,9 @@ the-point f None e = cc
 the-point f (Some g) e = cc
 
 -- the fault of a run's stages that goes first is the cause
-module _ {S K : Type 0} (s : source.Ghosts S) (k : sink.Ghosts K) (stop : Stop) (map : Option Names) (stages : List StageSpec) (old new : List (StageWork S K)) (found : List (Option StageFault)) (counts : List StageCount)
-    (ended : HaveEndedBy s k stop stages old new found counts) where
-  least-is : (r : Refusal) (p : IsForPoint found r) (opened : Opened) → AreTold s old opened → stop ≡ Last → least_fault stages opened ≡ Some (p.stage, p.fault)
+module _ {S K P Q : Type 0} (s : source.Ghosts S) (k : sink.Ghosts K) (fs : plug_type.Ghosts P) (ts : tally_type.Ghosts Q) (stop : Stop) (handed : Handed) (map : Option Names) (stages : List StageSpec) (old new : List (StageWork S K P Q)) (found : List (Option StageFault)) (counts : List StageCount)
+    (ended : HaveEndedBy s k fs ts stop stages old new found counts) where
+  least-is : (r : Refusal) (p : IsForPoint found r) (opened : Opened) → AreGiven s fs ts stages old opened → stop ≡ Last → least_fault stages opened ≡ Some (p.stage, p.fault)
   least-is r p opened told last =
       let have = subst (λ stop. HaveFaultsBy stop stages opened found) last (ended.faulty p.none_failed opened told) in
       let inside : p.stage < length stages = (let a = p.inside in let b = ended.count in omega (arith, a, b)) in
@@ -283,11 +290,11 @@ module _ {S K : Type 0} (s : source.Ghosts S) (k : sink.Ghosts K) (stop : Stop) 
 
   module _ (start mid end : ℕ)
       (few : length old ≡ length stages)
-      (come : (m : Names) → map ≡ Some m → CanBegin m stages)
-      (tells : (m : Names) → map ≡ Some m → AreTold s old (opened_in m stages))
-      (fit : (i : ℕ) (w : StageWork S K) → slice_get old i ≡ Some w → op_of w ≡ op_for (role_at stages i))
-      (low : start ≤ mid) (back : (i : ℕ) (w : StageWork S K) → slice_get new i ≡ Some w → saturating mid (faults_of s.faults k.faults w) ≤ end) where
-    device-cause : (i : ℕ) (o : Op) → fault_at found i ≡ Some (stage.Device o) → IsCause (Rose start end) map stages (of.Device (at.Stage i) o)
+      (come : (m : Names) → map ≡ Some m → CanBegin handed m stages)
+      (tells : (m : Names) → map ≡ Some m → AreGiven s fs ts stages old (opened_in handed m stages))
+      (fit : (i : ℕ) (w : StageWork S K P Q) → slice_get old i ≡ Some w → op_of w ≡ op_for (role_at stages i))
+      (low : start ≤ mid) (back : (i : ℕ) (w : StageWork S K P Q) → slice_get new i ≡ Some w → saturating mid (faults_of s.faults k.faults w) ≤ end) where
+    device-cause : (i : ℕ) (o : Op) → fault_at found i ≡ Some (stage.Device o) → IsCause (Rose start end) handed map stages (of.Device (at.Stage i) o)
     device-cause i o has =
         let c = ended.caused i o has in
         let faults = faults_of s.faults k.faults in
@@ -295,40 +302,40 @@ module _ {S K : Type 0} (s : source.Ghosts S) (k : sink.Ghosts K) (stop : Stop) 
           (let a = rose-given (faults c.before) (faults c.after) mid end c.rose (back i c.after c.is) in omega (arith, a, low)),
           λ m e. (let inside : i < length stages = (let a = slice_get_within old i c.before c.was in omega (arith, a, few)) in record {
             inside = inside;
-            come = at-turns (AreRead m stages i) (CanBegin m stages) (IsOk (run_of m stages)) (role_at stages i) o
+            come = at-turns (AreRead m stages i) (CanBegin handed m stages) (IsOk (run_of handed m stages)) (role_at stages i) o
                 (λ j lt. (come m e).0 j (omega (arith, lt, inside))) (come m e) (sym (fit i c.before c.was) ∙ c.does);
             patched = λ p. absurd (never-patched (role_at stages i) (sym (fit i c.before c.was) ∙ c.does ∙ ap (λ x. Some x) p));
           }),
         )
 
     -- the fault of a point is the least one, or any that was seen
-    point-cause : (r : Refusal) (p : IsForPoint found r) (m : Names) → map ≡ Some m → (st : Stop) → stop ≡ st → IsRefusedFor st m stages p.stage (fault.Point p.fault)
-    point-cause r p m e Last is = run-fault m stages p.stage p.fault (come m e) (least-is r p (opened_in m stages) (tells m e) is)
+    point-cause : (r : Refusal) (p : IsForPoint found r) (m : Names) → map ≡ Some m → (st : Stop) → stop ≡ st → IsRefusedFor st handed m stages p.stage (fault.Point p.fault)
+    point-cause r p m e Last is = run-fault handed m stages p.stage p.fault (come m e) (least-is r p (opened_in handed m stages) (tells m e) is)
     point-cause r p m e First is =
-        let have = subst (λ st. HaveFaultsBy st stages (opened_in m stages) found) is (ended.faulty p.none_failed (opened_in m stages) (tells m e)) in
-        inr (come m e, the-point p.fault (stage_fault stages (opened_in m stages) p.stage) (sym (have p.stage (stage.Point p.fault) p.has)))
+        let have = subst (λ st. HaveFaultsBy st stages (opened_in handed m stages) found) is (ended.faulty p.none_failed (opened_in handed m stages) (tells m e)) in
+        inr (come m e, the-point p.fault (stage_fault stages (opened_in handed m stages) p.stage) (sym (have p.stage (stage.Point p.fault) p.has)))
 
-    pub fault-cause : (r : Refusal) → refusal_for found ≡ Some r → IsCauseBy stop (Rose start end) map stages r
+    pub fault-cause : (r : Refusal) → refusal_for found ≡ Some r → IsCauseBy stop (Rose start end) handed map stages r
     fault-cause r e = elim (why-refused found r e) [
-      | inl d ↦ subst (IsCauseBy stop (Rose start end) map stages) (sym d.is) (device-cause d.stage d.op d.has)
-      | inr p ↦ subst (IsCauseBy stop (Rose start end) map stages) (sym p.is) (λ m e. point-cause r p m e stop refl)
+      | inl d ↦ subst (IsCauseBy stop (Rose start end) handed map stages) (sym d.is) (device-cause d.stage d.op d.has)
+      | inr p ↦ subst (IsCauseBy stop (Rose start end) handed map stages) (sym p.is) (λ m e. point-cause r p m e stop refl)
     ]
 
 -- a writer whose file couldn't be finished is the cause, where the stages came to their end
-module _ {S K : Type 0} (k : sink.Ghosts K) (faults : StageWork S K → ℕ) (map : Option Names) (stages : List StageSpec) (old new : List (StageWork S K)) (start mid end : ℕ)
+module _ {S K P Q : Type 0} (k : sink.Ghosts K) (fs : plug_type.Ghosts P) (ts : tally_type.Ghosts Q) (faults : StageWork S K P Q → ℕ) (handed : Handed) (map : Option Names) (stages : List StageSpec) (old new : List (StageWork S K P Q)) (start mid end : ℕ)
     (few : length old ≡ length stages) (fit : HaveDevices stages old)
-    (come : (m : Names) → map ≡ Some m → CanBegin m stages)
-    (counts : List StageCount) (came : (m : Names) → map ≡ Some m → CameToEnd k.bytes stages (opened_in m stages) old counts)
-    (low : start ≤ mid) (back : (i : ℕ) (w : StageWork S K) → slice_get new i ≡ Some w → saturating mid (faults w) ≤ end) where
-  pub unfinished-to-cause : (r : Refusal) → IsUnfinished faults old new r → IsCause (Rose start end) map stages r
+    (come : (m : Names) → map ≡ Some m → CanBegin handed m stages)
+    (counts : List StageCount) (came : (m : Names) → map ≡ Some m → CameToEnd k.bytes stages (opened_in handed m stages) old counts)
+    (low : start ≤ mid) (back : (i : ℕ) (w : StageWork S K P Q) → slice_get new i ≡ Some w → saturating mid (faults w) ≤ end) where
+  pub unfinished-to-cause : (r : Refusal) → IsUnfinished faults old new r → IsCause (Rose start end) handed map stages r
   unfinished-to-cause (of.Device (at.Stage i) o) c = inr (
     (let a = rose-given (faults c.before) (faults c.after) mid end c.rose (back i c.after c.is) in omega (arith, a, low)),
     λ m e. record {
       inside = (let a = slice_get_within old i c.before c.was in omega (arith, a, few));
-      come = at-finishing (AreRead m stages i) (CanBegin m stages) (IsOk (run_of m stages)) (role_at stages i) o (come m e)
-          (subst IsOk (sym (run-right m stages (come m e) (came m e).sound)) refl) does named.1;
+      come = at-finishing (AreRead m stages i) (CanBegin handed m stages) (IsOk (run_of handed m stages)) (role_at stages i) o (come m e)
+          (subst IsOk (sym (run-right handed m stages (come m e) (came m e).sound)) refl) does named.1;
       patched = λ p.
-          let setting = setting_at stages (opened_in m stages) i in
+          let setting = setting_at stages (opened_in handed m stages) i in
           let (x, is) = writes-form (options_at stages i) setting (writing-role (role_at stages i) does) in
           let holds = (came m e).held i c.before c.was x is in
           patched-las (options_at stages i) setting x is (same_Some (finishing_op x.form) o (ap (option_map (λ (y : Writing). finishing_op y.form)) (sym holds.is) ∙ c.named) ∙ p);
@@ -354,7 +361,7 @@ named-early i o named = elim named [
   | inr e ↦ subst (λ x. IsEarly (of.Device (at.Stage i) x)) (sym e) tt
 ]
 
-pub unfinished-early : {S K : Type 0} (faults : StageWork S K → ℕ) (old new : List (StageWork S K)) (r : Refusal) → IsUnfinished faults old new r → IsEarly r
+pub unfinished-early : {S K P Q : Type 0} (faults : StageWork S K P Q → ℕ) (old new : List (StageWork S K P Q)) (r : Refusal) → IsUnfinished faults old new r → IsEarly r
 unfinished-early faults old new (of.Device (at.Stage i) o) c = named-early i o (finishing-writes c.before o c.named).1
 unfinished-early faults old new (of.Device at.PipelineFile o) c = tt
 unfinished-early faults old new (of.Device at.Generated o) c = tt
@@ -364,23 +371,23 @@ unfinished-early faults old new (of.Data i f) c = tt
 unfinished-early faults old new (of.Pipeline f) c = tt
 unfinished-early faults old new (of.Usage k) c = tt
 
-module _ {S K : Type 0} (bytes : K → Option (List ℕ)) (stages : List StageSpec) (works : List (StageWork S K)) (few : length works ≡ length stages) where
+module _ {S K P Q : Type 0} (bytes : K → Option (List ℕ)) (stages : List StageSpec) (works : List (StageWork S K P Q)) (few : length works ≡ length stages) where
   -- a file that wasn't kept is the cause, where the answer is right
-  pub broke-cause : (rose : Type 0) (map old new : Option Names) (r : Refusal) → ((m : Names) → map ≡ Some m → IsOk (run_of m stages)) → BrokeOff bytes rose old new stages works r → IsCause rose map stages r
-  broke-cause rose map old new r right broke = elim broke.why [
-    | inl m ↦ subst (IsCause rose map stages) (sym m) tt
-    | inr d ↦ subst (IsCause rose map stages) (sym d.0) (inr (
+  pub broke-cause : (rose : Type 0) (handed : Handed) (map old new : Option Names) (r : Refusal) → ((m : Names) → map ≡ Some m → IsOk (run_of handed m stages)) → BrokeOff bytes rose old new stages works r → IsCause rose handed map stages r
+  broke-cause rose handed map old new r right broke = elim broke.why [
+    | inl m ↦ subst (IsCause rose handed map stages) (sym m) tt
+    | inr d ↦ subst (IsCause rose handed map stages) (sym d.0) (inr (
       d.1,
       λ m e. record {
         inside = (let a = broke.inside in omega (arith, a, few));
-        come = at-keeping (AreRead m stages broke.stage) (CanBegin m stages) (IsOk (run_of m stages)) (role_at stages broke.stage) broke.writes (right m e);
+        come = at-keeping (AreRead m stages broke.stage) (CanBegin handed m stages) (IsOk (run_of handed m stages)) (role_at stages broke.stage) broke.writes (right m e);
         patched = λ p. cc;
       },
     ))
   ]
 
 -- later works hold as many devices
-held-same : {S K : Type 0} (xs ys : List (StageWork S K)) → length ys ≡ length xs → ((i : ℕ) (v w : StageWork S K) → slice_get xs i ≡ Some v → slice_get ys i ≡ Some w → there (op_of w) ≡ there (op_of v)) → all_held ys ≡ all_held xs
+held-same : {S K P Q : Type 0} (xs ys : List (StageWork S K P Q)) → length ys ≡ length xs → ((i : ℕ) (v w : StageWork S K P Q) → slice_get xs i ≡ Some v → slice_get ys i ≡ Some w → there (op_of w) ≡ there (op_of v)) → all_held ys ≡ all_held xs
 held-same [] [] l h = refl
 held-same [] (y ∷ ys) l h = absurd (omega (arith, l))
 held-same (x ∷ xs) [] l h = absurd (omega (arith, l))
@@ -391,12 +398,12 @@ held-same (x ∷ xs) (y ∷ ys) l h =
     let q = sum_by-cons (λ w. there (op_of w)) y ys in
     omega (arith, a, r, p, q)
 
-pub same-held : {S K : Type 0} (faults : StageWork S K → ℕ) (old new : List (StageWork S K)) → AreLater faults old new → all_held new ≡ all_held old
+pub same-held : {S K P Q : Type 0} {fs : plug_type.Ghosts P} {ts : tally_type.Ghosts Q} (faults : StageWork S K P Q → ℕ) (old new : List (StageWork S K P Q)) → AreLater fs ts faults old new → all_held new ≡ all_held old
 same-held faults old new later = held-same old new later.count (λ i v w e f. ap there (later.op i v w e f))
 
 -- a run whose stages came to their end
-module _ {S K : Type 0} (s : source.Ghosts S) (k : sink.Ghosts K) (first : Option Names) (stages : List StageSpec) (works done : List (StageWork S K)) (ready : AreReady s k first stages works)
-    (faults : StageWork S K → ℕ) (later : AreLater faults works done) where
+module _ {S K P Q : Type 0} (s : source.Ghosts S) (k : sink.Ghosts K) (fs : plug_type.Ghosts P) (ts : tally_type.Ghosts Q) (handed : Handed) (first : Option Names) (stages : List StageSpec) (works done : List (StageWork S K P Q)) (ready : AreReady s k fs ts handed first stages works)
+    (faults : StageWork S K P Q → ℕ) (later : AreLater fs ts faults works done) where
   pub fit : HaveDevices stages done
   fit i w e =
       let v = some_at works i (let a = slice_get_within done i w e in let b = later.count in omega (arith, a, b)) in
@@ -405,72 +412,72 @@ module _ {S K : Type 0} (s : source.Ghosts S) (k : sink.Ghosts K) (first : Optio
   pub size : length done ≡ length stages
   size = later.count ∙ ready.count
 
-  module _ (counts : List StageCount) (came : (opened : Opened) → AreTold s works opened → AreDone k.bytes stages opened done counts) where
-    at-end : (m : Names) → first ≡ Some m → AreDone k.bytes stages (opened_in m stages) done counts
-    at-end m e = came (opened_in m stages) (ready.tell m e)
+  module _ (counts : List StageCount) (came : (opened : Opened) → AreGiven s fs ts stages works opened → AreDone k.bytes stages opened done counts) where
+    at-end : (m : Names) → first ≡ Some m → AreDone k.bytes stages (opened_in handed m stages) done counts
+    at-end m e = came (opened_in handed m stages) (ready.tell m e)
 
-    right : (m : Names) → first ≡ Some m → run_of m stages ≡ Ok (right_run stages (opened_in m stages))
-    right m e = run-right m stages (ready.come m e) (at-end m e).sound
+    right : (m : Names) → first ≡ Some m → run_of handed m stages ≡ Ok (right_run stages (opened_in handed m stages))
+    right m e = run-right handed m stages (ready.come m e) (at-end m e).sound
 
-    first-kept : (m : Names) → first ≡ Some m → (n : ℕ) → n ≤ length done → (now new : Option Names) → new ≡ kept_first k.bytes n now stages done → WerePut now (outputs_below stages (opened_in m stages) n) new
-    first-kept m e n le now new is = were-put stages (opened_in m stages) k.bytes done (at-end m e).told n now new le is
+    first-kept : (m : Names) → first ≡ Some m → (n : ℕ) → n ≤ length done → (now new : Option Names) → new ≡ kept_first k.bytes n now stages done → WerePut now (outputs_below stages (opened_in handed m stages) n) new
+    first-kept m e n le now new is = were-put stages (opened_in handed m stages) k.bytes done (at-end m e).told n now new le is
 
     -- the outputs are those of the writers of one file, and then those of views
-    outputs-are : (m : Names) → first ≡ Some m → (right_run stages (opened_in m stages)).outputs ≡ outputs_below stages (opened_in m stages) (length stages) ++ all_files stages (kept_from 0 done)
-    outputs-are m e = ap (λ os. outputs_below stages (opened_in m stages) (length stages) ++ os)
-        (ap (λ n. flat_map (outputs_at stages (opened_in m stages)) (range_with_len 0 n)) (sym size)
-        ∙ sym (works-files stages (opened_in m stages) 0 done (λ j w f. (at-end m e).keeps j w f
-        ∙ ap (λ n. kept_for (form_for (options_at stages n) (setting_at stages (opened_in m stages) n)) (stage_value stages (opened_in m stages) n)) (let z : j ≡ 0 + j = omega arith in z))))
+    outputs-are : (m : Names) → first ≡ Some m → (right_run stages (opened_in handed m stages)).outputs ≡ outputs_below stages (opened_in handed m stages) (length stages) ++ all_files stages (kept_from 0 done)
+    outputs-are m e = ap (λ os. outputs_below stages (opened_in handed m stages) (length stages) ++ os)
+        (ap (λ n. flat_map (outputs_at stages (opened_in handed m stages)) (range_with_len 0 n)) (sym size)
+        ∙ sym (works-files stages (opened_in handed m stages) 0 done (λ j w f. (at-end m e).keeps j w f
+        ∙ ap (λ n. kept_for (form_for (options_at stages n) (setting_at stages (opened_in handed m stages) n)) (stage_value stages (opened_in handed m stages) n)) (let z : j ≡ 0 + j = omega arith in z))))
 
-    pub is-run : (m : Names) → first ≡ Some m → (now new : Option Names) → (now ≡ None → new ≡ None) → AreAllKept k.bytes now new stages done → IsOkAnd (run_of m stages) (IsRun now new counts)
+    pub is-run : (m : Names) → first ≡ Some m → (now new : Option Names) → (now ≡ None → new ≡ None) → AreAllKept k.bytes now new stages done → IsOkAnd (run_of handed m stages) (IsRun now new counts)
     is-run m e now new lost all = subst (λ o. IsOkAnd o (IsRun now new counts)) (sym (right m e)) (record {
       put = subst (λ os. WerePut now os new) (sym (outputs-are m e))
-          (more-put now all.mid new (outputs_below stages (opened_in m stages) (length stages)) (all_files stages (kept_from 0 done)) all.lost
-          (subst (λ n. WerePut now (outputs_below stages (opened_in m stages) n) all.mid) size (first-kept m e (length done) (omega arith) now all.mid all.plain)) all.each);
+          (more-put now all.mid new (outputs_below stages (opened_in handed m stages) (length stages)) (all_files stages (kept_from 0 done)) all.lost
+          (subst (λ n. WerePut now (outputs_below stages (opened_in handed m stages) n) all.mid) size (first-kept m e (length done) (omega arith) now all.mid all.plain)) all.each);
       report = ap report_of (sym (at-end m e).counted);
     })
 
-    pub unkept-cause : (rose : Type 0) (now new : Option Names) (r : Refusal) → IsUnkept k.bytes rose now new stages done r → IsCause rose first stages r
+    pub unkept-cause : (rose : Type 0) (now new : Option Names) (r : Refusal) → IsUnkept k.bytes rose now new stages done r → IsCause rose handed first stages r
     unkept-cause rose now new r unkept = elim unkept [
-      | inl m ↦ subst (IsCause rose first stages) (sym m.0) tt
+      | inl m ↦ subst (IsCause rose handed first stages) (sym m.0) tt
       | inr b ↦ elim b [
-        | inl broke ↦ broke-cause k.bytes stages done size rose first now new r (λ m e. subst IsOk (sym (right m e)) refl) broke
+        | inl broke ↦ broke-cause k.bytes stages done size rose handed first now new r (λ m e. subst IsOk (sym (right m e)) refl) broke
         | inr each ↦ each-cause each.broke
       ]
     ]
       where
-        each-cause : {mid : Option Names} → BrokeOffAt rose mid new stages (kept_from 0 done) r → IsCause rose first stages r
+        each-cause : {mid : Option Names} → BrokeOffAt rose mid new stages (kept_from 0 done) r → IsCause rose handed first stages r
         each-cause broke = elim broke.stops.why [
-          | inl m ↦ subst (IsCause rose first stages) (sym m) tt
-          | inr d ↦ subst (IsCause rose first stages) (sym d.1) (inr (
+          | inl m ↦ subst (IsCause rose handed first stages) (sym m) tt
+          | inr d ↦ subst (IsCause rose handed first stages) (sym d.1) (inr (
             d.3,
             λ m e.
                 let w = kept-work done 0 broke.place broke.stage (broke.writing, broke.flow) broke.of in
                 let here : broke.stage ≡ w.0 = (let v = w.3 in omega (arith, v)) in
-                let form = kept-form stages (opened_in m stages) w.0 broke.writing broke.flow (sym ((at-end m e).keeps w.0 w.1 w.2.0) ∙ w.2.1) in
-                let row = each-row (options_at stages w.0) (setting_at stages (opened_in m stages) w.0) broke.writing form in
+                let form = kept-form stages (opened_in handed m stages) w.0 broke.writing broke.flow (sym ((at-end m e).keeps w.0 w.1 w.2.0) ∙ w.2.1) in
+                let row = each-row (options_at stages w.0) (setting_at stages (opened_in handed m stages) w.0) broke.writing form in
                 record {
                   inside = (let a = slice_get_within done w.0 w.1 w.2.0 in omega (arith, a, here, size));
-                  come = subst (λ j. AtRole (AreRead m stages j) (CanBegin m stages) (IsOk (run_of m stages)) (role_at stages j) d.0) (sym here)
-                      (subst (λ x. AtRole (AreRead m stages w.0) (CanBegin m stages) (IsOk (run_of m stages)) x d.0) (sym row.does)
-                      (at-each (AreRead m stages w.0) (CanBegin m stages) (IsOk (run_of m stages)) row.name broke.writing.form d.0 (subst IsOk (sym (right m e)) refl) d.2));
-                  patched = λ p. subst (λ j. patches (options_at stages j) ≡ true) (sym here) (each-las (options_at stages w.0) (setting_at stages (opened_in m stages) w.0) broke.writing form d.0 d.2 p);
+                  come = subst (λ j. AtRole (AreRead m stages j) (CanBegin handed m stages) (IsOk (run_of handed m stages)) (role_at stages j) d.0) (sym here)
+                      (subst (λ x. AtRole (AreRead m stages w.0) (CanBegin handed m stages) (IsOk (run_of handed m stages)) x d.0) (sym row.does)
+                      (at-each (AreRead m stages w.0) (CanBegin handed m stages) (IsOk (run_of handed m stages)) row.name broke.writing.form d.0 (subst IsOk (sym (right m e)) refl) d.2));
+                  patched = λ p. subst (λ j. patches (options_at stages j) ≡ true) (sym here) (each-las (options_at stages w.0) (setting_at stages (opened_in handed m stages) w.0) broke.writing form d.0 d.2 p);
                 },
           ))
         ]
 
     -- what it leaves
-    pub unkept-left : (rose : Type 0) (now new : Option Names) (r : Refusal) → IsUnkept k.bytes rose now new stages done r → (m : Names) → first ≡ Some m → IsLeft r now new (run_of m stages)
+    pub unkept-left : (rose : Type 0) (now new : Option Names) (r : Refusal) → IsUnkept k.bytes rose now new stages done r → (m : Names) → first ≡ Some m → IsLeft r now new (run_of handed m stages)
     unkept-left rose now new r unkept m e = subst (IsLeft r now new) (sym (right m e)) (elim unkept [
       | inl n ↦ subst (λ x. IsLeft x now new (Ok run)) (sym n.0) (inl n.1)
       | inr b ↦ elim b [ inl broke ↦ plain-left broke | inr each ↦ each-left each ]
     ])
       where
         run : Run
-        run = right_run stages (opened_in m stages)
+        run = right_run stages (opened_in handed m stages)
 
         opened : Opened
-        opened = opened_in m stages
+        opened = opened_in handed m stages
 
         -- at one of the writers of one file
         plain-left : BrokeOff k.bytes rose now new stages done r → IsLeft r now new (Ok run)
@@ -554,7 +561,7 @@ module _ {S K : Type 0} (s : source.Ghosts S) (k : sink.Ghosts K) (first : Optio
             by-op op.Patch is = inr (unwritten-left op.Patch is (λ q. cc))
 
 -- a file that isn't kept is no matter of the data
-pub unkept-no-data : {S K : Type 0} (bytes : K → Option (List ℕ)) (rose : Type 0) (old new : Option Names) (stages : List StageSpec) (works : List (StageWork S K)) (r : Refusal) (i : ℕ) (f : Fault)
+pub unkept-no-data : {S K P Q : Type 0} (bytes : K → Option (List ℕ)) (rose : Type 0) (old new : Option Names) (stages : List StageSpec) (works : List (StageWork S K P Q)) (r : Refusal) (i : ℕ) (f : Fault)
     → IsUnkept bytes rose old new stages works r → r ≡ of.Data i f → ⊥
 unkept-no-data bytes rose old new stages works r i f unkept is = elim unkept [
   | inl m ↦ no-memory (sym is ∙ m.0)

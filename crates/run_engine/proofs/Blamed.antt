@@ -33,6 +33,8 @@ use Rattle.network_core.specs.declared.stop.Stop.{Stop}
 use Rattle.run_engine.specs.Stopping.{HaveEndedBy}
 use Rattle.run_engine.specs.Blame.{FailedFirst, FailedLast}
 use Rattle.run_engine.proofs.Answers.{kept-work, rose-given}
+use Rattle.plug_stages.specs.declared.filter.PlugFilter as plug_type
+use Rattle.plug_stages.specs.declared.tally.PlugTally as tally_type
 
 a-device : (f : Option StageFault) (o : Op) → device_op f ≡ Some o → f ≡ Some (stage.Device o)
 a-device None o e = cc
@@ -57,8 +59,8 @@ first-is faults i o e = go (first_failed faults) (first_faulty faults) e
     go None (Some p) e = absurd cc
     go None None e = absurd cc
 
-module _ {S K : Type 0} (s : source.Ghosts S) (k : sink.Ghosts K) (stages : List StageSpec) where
-  pub failed-first : (stop : Stop) (old works : List (StageWork S K)) (faults : List (Option StageFault)) (counts : List StageCount) → HaveEndedBy s k stop stages old works faults counts → AreLater (faults_of s.faults k.faults) old works
+module _ {S K P Q : Type 0} (s : source.Ghosts S) (k : sink.Ghosts K) (fs : plug_type.Ghosts P) (ts : tally_type.Ghosts Q) (stages : List StageSpec) where
+  pub failed-first : (stop : Stop) (old works : List (StageWork S K P Q)) (faults : List (Option StageFault)) (counts : List StageCount) → HaveEndedBy s k fs ts stop stages old works faults counts → AreLater fs ts (faults_of s.faults k.faults) old works
       → (i : ℕ) (o : Op) → refusal_for faults ≡ Some (Device (Stage i) o) → FailedFirst (faults_of s.faults k.faults) faults works i o
   failed-first stop old works faults counts ended later i o e =
       let r = found (λ j. device_op (fault_at faults j)) (length faults) 0 i o (first-is faults i o e) in
@@ -74,8 +76,8 @@ module _ {S K : Type 0} (s : source.Ghosts S) (k : sink.Ghosts K) (stages : List
       }
 
   -- a writer whose file couldn't be finished
-  pub failed-finish : (works new : List (StageWork S K)) (faults : List (Option StageFault)) (start end : ℕ) → AreSound faults
-      → ((i : ℕ) (w : StageWork S K) → slice_get new i ≡ Some w → saturating start (faults_of s.faults k.faults w) ≤ end)
+  pub failed-finish : (works new : List (StageWork S K P Q)) (faults : List (Option StageFault)) (start end : ℕ) → AreSound faults
+      → ((i : ℕ) (w : StageWork S K P Q) → slice_get new i ≡ Some w → saturating start (faults_of s.faults k.faults w) ≤ end)
       → (i : ℕ) (o : Op) → IsUnfinished (faults_of s.faults k.faults) works new (Device (Stage i) o) → FailedLast (Rose start end) faults works i o
   failed-finish works new faults start end sound back i o c = record {
     sound = sound;
@@ -93,8 +95,8 @@ module _ {S K : Type 0} (s : source.Ghosts S) (k : sink.Ghosts K) (stages : List
   does-write (Writes name) e = refl
 
   -- one whose file wasn't kept
-  pub failed-keep : {bytes : K → Option (List ℕ)} (works done : List (StageWork S K)) (faults : List (Option StageFault)) (rose : Type 0) (old new : Option Names) → AreSound faults → HaveDevices stages works
-      → AreLater (faults_of s.faults k.faults) works done → (i : ℕ) (o : Op) → BrokeOff bytes rose old new stages done (Device (Stage i) o) → FailedLast rose faults works i o
+  pub failed-keep : {bytes : K → Option (List ℕ)} (works done : List (StageWork S K P Q)) (faults : List (Option StageFault)) (rose : Type 0) (old new : Option Names) → AreSound faults → HaveDevices stages works
+      → AreLater fs ts (faults_of s.faults k.faults) works done → (i : ℕ) (o : Op) → BrokeOff bytes rose old new stages done (Device (Stage i) o) → FailedLast rose faults works i o
   failed-keep works done faults rose old new sound fit later i o broke = elim broke.why [
     | inl m ↦ absurd (let no : Device (Stage i) o ≡ Memory = m in cc)
     | inr d ↦ (
@@ -112,7 +114,7 @@ module _ {S K : Type 0} (s : source.Ghosts S) (k : sink.Ghosts K) (stages : List
   ]
 
   -- one of a file for each view, where one of these wasn't kept
-  pub failed-each : (works done : List (StageWork S K)) (faults : List (Option StageFault)) (rose : Type 0) (mid new : Option Names) → AreSound faults → AreKept works done → length done ≡ length works
+  pub failed-each : (works done : List (StageWork S K P Q)) (faults : List (Option StageFault)) (rose : Type 0) (mid new : Option Names) → AreSound faults → AreKept works done → length done ≡ length works
       → (i : ℕ) (o : Op) → BrokeOffAt rose mid new stages (kept_from 0 done) (Device (Stage i) o) → FailedLast rose faults works i o
   failed-each works done faults rose mid new sound kept size i o broke = elim broke.stops.why [
     | inl m ↦ absurd (let no : Device (Stage i) o ≡ Memory = m in cc)
@@ -132,8 +134,8 @@ module _ {S K : Type 0} (s : source.Ghosts S) (k : sink.Ghosts K) (stages : List
         })
   ]
 
-  pub failed-all : {bytes : K → Option (List ℕ)} (works done : List (StageWork S K)) (faults : List (Option StageFault)) (rose : Type 0) (old new : Option Names) → AreSound faults → HaveDevices stages works
-      → AreLater (faults_of s.faults k.faults) works done → AreKept works done → (i : ℕ) (o : Op) → IsUnkept bytes rose old new stages done (Device (Stage i) o) → FailedLast rose faults works i o
+  pub failed-all : {bytes : K → Option (List ℕ)} (works done : List (StageWork S K P Q)) (faults : List (Option StageFault)) (rose : Type 0) (old new : Option Names) → AreSound faults → HaveDevices stages works
+      → AreLater fs ts (faults_of s.faults k.faults) works done → AreKept works done → (i : ℕ) (o : Op) → IsUnkept bytes rose old new stages done (Device (Stage i) o) → FailedLast rose faults works i o
   failed-all works done faults rose old new sound fit later kept i o unkept = elim unkept [
     | inl m ↦ absurd (let no : Device (Stage i) o ≡ Memory = m.0 in cc)
     | inr b ↦ elim b [

@@ -6,7 +6,7 @@ use Rattle.std.proofs.lemmas.Grind.{flat_map-append}
 use Rattle.std.proofs.lemmas.List.{append-nil}
 use Rattle.cloud_points.specs.declared.point.Point.{Point}
 use Rattle.stage_kinds.specs.declared.file_form.StageForm.{StageForm}
-use Rattle.stage_kinds.specs.declared.file_form.StageForm.TheVariants.{Reads, Filters, Gathers, Writes}
+use Rattle.stage_kinds.specs.declared.file_form.StageForm.TheVariants.{Reads, Filters, Plugs, Tallies, Gathers, Writes}
 use Rattle.stage_kinds.specs.declared.file_form.Writing.{Writing}
 use Rattle.stage_kinds.specs.declared.making.Making.TheVariants.{Gathers as Made, WritesEach as Each}
 use Rattle.stage_kinds.specs.declared.stage_work.StageWork.{StageWork}
@@ -45,6 +45,8 @@ module _ (stages : List StageSpec) (opened : Opened) where
       go : (form : StageForm) → IsRow form (options_at stages i) (setting_at stages opened i) → flat_map (kept_files stages) (kept_at i (kept_for form (stage_value stages opened i))) ≡ outputs_at stages opened i
       go (Reads fields) row = sym (no-each (role_at stages i) row.0)
       go (Filters f) row = sym (ap (λ r. written_each i r (row_at stages opened i) (stage_value stages opened i)) row.does)
+      go (Plugs only) row = sym (ap (λ r. written_each i r (row_at stages opened i) (stage_value stages opened i)) row.does)
+      go (Tallies only) row = sym (ap (λ r. written_each i r (row_at stages opened i) (stage_value stages opened i)) row.does)
       go (Writes x) row = sym (ap (λ r. written_each i r (row_at stages opened i) (stage_value stages opened i)) row.does)
       go (Gathers (Made g)) row = sym (ap (λ r. written_each i r (row_at stages opened i) (stage_value stages opened i)) row.1)
       go (Gathers (Each x)) row =
@@ -53,10 +55,10 @@ module _ (stages : List StageSpec) (opened : Opened) where
           ∙ files-are i row.1.name x (row_at stages opened i) row.1.chooses row.1.bytes 1 ((stage_value stages opened i).views)
           ∙ sym (ap (λ r. written_each i r (row_at stages opened i) (stage_value stages opened i)) row.1.does)
 
-  module _ {S K : Type 0} where
+  module _ {S K P Q : Type 0} where
     -- so it is with all works from number i on
-    pub works-files : (i : ℕ) (works : List (StageWork S K))
-        → ((j : ℕ) (w : StageWork S K) → slice_get works j ≡ Some w → keeps_of w ≡ kept_for (form_for (options_at stages (i + j)) (setting_at stages opened (i + j))) (stage_value stages opened (i + j)))
+    pub works-files : (i : ℕ) (works : List (StageWork S K P Q))
+        → ((j : ℕ) (w : StageWork S K P Q) → slice_get works j ≡ Some w → keeps_of w ≡ kept_for (form_for (options_at stages (i + j)) (setting_at stages opened (i + j))) (stage_value stages opened (i + j)))
         → all_files stages (kept_from i works) ≡ flat_map (outputs_at stages opened) (range_with_len i (length works))
     works-files i [] keeps = refl
     works-files i (w ∷ works) keeps =

@@ -107,7 +107,7 @@ none-empty : (xs : List ℕ) → length xs ≡ 0 → is_empty xs ≡ true
 none-empty [] e = refl
 none-empty (x ∷ xs) e = absurd (omega (arith, e))
 
-leaf-inputs : {S K : Type 0} (source : source.Ghosts S) (bytes : K → Option (List ℕ)) (stages : List StageSpec) (i : ℕ) (s : StageSpec) (w : StageWork S K) (setting : Setting) → IsTree (shapes stages) → HaveOwnOptions stages → slice_get stages i ≡ Some s → IsAtStart bytes s.options setting w
+leaf-inputs : {S K P Q : Type 0} (source : source.Ghosts S) (bytes : K → Option (List ℕ)) (stages : List StageSpec) (i : ℕ) (s : StageSpec) (w : StageWork S K P Q) (setting : Setting) → IsTree (shapes stages) → HaveOwnOptions stages → slice_get stages i ≡ Some s → IsAtStart bytes s.options setting w
     → (is_leaf w ≡ true → length s.ins ≡ 0) × (length s.ins ≡ 0 → is_leaf w ≡ true)
 leaf-inputs source bytes stages i s w setting tree own e start =
     let none : is_empty s.ins ≡ is_leaf w = tree.readers i (shape s) (shape-at stages i s e) ∙ sym (start-reads source bytes s.options setting w start ∙ ap names.is_reader (own i s e)) in
@@ -121,7 +121,7 @@ input-count stages i s tree lt e =
     let c = shapes-size stages in
     omega (arith, a, b, c, lt)
 
-pub leaf-at : {S K : Type 0} (source : source.Ghosts S) (bytes : K → Option (List ℕ)) (stages : List StageSpec) (i : ℕ) (w : StageWork S K) (setting : Setting) → IsTree (shapes stages) → HaveOwnOptions stages → i < length stages → IsAtStart bytes (options_at stages i) setting w
+pub leaf-at : {S K P Q : Type 0} (source : source.Ghosts S) (bytes : K → Option (List ℕ)) (stages : List StageSpec) (i : ℕ) (w : StageWork S K P Q) (setting : Setting) → IsTree (shapes stages) → HaveOwnOptions stages → i < length stages → IsAtStart bytes (options_at stages i) setting w
     → (is_leaf w ≡ true → length ((stage_at stages i).ins) ≡ 0) × (length ((stage_at stages i).ins) ≡ 0 → is_leaf w ≡ true)
 leaf-at source bytes stages i w setting tree own lt start =
     let s = some_at stages i lt in

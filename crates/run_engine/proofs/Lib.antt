@@ -9,3 +9,4 @@ pub mod Ahead
 pub mod Blamed
 pub mod Each
 pub mod Stopping
+pub mod Given

@@ -9,10 +9,12 @@ use Rattle.stage_kinds.specs.declared.stage_work.StageWork.{StageWork}
 use Rattle.stage_options.specs.declared.stage.StageSpec.{StageSpec}
 use Rattle.answer_model.specs.Values.{stage_at}
 use Rattle.stage_runs.specs.Works.{as_works}
+use Rattle.plug_stages.specs.declared.filter.PlugFilter as plug_type
+use Rattle.plug_stages.specs.declared.tally.PlugTally as tally_type
 
-pub record IsNew {S K : Type 0} (s : source.Ghosts S) (k : sink.Ghosts K) (stages : List StageSpec) (chunk i : ℕ) (n : Node (StageWork S K)) : Type 0 where
-  pub fresh : IsFresh (shown (as_works s k) ((stage_at stages i).ins) n)
-  pub chunk_is : (shown (as_works s k) [] n).chunk ≡ chunk
+pub record IsNew {S K P Q : Type 0} (s : source.Ghosts S) (k : sink.Ghosts K) (fs : plug_type.Ghosts P) (ts : tally_type.Ghosts Q) (stages : List StageSpec) (chunk i : ℕ) (n : Node (StageWork S K P Q)) : Type 0 where
+  pub fresh : IsFresh (shown (as_works s k fs ts) ((stage_at stages i).ins) n)
+  pub chunk_is : (shown (as_works s k fs ts) [] n).chunk ≡ chunk
 
-abbrev pub AreNew : {S K : Type 0} → source.Ghosts S → sink.Ghosts K → List StageSpec → ℕ → List (Node (StageWork S K)) → Type 0
-AreNew {S} {K} s k stages chunk nodes = (i : ℕ) (n : Node (StageWork S K)) → slice_get nodes i ≡ Some n → IsNew s k stages chunk i n
+abbrev pub AreNew : {S K P Q : Type 0} → source.Ghosts S → sink.Ghosts K → plug_type.Ghosts P → tally_type.Ghosts Q → List StageSpec → ℕ → List (Node (StageWork S K P Q)) → Type 0
+AreNew {S} {K} {P} {Q} s k fs ts stages chunk nodes = (i : ℕ) (n : Node (StageWork S K P Q)) → slice_get nodes i ≡ Some n → IsNew s k fs ts stages chunk i n

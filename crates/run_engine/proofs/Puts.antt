@@ -75,9 +75,9 @@ module _ (stages : List StageSpec) (opened : Opened) where
             ∙ ap (λ xs. outputs_below stages opened i ++ xs) (sym (append-nil (output_at stages opened i))),
       )
 
-  module _ {S K : Type 0} (bytes : K → Option (List ℕ)) (works : List (StageWork S K))
-      (told : (i : ℕ) (w : StageWork S K) → slice_get works i ≡ Some w → is_writing (role_at stages i) ≡ true → IsAsTold (told_by bytes w) (Some ((row_at stages opened i).bytes (written_at stages opened i)))) where
-    one-put : (i : ℕ) (w : StageWork S K) (m : Names) (now : Option Names) → slice_get works i ≡ Some w → IsAsTold now (Some m) → IsAsTold (kept_one bytes now (role_at stages i) w) (Some (put_all m (output_at stages opened i)))
+  module _ {S K P Q : Type 0} (bytes : K → Option (List ℕ)) (works : List (StageWork S K P Q))
+      (told : (i : ℕ) (w : StageWork S K P Q) → slice_get works i ≡ Some w → is_writing (role_at stages i) ≡ true → IsAsTold (told_by bytes w) (Some ((row_at stages opened i).bytes (written_at stages opened i)))) where
+    one-put : (i : ℕ) (w : StageWork S K P Q) (m : Names) (now : Option Names) → slice_get works i ≡ Some w → IsAsTold now (Some m) → IsAsTold (kept_one bytes now (role_at stages i) w) (Some (put_all m (output_at stages opened i)))
     one-put i w m now e before = by_role (role_at stages i) refl
       where
         by_role : (role : Role) → role_at stages i ≡ role → IsAsTold (kept_one bytes now role w) (Some (put_all m (written i role ((row_at stages opened i).bytes (written_at stages opened i)))))

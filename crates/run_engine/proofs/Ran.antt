@@ -16,22 +16,23 @@ use Rattle.cloud_points.specs.Queue.{up_to_limit}
 use Rattle.network_core.specs.declared.node.Node.{Node}
 use Rattle.network_core.specs.Shown.{work_of}
 use Rattle.stage_kinds.specs.declared.stage_work.StageWork.{StageWork}
-use Rattle.stage_kinds.specs.Held.{op_of, faults_of, told_by}
+use Rattle.run_report.specs.declared.tally.TallyLine.{TallyLine}
+use Rattle.stage_kinds.specs.Held.{op_of, faults_of, filter_in, tally_in, told_by}
 use Rattle.file_devices.specs.Told.{IsAsTold}
 use Rattle.stage_options.specs.declared.stage.StageSpec.{StageSpec}
 use Rattle.run_report.specs.declared.report.StageCount.{StageCount}
-use Rattle.answer_model.specs.Values.{Opened, stage_at, options_at, row_at, setting_at, stage_input, stage_fault, stage_value, count_at, counts_of}
+use Rattle.answer_model.specs.Values.{or_shown, wrote_with, Opened, stage_at, options_at, role_at, row_at, setting_at, stage_input, stage_fault, stage_value, count_at, counts_of}
 use Rattle.answer_model.proofs.Least.{least-nowhere}
-use Rattle.stage_runs.specs.Works.{AreNewStages, ReadersTell}
+use Rattle.stage_runs.specs.Works.{AreNewStages, RunOn}
 use Rattle.stage_runs.specs.Parts.{AreLaterNodes}
 use Rattle.stage_runs.proofs.Places.{mapped-at, map-at}
 use Rattle.stage_kinds.specs.Files.{chosen}
 use Rattle.stage_forms.proofs.Works.{writes-form, writer-row, wrote-is, files-are}
-use Rattle.stage_kinds.specs.Stages.{keeps_of, HoldsAll}
+use Rattle.stage_kinds.specs.Stages.{keeps_of, shown_by, HoldsAll}
 use Rattle.stage_runs.specs.Ran.{EndsAsStage, AreRanStages, AreStoppedStages}
 use Rattle.run_outcome.specs.Faults.{fault_at, NoneFailed, AreSound}
 use Rattle.run_engine.specs.Counted.{node_count, AreCounted, AreFaultsOf}
-use Rattle.stage_forms.specs.Starts.{AreTold}
+use Rattle.stage_forms.specs.Starts.{AreGiven, AreHandedIn}
 use Rattle.set_engine.specs.Evaluated.{FailedAt, HaveEnded}
 use Rattle.network_core.specs.declared.stop.Stop.TheVariants.{First}
 use Rattle.run_engine.specs.Stopping.{HaveEndedBy}
@@ -41,6 +42,8 @@ use Rattle.run_engine.specs.Done.{AreDone}
 use Rattle.held_devices.proofs.Lists.{length-mapped}
 use Rattle.set_engine.proofs.Lists.{same-lists, range-at}
 use Rattle.run_outcome.proofs.Stages.{stage-is}
+use Rattle.plug_stages.specs.declared.filter.PlugFilter as plug_type
+use Rattle.plug_stages.specs.declared.tally.PlugTally as tally_type
 
 no-point : (o : Option PointFault) → None ≡ option_map stage.Point o → o ≡ None
 no-point None e = refl
@@ -69,18 +72,19 @@ some-unsound nodes found are i m e fault sound =
     let none : m.fault ≡ None = sym (ap (λ fs. fault_at fs i) are ∙ fault-of nodes i m e) ∙ sound i in
     true≢false (sym fault ∙ ap (λ (o : Option StageFault). is_some o) none)
 
-same-count : (i : ℕ) (k l : _) (v v' p p' : ℕ) (w w' : Option ℕ) (f f' : ℕ) → k ≡ l → v ≡ v' → p ≡ p' → w ≡ w' → f ≡ f' → ◌≡◌ {A = StageCount} (record { stage = i; kind = k; views = v; points = p; wrote = w; files = f }) (record { stage = i; kind = l; views = v'; points = p'; wrote = w'; files = f' })
-same-count i k l v v' p p' w w' f f' a b c d e = cc
+same-count : (i : ℕ) (k l : _) (v v' p p' : ℕ) (w w' : Option ℕ) (f f' : ℕ) (t t' : Option TallyLine) → k ≡ l → v ≡ v' → p ≡ p' → w ≡ w' → f ≡ f' → t ≡ t'
+    → ◌≡◌ {A = StageCount} (record { stage = i; kind = k; views = v; points = p; wrote = w; files = f; tally = t }) (record { stage = i; kind = l; views = v'; points = p'; wrote = w'; files = f'; tally = t' })
+same-count i k l v v' p p' w w' f f' t t' a b c d e g = cc
 
-module _ {S K : Type 0} (s : source.Ghosts S) (k : sink.Ghosts K) (stages : List StageSpec) (old new : List (Node (StageWork S K))) (works : List (StageWork S K))
-    (is_works : map work_of old ≡ works) (fresh : AreNewStages s k stages old) (lasted : AreLaterNodes s k old new) where
-  faults : StageWork S K → ℕ
+module _ {S K P Q : Type 0} (s : source.Ghosts S) (k : sink.Ghosts K) (fs : plug_type.Ghosts P) (ts : tally_type.Ghosts Q) (stages : List StageSpec) (old new : List (Node (StageWork S K P Q))) (works : List (StageWork S K P Q))
+    (is_works : map work_of old ≡ works) (fresh : AreNewStages s k fs ts stages old) (lasted : AreLaterNodes s k fs ts old new) where
+  faults : StageWork S K P Q → ℕ
   faults = faults_of s.faults k.faults
 
-  was : (i : ℕ) (v : StageWork S K) → slice_get works i ≡ Some v → (n : Node (StageWork S K)) × (slice_get old i ≡ Some n) × (work_of n ≡ v)
+  was : (i : ℕ) (v : StageWork S K P Q) → slice_get works i ≡ Some v → (n : Node (StageWork S K P Q)) × (slice_get old i ≡ Some n) × (work_of n ≡ v)
   was i v e = mapped-at work_of old i v (ap (λ xs. slice_get xs i) is_works ∙ e)
 
-  pub later : AreLater (faults_of s.faults k.faults) works (map work_of new)
+  pub later : AreLater fs ts (faults_of s.faults k.faults) works (map work_of new)
   later = record {
     count = length-mapped work_of new ∙ lasted.count ∙ sym (length-mapped work_of old) ∙ ap (λ xs. length xs) is_works;
     op = λ i v w e f.
@@ -94,28 +98,37 @@ module _ {S K : Type 0} (s : source.Ghosts S) (k : sink.Ghosts K) (stages : List
         let b = ap (faults_of s.faults k.faults) n.2 in
         let c = ap (faults_of s.faults k.faults) m.2 in
         omega (arith, a, b, c);
+    same = λ i v w e f.
+        let n = was i v e in
+        let m = mapped-at work_of new i w f in
+        let same = (lasted.each i n.0 m.0 n.1 m.1).holds in
+        (ap (filter_in fs) (sym m.2) ∙ same.0 ∙ ap (filter_in fs) n.2, ap (tally_in ts) (sym m.2) ∙ same.1 ∙ ap (tally_in ts) n.2);
+  }
+
+  -- what the works run on the nodes run on
+  run-on : (opened : Opened) → AreGiven s fs ts stages works opened → RunOn s fs ts stages old opened
+  run-on opened given = record {
+    tell = λ i n r e w. given.told i (work_of n) r (ap (λ xs. slice_get xs i) (sym is_works) ∙ map-at work_of old i n e) w;
+    handed = subst (λ ws. AreHandedIn fs ts stages ws opened.handed) (sym is_works) given.handed;
   }
 
   -- the node that stood at a place before the run
-  before : (i : ℕ) (m : Node (StageWork S K)) → slice_get new i ≡ Some m → (n : Node (StageWork S K)) × (slice_get old i ≡ Some n)
+  before : (i : ℕ) (m : Node (StageWork S K P Q)) → slice_get new i ≡ Some m → (n : Node (StageWork S K P Q)) × (slice_get old i ≡ Some n)
   before i m e = some_at old i (let a = slice_get_within new i m e in let b = lasted.count in omega (arith, a, b))
 
-  after : (i : ℕ) → i < length stages → (m : Node (StageWork S K)) × (slice_get new i ≡ Some m)
+  after : (i : ℕ) → i < length stages → (m : Node (StageWork S K P Q)) × (slice_get new i ≡ Some m)
   after i lt = some_at new i (let a = lasted.count in let b = fresh.count in omega (arith, a, b, lt))
 
-  module _ (ran : AreRanStages s k stages old new) (opened : Opened) (tell : AreTold s works opened) where
-    readers-tell : ReadersTell s old opened
-    readers-tell i n r e w = tell i (work_of n) r (ap (λ xs. slice_get xs i) (sym is_works) ∙ map-at work_of old i n e) w
-
-    module _ (none : (i : ℕ) (m : Node (StageWork S K)) → slice_get new i ≡ Some m → is_device m.fault ≡ false) where
-      ends : (i : ℕ) (m : Node (StageWork S K)) → slice_get new i ≡ Some m → EndsAsStage s k stages opened i m
-      ends = ran none opened readers-tell
+  module _ (ran : AreRanStages s k fs ts stages old new) (opened : Opened) (tell : AreGiven s fs ts stages works opened) where
+    module _ (none : (i : ℕ) (m : Node (StageWork S K P Q)) → slice_get new i ≡ Some m → is_device m.fault ≡ false) where
+      ends : (i : ℕ) (m : Node (StageWork S K P Q)) → slice_get new i ≡ Some m → EndsAsStage s k fs ts stages opened i m
+      ends = ran none opened (run-on opened tell)
 
       -- a node without a fault is one of a stage without a fault
-      sound-at : (i : ℕ) (m : Node (StageWork S K)) → slice_get new i ≡ Some m → m.fault ≡ None → stage_fault stages opened i ≡ None
+      sound-at : (i : ℕ) (m : Node (StageWork S K P Q)) → slice_get new i ≡ Some m → m.fault ≡ None → stage_fault stages opened i ≡ None
       sound-at i m e f = no-point (stage_fault stages opened i) (sym f ∙ (ends i m e).fault)
 
-      pub came : ((i : ℕ) (m : Node (StageWork S K)) → slice_get new i ≡ Some m → m.fault ≡ None) → (counts : List StageCount) → length counts ≡ length stages → AreCounted stages new counts → CameToEnd k.bytes stages opened (map work_of new) counts
+      pub came : ((i : ℕ) (m : Node (StageWork S K P Q)) → slice_get new i ≡ Some m → m.fault ≡ None) → (counts : List StageCount) → length counts ≡ length stages → AreCounted ts stages new counts → CameToEnd k.bytes stages opened (map work_of new) counts
       came sound counts size counted = record {
         sound = least-nowhere (stage_fault stages opened) (length stages) (λ j lt. let m = after j lt in sound-at j m.0 m.1 (sound j m.0 m.1));
         counted = same-lists counts (counts_of stages opened) (size ∙ sym (length-map-range_with_len (count_at stages opened) 0 (length stages))) count-is;
@@ -124,14 +137,16 @@ module _ {S K : Type 0} (s : source.Ghosts S) (k : sink.Ghosts K) (stages : List
         keeps = λ i w e. let m = mapped-at work_of new i w e in ap keeps_of (sym m.2) ∙ (ends i m.0 m.1).keeps;
       }
         where
-          one-count : (i : ℕ) (t : StageSpec) (m : Node (StageWork S K)) → slice_get stages i ≡ Some t → slice_get new i ≡ Some m → node_count i t m ≡ count_at stages opened i
+          one-count : (i : ℕ) (t : StageSpec) (m : Node (StageWork S K P Q)) → slice_get stages i ≡ Some t → slice_get new i ≡ Some m → node_count ts i t m ≡ count_at stages opened i
           one-count i t m e f =
               let g = (ends i m f).gave in
               let is = stage-is stages i t e in
-              same-count i t.kind ((stage_at stages i).kind) (up_to_limit m.views) _ (up_to_limit m.points) _ _ _ _ _
+              same-count i t.kind ((stage_at stages i).kind) (up_to_limit m.views) _ (up_to_limit m.points) _ _ _ _ _ _ _
               (ap (λ (x : StageSpec). x.kind) (sym is)) g.views g.points
-              ((ends i m f).wrote (sound i m f) ∙ wrote-is (options_at stages i) (setting_at stages opened i) (stage_input stages opened i) (stage_value stages opened i))
+              (ap (λ w. or_shown w (shown_by m.work)) ((ends i m f).wrote (sound i m f) ∙ wrote-is (options_at stages i) (setting_at stages opened i) (stage_input stages opened i) (stage_value stages opened i))
+              ∙ ap (or_shown (wrote_with (role_at stages i) (row_at stages opened i) (stage_input stages opened i) (stage_value stages opened i))) ((ends i m f).says (sound i m f)).shown)
               ((ends i m f).files ∙ files-are (options_at stages i) (setting_at stages opened i) (stage_value stages opened i))
+              ((ends i m f).says (sound i m f)).says
 
           count-is : (i : ℕ) → i < length counts → slice_get counts i ≡ slice_get (counts_of stages opened) i
           count-is i lt =
@@ -145,7 +160,7 @@ module _ {S K : Type 0} (s : source.Ghosts S) (k : sink.Ghosts K) (stages : List
               zero-first n = omega arith
 
   -- the device of a node with such a fault failed
-  failed-at : (i : ℕ) (o : Op) (m : Node (StageWork S K)) → slice_get new i ≡ Some m → m.fault ≡ Some (stage.Device o) → FailedAt (faults_of s.faults k.faults) works (map work_of new) i o
+  failed-at : (i : ℕ) (o : Op) (m : Node (StageWork S K P Q)) → slice_get new i ≡ Some m → m.fault ≡ Some (stage.Device o) → FailedAt (faults_of s.faults k.faults) works (map work_of new) i o
   failed-at i o m at is =
       let n = before i m at in
       let later = lasted.each i n.0 m n.1 at in
@@ -159,10 +174,10 @@ module _ {S K : Type 0} (s : source.Ghosts S) (k : sink.Ghosts K) (stages : List
       }
 
   -- so the stages of the nodes have ended
-  pub have-ended : AreRanStages s k stages old new → (found : List (Option StageFault)) (counts : List StageCount) → AreFaultsOf new found → length counts ≡ length stages → AreCounted stages new counts
-      → HaveEnded s k stages works (map work_of new) found counts
+  pub have-ended : AreRanStages s k fs ts stages old new → (found : List (Option StageFault)) (counts : List StageCount) → AreFaultsOf new found → length counts ≡ length stages → AreCounted ts stages new counts
+      → HaveEnded s k fs ts stages works (map work_of new) found counts
   have-ended ran found counts are size counted = record {
-    count = ap (λ fs. length fs) are ∙ length-mapped (λ (n : Node (StageWork S K)). n.fault) new ∙ lasted.count ∙ fresh.count;
+    count = ap (λ fs. length fs) are ∙ length-mapped (λ (n : Node (StageWork S K P Q)). n.fault) new ∙ lasted.count ∙ fresh.count;
     caused = λ i o e. let m = node-of new i (stage.Device o) (ap (λ fs. fault_at fs i) (sym are) ∙ e) in failed-at i o m.0 m.1 m.2;
     faulty = λ none opened tell i lt.
         let m = after i lt in
@@ -170,44 +185,52 @@ module _ {S K : Type 0} (s : source.Ghosts S) (k : sink.Ghosts K) (stages : List
     sound = λ sound opened tell. came ran opened tell (λ i m e. ap is_device (quiet sound i m e)) (quiet sound) counts size counted;
   }
     where
-      told : (i : ℕ) (m : Node (StageWork S K)) → slice_get new i ≡ Some m → fault_at found i ≡ m.fault
+      told : (i : ℕ) (m : Node (StageWork S K P Q)) → slice_get new i ≡ Some m → fault_at found i ≡ m.fault
       told i m e = ap (λ fs. fault_at fs i) are ∙ fault-of new i m e
 
-      calm : NoneFailed found → (i : ℕ) (m : Node (StageWork S K)) → slice_get new i ≡ Some m → is_device m.fault ≡ false
+      calm : NoneFailed found → (i : ℕ) (m : Node (StageWork S K P Q)) → slice_get new i ≡ Some m → is_device m.fault ≡ false
       calm none i m e = ap is_device (sym (told i m e)) ∙ none i
 
-      quiet : AreSound found → (i : ℕ) (m : Node (StageWork S K)) → slice_get new i ≡ Some m → m.fault ≡ None
+      quiet : AreSound found → (i : ℕ) (m : Node (StageWork S K P Q)) → slice_get new i ≡ Some m → m.fault ≡ None
       quiet sound i m e = sym (told i m e) ∙ sound i
 
   -- so have those of nodes whose turns ended at a fault
-  pub have-stopped : AreStoppedStages s k stages old new → (found : List (Option StageFault)) (counts : List StageCount) → AreFaultsOf new found → (AreSound found → ⊥)
-      → HaveEndedBy s k First stages works (map work_of new) found counts
+  pub have-stopped : AreStoppedStages s k fs ts stages old new → (found : List (Option StageFault)) (counts : List StageCount) → AreFaultsOf new found → (AreSound found → ⊥)
+      → HaveEndedBy s k fs ts First stages works (map work_of new) found counts
   have-stopped stopped found counts are faulty = record {
-    count = ap (λ fs. length fs) are ∙ length-mapped (λ (n : Node (StageWork S K)). n.fault) new ∙ lasted.count ∙ fresh.count;
+    count = ap (λ fs. length fs) are ∙ length-mapped (λ (n : Node (StageWork S K P Q)). n.fault) new ∙ lasted.count ∙ fresh.count;
     caused = λ i o e. let m = node-of new i (stage.Device o) (ap (λ fs. fault_at fs i) (sym are) ∙ e) in failed-at i o m.0 m.1 m.2;
     faulty = λ none opened tell i f e.
         let m = node-of new i f (ap (λ fs. fault_at fs i) (sym are) ∙ e) in
-        (stopped (λ j n at. ap is_device (sym (ap (λ fs. fault_at fs j) are ∙ fault-of new j n at)) ∙ none j) opened
-        (λ j n r at w. tell j (work_of n) r (ap (λ xs. slice_get xs j) (sym is_works) ∙ map-at work_of old j n at) w)).1 i m.0 f m.1 m.2;
+        (stopped (λ j n at. ap is_device (sym (ap (λ fs. fault_at fs j) are ∙ fault-of new j n at)) ∙ none j) opened (run-on opened tell)).1 i m.0 f m.1 m.2;
     sound = λ sound. absurd (faulty sound);
   }
 
 -- works that stay
-pub same-later : {S K : Type 0} (faults : StageWork S K → ℕ) (old new : List (StageWork S K)) → new ≡ old → AreLater faults old new
-same-later faults old new e = subst (AreLater faults old) (sym e) (record { count = refl; op = λ i v w a b. ap op_of (stays i v w a b); later = λ i v w a b. (let c = ap faults (stays i v w a b) in omega (arith, c)) })
+pub same-later : {S K P Q : Type 0} (fs : plug_type.Ghosts P) (ts : tally_type.Ghosts Q) (faults : StageWork S K P Q → ℕ) (old new : List (StageWork S K P Q)) → new ≡ old → AreLater fs ts faults old new
+same-later fs ts faults old new e = subst (AreLater fs ts faults old) (sym e) (record {
+  count = refl;
+  op = λ i v w a b. ap op_of (stays i v w a b);
+  later = λ i v w a b. (let c = ap faults (stays i v w a b) in omega (arith, c));
+  same = λ i v w a b. (ap (filter_in fs) (stays i v w a b), ap (tally_in ts) (stays i v w a b));
+})
   where
-    stays : (i : ℕ) (v w : StageWork _ _) → slice_get old i ≡ Some v → slice_get old i ≡ Some w → w ≡ v
+    stays : (i : ℕ) (v w : StageWork _ _ _ _) → slice_get old i ≡ Some v → slice_get old i ≡ Some w → w ≡ v
     stays i v w a b = let c : Some v ≡ Some w = sym a ∙ b in cc
 
-module _ {S K : Type 0} (faults : StageWork S K → ℕ) (old now new : List (StageWork S K)) (first : AreLater faults old now) (second : AreLater faults now new) where
-  mid : (i : ℕ) (v : StageWork S K) → slice_get old i ≡ Some v → (x : StageWork S K) × (slice_get now i ≡ Some x)
+module _ {S K P Q : Type 0} {fs : plug_type.Ghosts P} {ts : tally_type.Ghosts Q} (faults : StageWork S K P Q → ℕ) (old now new : List (StageWork S K P Q)) (first : AreLater fs ts faults old now) (second : AreLater fs ts faults now new) where
+  mid : (i : ℕ) (v : StageWork S K P Q) → slice_get old i ≡ Some v → (x : StageWork S K P Q) × (slice_get now i ≡ Some x)
   mid i v e = some_at now i (let a = slice_get_within old i v e in let b = first.count in omega (arith, a, b))
 
-  pub later-on : AreLater faults old new
+  pub later-on : AreLater fs ts faults old new
   later-on = record {
     count = second.count ∙ first.count;
     op = λ i v w e f. let x = mid i v e in second.op i x.0 w x.1 f ∙ first.op i v x.0 e x.1;
     later = λ i v w e f. let x = mid i v e in let a = first.later i v x.0 e x.1 in let b = second.later i x.0 w x.1 f in omega (arith, a, b);
+    same = λ i v w e f. let x = mid i v e in
+        let a = first.same i v x.0 e x.1 in
+        let b = second.same i x.0 w x.1 f in
+        (b.0 ∙ a.0, b.1 ∙ a.1);
   }
 
   pub done-on : (bytes : K → Option (List ℕ)) (stages : List StageSpec) (opened : Opened) (counts : List StageCount) → AreFinished bytes now new → AreKept now new → CameToEnd bytes stages opened now counts → AreDone bytes stages opened new counts

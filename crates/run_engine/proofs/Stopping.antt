@@ -25,23 +25,26 @@ use Rattle.run_engine.specs.declared.job.Step.TheVariants.{Turns, Whole}
 use Rattle.run_engine.specs.declared.room.TurnRoom.{TurnRoom}
 use Rattle.run_engine.specs.Jobs.{IsWaiting}
 use Rattle.run_engine.specs.Stopping.{HaveFaultsBy, HaveEndedBy, IsCauseBy, ends_at}
+use Rattle.plug_stages.specs.declared.filter.PlugFilter as plug_type
+use Rattle.plug_stages.specs.declared.tally.PlugTally as tally_type
+use Rattle.plug_stages.specs.Handed.{Handed}
 
 -- ---- causes
 
-pub cause-by : (rose : Type 0) (map : Option Names) (stages : List StageSpec) (stop : Stop) (r : Refusal) → IsCause rose map stages r → IsCauseBy stop rose map stages r
-cause-by rose map stages Last (of.Data i f) c = c
-cause-by rose map stages First (of.Data i f) c = λ m e. inl (c m e)
-cause-by rose map stages stop of.Memory c = c
-cause-by rose map stages stop (of.Device p o) c = c
-cause-by rose map stages stop (of.Pipeline f) c = c
-cause-by rose map stages stop (of.Usage k) c = c
+pub cause-by : (rose : Type 0) (handed : Handed) (map : Option Names) (stages : List StageSpec) (stop : Stop) (r : Refusal) → IsCause rose handed map stages r → IsCauseBy stop rose handed map stages r
+cause-by rose handed map stages Last (of.Data i f) c = c
+cause-by rose handed map stages First (of.Data i f) c = λ m e. inl (c m e)
+cause-by rose handed map stages stop of.Memory c = c
+cause-by rose handed map stages stop (of.Device p o) c = c
+cause-by rose handed map stages stop (of.Pipeline f) c = c
+cause-by rose handed map stages stop (of.Usage k) c = c
 
-pub cause-by-weaker : {P Q : Type 0} (stop : Stop) (map : Option Names) (stages : List StageSpec) (r : Refusal) → (P → Q) → IsCauseBy stop P map stages r → IsCauseBy stop Q map stages r
-cause-by-weaker stop map stages (of.Data i f) g c = c
-cause-by-weaker stop map stages of.Memory g c = cause-weaker map stages of.Memory g c
-cause-by-weaker stop map stages (of.Device p o) g c = cause-weaker map stages (of.Device p o) g c
-cause-by-weaker stop map stages (of.Pipeline f) g c = cause-weaker map stages (of.Pipeline f) g c
-cause-by-weaker stop map stages (of.Usage k) g c = cause-weaker map stages (of.Usage k) g c
+pub cause-by-weaker : {P Q : Type 0} (stop : Stop) (handed : Handed) (map : Option Names) (stages : List StageSpec) (r : Refusal) → (P → Q) → IsCauseBy stop P handed map stages r → IsCauseBy stop Q handed map stages r
+cause-by-weaker stop handed map stages (of.Data i f) g c = c
+cause-by-weaker stop handed map stages of.Memory g c = cause-weaker handed map stages of.Memory g c
+cause-by-weaker stop handed map stages (of.Device p o) g c = cause-weaker handed map stages (of.Device p o) g c
+cause-by-weaker stop handed map stages (of.Pipeline f) g c = cause-weaker handed map stages (of.Pipeline f) g c
+cause-by-weaker stop handed map stages (of.Usage k) g c = cause-weaker handed map stages (of.Usage k) g c
 
 -- ---- what they come to
 
@@ -56,9 +59,9 @@ all-seen Last stages opened found size have = have
 all-seen First stages opened found size have = λ i f e. sym (have i (let l = fault-inside found i f e in omega (arith, l, size))) ∙ e
 
 -- stages that ended have ended, wherever turns may end
-pub ended-by : {S K : Type 0} (s : source.Ghosts S) (k : sink.Ghosts K) (stop : Stop) (stages : List StageSpec) (old new : List (StageWork S K)) (found : List (Option StageFault)) (counts : List StageCount)
-    → HaveEnded s k stages old new found counts → HaveEndedBy s k stop stages old new found counts
-ended-by s k stop stages old new found counts ended = record {
+pub ended-by : {S K P Q : Type 0} (s : source.Ghosts S) (k : sink.Ghosts K) (fs : plug_type.Ghosts P) (ts : tally_type.Ghosts Q) (stop : Stop) (stages : List StageSpec) (old new : List (StageWork S K P Q)) (found : List (Option StageFault)) (counts : List StageCount)
+    → HaveEnded s k fs ts stages old new found counts → HaveEndedBy s k fs ts stop stages old new found counts
+ended-by s k fs ts stop stages old new found counts ended = record {
   count = ended.count;
   caused = ended.caused;
   faulty = λ none opened tell. all-seen stop stages opened found ended.count (ended.faulty none opened tell);
@@ -81,11 +84,11 @@ by-halt Fault m f = f refl
 
 -- ---- engines
 
-module _ {S K E : Type 0} (s : source.Ghosts S) (k : sink.Ghosts K) (fits : ℕ → ℕ → E → Type 0) (stages : List StageSpec) (stop : Stop) where
-  pub turns-stop : (chosen : Engine) (room : TurnRoom S K E) → IsWaiting s k fits chosen stages (Turns room) → stop ≡ ends_at chosen stop
+module _ {S K P Q E : Type 0} (s : source.Ghosts S) (k : sink.Ghosts K) (fs : plug_type.Ghosts P) (ts : tally_type.Ghosts Q) (fits : ℕ → ℕ → E → Type 0) (stages : List StageSpec) (stop : Stop) where
+  pub turns-stop : (chosen : Engine) (room : TurnRoom S K P Q E) → IsWaiting s k fs ts fits chosen stages (Turns room) → stop ≡ ends_at chosen stop
   turns-stop (engine.Queues shape) room waits = refl
   turns-stop engine.Whole room waits = absurd waits
 
-  pub whole-stop : (chosen : Engine) → IsWaiting s k fits chosen stages Whole → Last ≡ ends_at chosen stop
+  pub whole-stop : (chosen : Engine) → IsWaiting s k fs ts fits chosen stages Whole → Last ≡ ends_at chosen stop
   whole-stop engine.Whole waits = refl
   whole-stop (engine.Queues shape) waits = absurd waits

@@ -17,13 +17,16 @@ use Rattle.run_report.specs.declared.refusal.Refusal.{Refusal}
 use Rattle.run_report.specs.declared.refusal.Refusal.TheVariants as of
 use Rattle.answer_model.specs.Values.{Opened, stage_fault}
 use Rattle.answer_model.specs.Runs.{opened_in, run_of}
-use Rattle.stage_forms.specs.Starts.{AreTold}
+use Rattle.stage_forms.specs.Starts.{AreGiven}
+use Rattle.plug_stages.specs.Handed.{Handed}
 use Rattle.stage_forms.specs.Later.{CameToEnd}
 use Rattle.run_outcome.specs.Faults.{NoneFailed, AreSound, HaveFaults, fault_at}
 use Rattle.run_outcome.specs.Cause.{CanBegin, IsCause}
 use Rattle.set_engine.specs.Evaluated.{AreCaused}
 use Rattle.run_engine.specs.declared.engine.Engine.{Engine}
 use Rattle.run_engine.specs.declared.engine.Engine.TheVariants.{Queues, Whole}
+use Rattle.plug_stages.specs.declared.filter.PlugFilter as plug_type
+use Rattle.plug_stages.specs.declared.tally.PlugTally as tally_type
 
 -- ---- what they come to
 
@@ -33,11 +36,11 @@ HaveFaultsBy Last stages opened found = HaveFaults stages opened found
 HaveFaultsBy First stages opened found = (i : ℕ) (f : StageFault) → fault_at found i ≡ Some f → option_map stage.Point (stage_fault stages opened i) ≡ Some f
 
 -- as stages that are evaluated whole have ended, but that turns may have ended at a fault
-pub record HaveEndedBy {S K : Type 0} (s : source.Ghosts S) (k : sink.Ghosts K) (stop : Stop) (stages : List StageSpec) (old new : List (StageWork S K)) (found : List (Option StageFault)) (counts : List StageCount) : Type 0 where
+pub record HaveEndedBy {S K P Q : Type 0} (s : source.Ghosts S) (k : sink.Ghosts K) (fs : plug_type.Ghosts P) (ts : tally_type.Ghosts Q) (stop : Stop) (stages : List StageSpec) (old new : List (StageWork S K P Q)) (found : List (Option StageFault)) (counts : List StageCount) : Type 0 where
   pub count : length found ≡ length stages
   pub caused : AreCaused (faults_of s.faults k.faults) old new found
-  pub faulty : NoneFailed found → (opened : Opened) → AreTold s old opened → HaveFaultsBy stop stages opened found
-  pub sound : AreSound found → (opened : Opened) → AreTold s old opened → CameToEnd k.bytes stages opened new counts
+  pub faulty : NoneFailed found → (opened : Opened) → AreGiven s fs ts stages old opened → HaveFaultsBy stop stages opened found
+  pub sound : AreSound found → (opened : Opened) → AreGiven s fs ts stages old opened → CameToEnd k.bytes stages opened new counts
 
 -- where the turns of stages end by this engine: those that are evaluated whole take none, and all come to their end
 abbrev pub ends_at : Engine → Stop → Stop
@@ -47,16 +50,16 @@ ends_at Whole stop = Last
 -- ---- why they are refused
 
 -- a stage has this fault, in a run that can begin
-abbrev pub IsFaultIn : Names → List StageSpec → ℕ → Fault → Type 0
-IsFaultIn m stages i (fault.Point f) = CanBegin m stages × (stage_fault stages (opened_in m stages) i ≡ Some f)
-IsFaultIn m stages i f = ⊥
+abbrev pub IsFaultIn : Handed → Names → List StageSpec → ℕ → Fault → Type 0
+IsFaultIn handed m stages i (fault.Point f) = CanBegin handed m stages × (stage_fault stages (opened_in handed m stages) i ≡ Some f)
+IsFaultIn handed m stages i f = ⊥
 
 -- the data are refused for this: for what the run comes to, or, where turns end at the first fault, for any stage's fault
-abbrev pub IsRefusedFor : Stop → Names → List StageSpec → ℕ → Fault → Type 0
-IsRefusedFor Last m stages i f = run_of m stages ≡ Err (of.Data i f)
-IsRefusedFor First m stages i f = (run_of m stages ≡ Err (of.Data i f)) ⊎ IsFaultIn m stages i f
+abbrev pub IsRefusedFor : Stop → Handed → Names → List StageSpec → ℕ → Fault → Type 0
+IsRefusedFor Last handed m stages i f = run_of handed m stages ≡ Err (of.Data i f)
+IsRefusedFor First handed m stages i f = (run_of handed m stages ≡ Err (of.Data i f)) ⊎ IsFaultIn handed m stages i f
 
 -- why a run was refused whose turns end there
-abbrev pub IsCauseBy : Stop → Type 0 → Option Names → List StageSpec → Refusal → Type 0
-IsCauseBy stop rose map stages (of.Data i f) = (m : Names) → map ≡ Some m → IsRefusedFor stop m stages i f
-IsCauseBy stop rose map stages refusal = IsCause rose map stages refusal
+abbrev pub IsCauseBy : Stop → Type 0 → Handed → Option Names → List StageSpec → Refusal → Type 0
+IsCauseBy stop rose handed map stages (of.Data i f) = (m : Names) → map ≡ Some m → IsRefusedFor stop handed m stages i f
+IsCauseBy stop rose handed map stages refusal = IsCause rose handed map stages refusal

@@ -7,6 +7,7 @@ ghost use Rattle.run_engine.specs.Counted.{node_count, AreCounted, AreFaultsOf};
 
 use file_devices::{FileSink, Source};
 use network_core::Node;
+use plug_stages::{PlugFilter, PlugTally};
 use run_outcome::{Ended, StageFaults};
 use run_report::{Report, StageCount};
 use stage_kinds::StageWork;
@@ -14,33 +15,34 @@ use stage_options::StageSpec;
 use stage_runs::{Halt, any_fault};
 use std::alloc::AllocError;
 
-/// What the node of stage i gave on, and how many points and files it wrote.
-fn node_count<S: Source, K: FileSink>(
+/// What the node of stage i gave on, how many points it wrote or showed, how many files it wrote, and what its tally says.
+fn node_count<S: Source, K: FileSink, P: PlugFilter, Q: PlugTally>(
     i: u32,
     stage: &StageSpec,
-    node: &Node<StageWork<S, K>>,
+    node: &Node<StageWork<S, K, P, Q>>,
 ) -> StageCount
-    ensures { result ≡ node_count i stage.now node.now }
+    ensures { result ≡ node_count Q.PlugTally i stage.now node.now }
 {
     StageCount {
         stage: i,
         kind: stage.kind,
         views: node.views(),
         points: node.points(),
-        wrote: node.work().written(),
+        wrote: node.work().written().or(node.work().shown()),
         files: node.work().files(),
+        tally: node.work().says(),
     }
 }
 
 /// What the node of each stage gave on, and its fault.
-pub(crate) fn ended<S: Source, K: FileSink>(
+pub(crate) fn ended<S: Source, K: FileSink, P: PlugFilter, Q: PlugTally>(
     stages: &[StageSpec],
-    nodes: &[Node<StageWork<S, K>>],
+    nodes: &[Node<StageWork<S, K, P, Q>>],
 ) -> Ended
     requires fit { length nodes.now ≡ length stages.now }
     requires few { length stages.now ≤ 64 }
     ensures count { length result.report.items ≡ length stages.now }
-    ensures counted { AreCounted stages.now nodes.now result.report.items }
+    ensures counted { AreCounted Q.PlugTally stages.now nodes.now result.report.items }
     ensures faults { AreFaultsOf nodes.now result.faults.items }
 {
     let mut report = Report::new();
@@ -53,9 +55,9 @@ pub(crate) fn ended<S: Source, K: FileSink>(
 }
 
 /// The same of stages whose turns ended at a fault. Refuses exactly where none of the nodes has one.
-fn stopped<S: Source, K: FileSink>(
+fn stopped<S: Source, K: FileSink, P: PlugFilter, Q: PlugTally>(
     stages: &[StageSpec],
-    nodes: &[Node<StageWork<S, K>>],
+    nodes: &[Node<StageWork<S, K, P, Q>>],
 ) -> Result<Ended, AllocError>
     requires fit { length nodes.now ≡ length stages.now }
     requires few { length stages.now ≤ 64 }
@@ -70,10 +72,10 @@ fn stopped<S: Source, K: FileSink>(
 }
 
 /// What stages come to whose turns ended before all were done. Refuses where memory was wanting, and where none of the nodes has a fault.
-pub(crate) fn halted<S: Source, K: FileSink>(
+pub(crate) fn halted<S: Source, K: FileSink, P: PlugFilter, Q: PlugTally>(
     halt: Halt,
     stages: &[StageSpec],
-    nodes: &[Node<StageWork<S, K>>],
+    nodes: &[Node<StageWork<S, K, P, Q>>],
 ) -> Result<Ended, AllocError>
     requires fit { length nodes.now ≡ length stages.now }
     requires few { length stages.now ≤ 64 }

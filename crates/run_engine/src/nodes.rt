@@ -14,6 +14,7 @@ ghost use Rattle.stage_forms.specs.Starts.{AreAtStart};
 use cloud_points::Work;
 use file_devices::{FileSink, Source};
 use network_core::Node;
+use plug_stages::{PlugFilter, PlugTally};
 use stage_kinds::StageWork;
 use stage_options::StageSpec;
 
@@ -29,12 +30,12 @@ fn inputs_of(stages: &[StageSpec], number: usize) -> u32
 
 /// New nodes for the works of a tree's stages, each with as many inputs as its stage takes; leaves make at most `chunk` points
 /// at once. There is room for them.
-pub(crate) fn nodes_over<S: Source, K: FileSink>(
-    works: Vec<StageWork<S, K>>,
+pub(crate) fn nodes_over<S: Source, K: FileSink, P: PlugFilter, Q: PlugTally>(
+    works: Vec<StageWork<S, K, P, Q>>,
     stages: &[StageSpec],
     chunk: usize,
-    room: Vec<Node<StageWork<S, K>>>,
-) -> Vec<Node<StageWork<S, K>>>
+    room: Vec<Node<StageWork<S, K, P, Q>>>,
+) -> Vec<Node<StageWork<S, K, P, Q>>>
     requires tree { IsTree (shapes stages.now) }
     requires few { length stages.now ≤ 64 }
     requires own { HaveOwnOptions stages.now }
@@ -44,10 +45,10 @@ pub(crate) fn nodes_over<S: Source, K: FileSink>(
     requires room { length stages.now ≤ vec_capacity room }
     requires some { 0 < chunk }
     requires most { chunk ≤ 64 }
-    ensures new { AreNewStages S.Source K.Sink stages.now result.items }
+    ensures new { AreNewStages S.Source K.Sink P.PlugFilter Q.PlugTally stages.now result.items }
     ensures works { map work_of result.items ≡ works.items }
-    ensures chunk { (i : ℕ) (n : node_type.Node (work_type.StageWork S K)) → slice_get result.items i ≡ Some n
-        → (shown (as_works S.Source K.Sink) [] n).chunk ≡ chunk }
+    ensures chunk { (i : ℕ) (n : node_type.Node (work_type.StageWork S K P Q)) → slice_get result.items i ≡ Some n
+        → (shown (as_works S.Source K.Sink P.PlugFilter Q.PlugTally) [] n).chunk ≡ chunk }
 {
     let mut works = works;
     works.reverse();

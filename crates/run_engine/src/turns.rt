@@ -18,6 +18,7 @@ use crate::nodes::{nodes_over, works_in};
 use crate::room::TurnRoom;
 use file_devices::{FileSink, Source};
 use network_solo::Scheduler;
+use plug_stages::{PlugFilter, PlugTally};
 use run_ending::Ran;
 use run_outcome::Ended;
 use stage_kinds::StageWork;
@@ -27,26 +28,32 @@ use std::alloc::{AllocError, Global};
 
 /// Lets the stages of a tree take turns, part by part, in their memory, until all are done, or as the scheduler has it one has a fault. It
 /// answers what each stage gave on and its fault. Refuses only where a stage needs whole views and memory is wanting.
-pub(crate) fn turn_works<S: Source, K: FileSink, T: Scheduler<StageWork<S, K>>>(
+pub(crate) fn turn_works<
+    S: Source,
+    K: FileSink,
+    P: PlugFilter,
+    Q: PlugTally,
+    T: Scheduler<StageWork<S, K, P, Q>>,
+>(
     alloc: Global,
     scheduler: &T,
-    works: Vec<StageWork<S, K>>,
+    works: Vec<StageWork<S, K, P, Q>>,
     stages: &[StageSpec],
-    room: TurnRoom<S, K, T::Edges>,
-) -> Ran<S, K, Result<Ended, AllocError>>
+    room: TurnRoom<S, K, P, Q, T::Edges>,
+) -> Ran<S, K, P, Q, Result<Ended, AllocError>>
     requires sound { T.sound scheduler.now }
     requires tree { IsTree (shapes stages.now) }
     requires own { HaveOwnOptions stages.now }
     requires few { length stages.now ≤ 64 }
     requires starts { AreAtStart K.bytes stages.now works.items }
     requires count { length works.items ≡ length stages.now }
-    requires room { IsTurnRoom S.Source K.Sink T.fits room.shape stages.now room }
-    ensures later { AreLater (faults_of S.faults K.faults) works.items result.works.items }
-    ensures ended { IfOk result.outcome (λ ended. HaveEndedBy S.Source K.Sink (T.stop scheduler.now)
+    requires room { IsTurnRoom S.Source K.Sink P.PlugFilter Q.PlugTally T.fits room.shape stages.now room }
+    ensures later { AreLater P.PlugFilter Q.PlugTally (faults_of S.faults K.faults) works.items result.works.items }
+    ensures ended { IfOk result.outcome (λ ended. HaveEndedBy S.Source K.Sink P.PlugFilter Q.PlugTally (T.stop scheduler.now)
         stages.now works.items result.works.items ended.faults.items ended.report.items) }
     ensures gathers { OnErr result.outcome (SomeGathers stages.now) }
     ensures ahead { IfOk result.outcome (λ ended. T.stop scheduler.now ≡ First
-        → AreReadAhead S.Source stages.now room.shape.queue room.shape.chunk works.items
+        → AreReadAhead S.Source P.PlugFilter Q.PlugTally stages.now room.shape.queue room.shape.chunk works.items
         result.works.items ended.faults.items) }
 {
     let TurnRoom {

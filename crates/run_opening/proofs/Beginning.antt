@@ -11,6 +11,7 @@ use Rattle.answer_model.specs.Values.{role_at}
 use Rattle.answer_model.specs.Runs.{AreRead, run_of}
 use Rattle.run_outcome.specs.Cause.{CanBegin, IsCause, AtRole}
 use Rattle.run_opening.specs.Opening.{IsUncreated}
+use Rattle.plug_stages.specs.Handed.{Handed}
 
 at-writer : (earlier all right : Type 0) (role : Role) → is_writing role ≡ true → all → AtRole earlier all right role op.Create × AtRole earlier all right role op.Write
 at-writer earlier all right (Reads name) w a = cc
@@ -20,20 +21,20 @@ at-writer earlier all right (WritesEach name) w a = cc
 at-writer earlier all right (Writes name) w a = (a, a)
 
 -- a writer whose file couldn't be created is the cause, once all readers' files were read and all names are bound
-pub uncreated-cause : (rose : Type 0) (map : Option Names) (stages : List StageSpec) (i : ℕ) (refusal : Refusal) → i < length stages → ((m : Names) → map ≡ Some m → CanBegin m stages)
-    → is_writing (role_at stages i) ≡ true → IsUncreated rose i refusal → IsCause rose map stages refusal
-uncreated-cause rose map stages i of.Memory lt come writes why = tt
-uncreated-cause rose map stages i (of.Device (at.Stage j) op.Create) lt come writes why = subst (λ k. IsCause rose map stages (of.Device (at.Stage k) op.Create)) (sym why.0)
-    (inr (why.1, λ m e. record { inside = lt; come = (at-writer (AreRead m stages i) (CanBegin m stages) (IsOk (run_of m stages)) (role_at stages i) writes (come m e)).0; patched = λ p. cc }))
-uncreated-cause rose map stages i (of.Device (at.Stage j) op.Write) lt come writes why = subst (λ k. IsCause rose map stages (of.Device (at.Stage k) op.Write)) (sym why.0)
-    (inr (why.1, λ m e. record { inside = lt; come = (at-writer (AreRead m stages i) (CanBegin m stages) (IsOk (run_of m stages)) (role_at stages i) writes (come m e)).1; patched = λ p. cc }))
-uncreated-cause rose map stages i (of.Device (at.Stage j) op.Open) lt come writes why = absurd why
-uncreated-cause rose map stages i (of.Device (at.Stage j) op.Read) lt come writes why = absurd why
-uncreated-cause rose map stages i (of.Device (at.Stage j) op.Patch) lt come writes why = absurd why
-uncreated-cause rose map stages i (of.Device (at.Stage j) op.Keep) lt come writes why = absurd why
-uncreated-cause rose map stages i (of.Device at.PipelineFile o) lt come writes why = absurd why
-uncreated-cause rose map stages i (of.Device at.Generated o) lt come writes why = absurd why
-uncreated-cause rose map stages i (of.Device at.Out o) lt come writes why = absurd why
-uncreated-cause rose map stages i (of.Data j f) lt come writes why = absurd why
-uncreated-cause rose map stages i (of.Pipeline f) lt come writes why = absurd why
-uncreated-cause rose map stages i (of.Usage k) lt come writes why = absurd why
+pub uncreated-cause : (rose : Type 0) (handed : Handed) (map : Option Names) (stages : List StageSpec) (i : ℕ) (refusal : Refusal) → i < length stages → ((m : Names) → map ≡ Some m → CanBegin handed m stages)
+    → is_writing (role_at stages i) ≡ true → IsUncreated rose i refusal → IsCause rose handed map stages refusal
+uncreated-cause rose handed map stages i of.Memory lt come writes why = tt
+uncreated-cause rose handed map stages i (of.Device (at.Stage j) op.Create) lt come writes why = subst (λ k. IsCause rose handed map stages (of.Device (at.Stage k) op.Create)) (sym why.0)
+    (inr (why.1, λ m e. record { inside = lt; come = (at-writer (AreRead m stages i) (CanBegin handed m stages) (IsOk (run_of handed m stages)) (role_at stages i) writes (come m e)).0; patched = λ p. cc }))
+uncreated-cause rose handed map stages i (of.Device (at.Stage j) op.Write) lt come writes why = subst (λ k. IsCause rose handed map stages (of.Device (at.Stage k) op.Write)) (sym why.0)
+    (inr (why.1, λ m e. record { inside = lt; come = (at-writer (AreRead m stages i) (CanBegin handed m stages) (IsOk (run_of handed m stages)) (role_at stages i) writes (come m e)).1; patched = λ p. cc }))
+uncreated-cause rose handed map stages i (of.Device (at.Stage j) op.Open) lt come writes why = absurd why
+uncreated-cause rose handed map stages i (of.Device (at.Stage j) op.Read) lt come writes why = absurd why
+uncreated-cause rose handed map stages i (of.Device (at.Stage j) op.Patch) lt come writes why = absurd why
+uncreated-cause rose handed map stages i (of.Device (at.Stage j) op.Keep) lt come writes why = absurd why
+uncreated-cause rose handed map stages i (of.Device at.PipelineFile o) lt come writes why = absurd why
+uncreated-cause rose handed map stages i (of.Device at.Generated o) lt come writes why = absurd why
+uncreated-cause rose handed map stages i (of.Device at.Out o) lt come writes why = absurd why
+uncreated-cause rose handed map stages i (of.Data j f) lt come writes why = absurd why
+uncreated-cause rose handed map stages i (of.Pipeline f) lt come writes why = absurd why
+uncreated-cause rose handed map stages i (of.Usage k) lt come writes why = absurd why

@@ -1,5 +1,5 @@
 -- One stage more is bound.
-use Rattle.std.proofs.Common.{◌≡◌, ℕ, suc, ◌+◌, ◌<◌, ◌||◌, Bool, true, false, true≢false, List, [], length, slice_get, Option, Some, None, refl, ap, sym, subst, ◌∙◌, arith, inl, inr}
+use Rattle.std.proofs.Common.{◌≡◌, ℕ, suc, ◌+◌, ◌<◌, ◌||◌, Bool, true, false, true≢false, List, [], length, slice_get, is_some, Option, Some, None, refl, ap, sym, subst, ◌∙◌, arith, inl, inr}
 use Rattle.std.proofs.Math.Bool.{or-false, or_assoc}
 use Rattle.std.proofs.lemmas.Bool.Decides.{eqb_tells}
 use Rattle.cloud_points.specs.Layouts.{holds}
@@ -7,9 +7,10 @@ use Rattle.cloud_points.specs.declared.dims.Dim.{Dim}
 use Rattle.cloud_points.specs.declared.extra.ExtraField.{ExtraField}
 use Rattle.forward_rules.specs.Forwarded.{ReadFile}
 use Rattle.las_reader.specs.declared.reader.LasReader.{LasReader}
-use Rattle.stage_options.specs.Roles.{is_reading, is_writing, role_of}
+use Rattle.stage_options.specs.Roles.{is_reading, is_writing, plug_of, role_of, tally_of, writing_by}
+use Rattle.stage_options.specs.Values.{is_numbered}
 use Rattle.stage_options.specs.declared.options.Options.{Options}
-use Rattle.stage_options.specs.declared.options.Options.TheVariants.{ReadersLas}
+use Rattle.stage_options.specs.declared.options.Options.TheVariants.{ReadersLas, WritersLas, WritersText}
 use Rattle.stage_names.specs.declared.faults.PipeErr.{PipeErr}
 use Rattle.stage_names.specs.declared.faults.PipeErr.TheVariants.{Fault, Memory}
 use Rattle.stage_names.specs.declared.faults.PipeFault.{PipeFault}
@@ -26,9 +27,10 @@ use Rattle.run_report.specs.declared.refusal.Refusal.TheVariants as of
 use Rattle.answer_model.specs.Values.{Opened, dims_taken, fields_found, found_at, gives_dim, is_of_fields, names_at, names_past, options_at, unbound, unbound_at}
 use Rattle.answer_model.proofs.Least.{least-at}
 use Rattle.answer_model.specs.Rows.{Setting}
-use Rattle.stage_forms.specs.Starts.{IsGood, form_for}
+use Rattle.stage_forms.specs.Starts.{IsGood, form_for, tells_points, writes_as}
 use Rattle.stage_forms.proofs.Works.{IsRow, row-is}
 use Rattle.stage_kinds.specs.declared.file_form.StageForm.{StageForm}
+use Rattle.stage_kinds.specs.declared.file_form.Writing.{Writing}
 use Rattle.stage_kinds.specs.declared.file_form.StageForm.TheVariants as formed
 use Rattle.run_opening.specs.Begun.{AreNamesBound, IsForm, IsUnbound}
 use Rattle.run_opening.specs.Binding.{IsUnboundAt}
@@ -55,7 +57,7 @@ none-found o read e = refl
 pub found-is : {S : Type 0} (stages : List StageSpec) (readers : List (Option (LasReader S))) (opened : Opened) → AreReaders stages readers → HaveReaders readers opened
     → (i : ℕ) (reader : Option (LasReader S)) → slice_get readers i ≡ Some reader → found_of (options_at stages i) reader ≡ found_at stages opened i
 found-is stages readers opened fit have i (Some r) at = ap (fields_found (options_at stages i)) (sym (have i r at))
-found-is stages readers opened fit have i None at = sym (none-found (options_at stages i) (opened i).read (sym (fit i None at)))
+found-is stages readers opened fit have i None at = sym (none-found (options_at stages i) (opened.file i).read (sym (fit i None at)))
 
 -- so many are bound, and one more
 pub more-bound : {S : Type 0} (stages : List StageSpec) (readers : List (Option (LasReader S))) (i : ℕ) → AreNamesBound stages readers i
@@ -103,12 +105,34 @@ dims-past names after o found dim old mid new first then behind =
 pub no-fields : (names : List (List ℕ)) (o : Options) (dim : Dim) (old new : Bool) → new ≡ (old || adds names o dim) → new ≡ (old || gives_dim names o [] dim)
 no-fields names o dim old new e = e ∙ ap (λ b. old || b) (sym (or-false (adds names o dim)))
 
+-- it shows points to a filter
+abbrev shows_filter : StageForm → Bool
+shows_filter (formed.Plugs only) = true
+shows_filter _ = false
+
+no-writer-shows : (each : Bool) (name : List ℕ) (x : Writing) → (shows_filter (writes_as (writing_by each name) x) ≡ false) × (tells_points (writes_as (writing_by each name) x) ≡ false)
+no-writer-shows true name x = (refl, refl)
+no-writer-shows false name x = (refl, refl)
+
+-- exactly where its options name one
+filter-shown : (o : Options) (setting : Setting) → shows_filter (form_for o setting) ≡ is_some (plug_of o)
+filter-shown (WritersLas o) setting = (no-writer-shows (is_numbered o.filename) o.filename _).0
+filter-shown (WritersText o) setting = (no-writer-shows (is_numbered o.filename) o.filename _).0
+filter-shown o setting = refl
+
+tally-shown : (o : Options) (setting : Setting) → tells_points (form_for o setting) ≡ is_some (tally_of o)
+tally-shown (WritersLas o) setting = (no-writer-shows (is_numbered o.filename) o.filename _).1
+tally-shown (WritersText o) setting = (no-writer-shows (is_numbered o.filename) o.filename _).1
+tally-shown o setting = refl
+
 -- what its work is made of does what the stage does
-pub form-fits : (o : Options) (setting : Setting) (form : StageForm) → form ≡ form_for o setting → IsGood form → IsForm (role_of o) form
-form-fits o setting form e good = go form (subst (λ f. IsRow f o setting) (sym e) (row-is o setting)) good
+pub form-fits : (o : Options) (setting : Setting) (form : StageForm) → form ≡ form_for o setting → IsGood form → IsForm o form
+form-fits o setting form e good = go form e (subst (λ f. IsRow f o setting) (sym e) (row-is o setting)) good
   where
-    go : (form : StageForm) → IsRow form o setting → IsGood form → IsForm (role_of o) form
-    go (formed.Reads fields) row good = row.0
-    go (formed.Filters f) row good = row.does
-    go (formed.Gathers m) row good = (row.0.device, row.0.inner, good)
-    go (formed.Writes x) row good = (ap is_writing row.does, good)
+    go : (form : StageForm) → form ≡ form_for o setting → IsRow form o setting → IsGood form → IsForm o form
+    go (formed.Reads fields) e row good = row.0
+    go (formed.Filters f) e row good = row.does
+    go (formed.Plugs only) e row good = (row.does, sym (ap shows_filter e ∙ filter-shown o setting))
+    go (formed.Tallies only) e row good = (row.does, sym (ap tells_points e ∙ tally-shown o setting))
+    go (formed.Gathers m) e row good = (row.0.device, row.0.inner, good)
+    go (formed.Writes x) e row good = (ap is_writing row.does, good)

@@ -8,6 +8,7 @@ use Rattle.file_devices.specs.declared.devices.Op.TheVariants as op
 use Rattle.file_devices.specs.declared.devices.Source as source
 use Rattle.file_devices.specs.declared.devices.Sink as sink
 use Rattle.cloud_points.specs.declared.extra.ExtraField.{ExtraField}
+use Rattle.cloud_points.specs.declared.layout.Layout.{Layout}
 use Rattle.forward_rules.specs.Forwarded.{read_file}
 use Rattle.las_header.specs.declared.block.Header.{Header}
 use Rattle.las_reader.specs.Files.{las_with}
@@ -17,7 +18,7 @@ use Rattle.stage_forms.specs.Below.{AreReaders, HaveReaders, Tells, read_of}
 use Rattle.stage_kinds.specs.declared.file_form.StageForm.{StageForm}
 use Rattle.stage_kinds.specs.declared.file_form.StageForm.TheVariants as formed
 use Rattle.stage_kinds.specs.declared.stage_work.StageWork.{StageWork}
-use Rattle.stage_kinds.specs.declared.stage_work.StageWork.TheVariants.{Reader, Filter, Collector, Views, ViewFiles, Writer}
+use Rattle.stage_kinds.specs.declared.stage_work.StageWork.TheVariants.{Reader, Filter, Plug, Tally, Collector, Views, ViewFiles, Writer}
 use Rattle.stage_kinds.specs.Held.{op_of}
 use Rattle.stage_options.specs.Roles.{Role, Reads, Filters, Gathers, Writes, WritesEach, role_of, is_reading, is_writing}
 use Rattle.stage_options.specs.declared.options.Options.{Options}
@@ -30,10 +31,11 @@ use Rattle.answer_model.specs.Runs.{AreRead, holds, unread, unread_at, unless_un
 use Rattle.stage_forms.specs.Starts.{IsAtStart, IsStarted, form_for, op_for}
 use Rattle.stage_forms.proofs.Works.{op-at-start, reader-start}
 use Rattle.answer_model.proofs.Least.{least-at}
-use Rattle.run_opening.specs.Begun.{IsInFront, IsReading, IsOpened, AreOpened, IsWork, read_with, reader_of}
+use Rattle.run_opening.specs.Begun.{IsInFront, over_files, IsLaidOut, IsReading, IsOpened, AreOpened, IsWork, read_with, reader_of}
 use Rattle.run_outcome.specs.Cause.{CanBegin, IsCause, AtRole}
 use Rattle.run_opening.specs.Headers.{header_at}
 use Rattle.run_opening.specs.Opening.{IsUnopened}
+use Rattle.plug_stages.specs.Handed.{Handed, none_handed}
 
 -- the file of a stage whose reader is opened can be read
 opened-read : {S : Type 0} (s : source.Ghosts S) (map : Option Names) (i : ℕ) (role : Role) (o : Option (LasReader S)) → IsOpened s map i role o → (m : Names) → map ≡ Some m → unread m i role ≡ None
@@ -50,12 +52,12 @@ are-read s map stages readers count size are m e i lt =
     opened-read s map i (role_at stages i) o.0 (are i o.0 o.1) m e
 
 -- the first stage whose file can't be read is the answer
-pub first-unread : (m : Names) (stages : List StageSpec) (i : ℕ) (r : Refusal) → i < length stages → AreRead m stages i → unread_at m stages i ≡ Some r → run_of m stages ≡ Err r
-first-unread m stages i r lt before e = ap (λ o. unless_unread o (run_over stages (opened_in m stages))) (least-at (unread_at m stages) (length stages) i r lt e before)
+pub first-unread : (handed : Handed) (m : Names) (stages : List StageSpec) (i : ℕ) (r : Refusal) → i < length stages → AreRead m stages i → unread_at m stages i ≡ Some r → run_of handed m stages ≡ Err r
+first-unread handed m stages i r lt before e = ap (λ o. unless_unread o (run_over stages (opened_in handed m stages))) (least-at (unread_at m stages) (length stages) i r lt e before)
 
-pub unopened-cause : (rose : Type 0) (map : Option Names) (stages : List StageSpec) (i : ℕ) (refusal : Refusal) → i < length stages → ((m : Names) → map ≡ Some m → AreRead m stages i)
-    → IsUnopened rose map i (role_at stages i) refusal → IsCause rose map stages refusal
-unopened-cause rose map stages i refusal lt read why = go (role_at stages i) refl refusal why
+pub unopened-cause : (rose : Type 0) (handed : Handed) (map : Option Names) (stages : List StageSpec) (i : ℕ) (refusal : Refusal) → i < length stages → ((m : Names) → map ≡ Some m → AreRead m stages i)
+    → IsUnopened rose map i (role_at stages i) refusal → IsCause rose handed map stages refusal
+unopened-cause rose handed map stages i refusal lt read why = go (role_at stages i) refl refusal why
   where
     at-reader : (earlier all right : Type 0) (name : List ℕ) (o : Op) → earlier → AtRole ⊤ ⊥ ⊥ (Reads name) o → AtRole earlier all right (Reads name) o
     at-reader earlier all right name op.Open e a = e
@@ -65,16 +67,16 @@ unopened-cause rose map stages i refusal lt read why = go (role_at stages i) ref
     at-reader earlier all right name op.Patch e a = absurd a
     at-reader earlier all right name op.Keep e a = absurd a
 
-    go : (role : Role) → role_at stages i ≡ role → (r : Refusal) → IsUnopened rose map i role r → IsCause rose map stages r
+    go : (role : Role) → role_at stages i ≡ role → (r : Refusal) → IsUnopened rose map i role r → IsCause rose handed map stages r
     go role is of.Memory w = tt
-    go role is (of.Data j f) w = λ m e. first-unread m stages i (of.Data j f) lt (read m e) (ap (unread m i) is ∙ w m e)
-    go (Reads name) is (of.Device (at.Stage j) o) w = subst (λ k. IsCause rose map stages (of.Device (at.Stage k) o)) (sym w.0) (elim w.1 [
-      | inl a ↦ inl (a.0, a.1, first-unread a.0 stages i (of.Device (at.Stage i) o) lt (read a.0 a.1) (ap (unread a.0 i) is ∙ a.2))
+    go role is (of.Data j f) w = λ m e. first-unread handed m stages i (of.Data j f) lt (read m e) (ap (unread m i) is ∙ w m e)
+    go (Reads name) is (of.Device (at.Stage j) o) w = subst (λ k. IsCause rose handed map stages (of.Device (at.Stage k) o)) (sym w.0) (elim w.1 [
+      | inl a ↦ inl (a.0, a.1, first-unread handed a.0 stages i (of.Device (at.Stage i) o) lt (read a.0 a.1) (ap (unread a.0 i) is ∙ a.2))
       | inr f ↦ inr (
         f.0,
         λ m e. record {
           inside = lt;
-          come = subst (λ x. AtRole (AreRead m stages i) (CanBegin m stages) (IsOk (run_of m stages)) x o) (sym is) (at-reader (AreRead m stages i) (CanBegin m stages) (IsOk (run_of m stages)) name o (read m e) f.1);
+          come = subst (λ x. AtRole (AreRead m stages i) (CanBegin handed m stages) (IsOk (run_of handed m stages)) x o) (sym is) (at-reader (AreRead m stages i) (CanBegin handed m stages) (IsOk (run_of handed m stages)) name o (read m e) f.1);
           patched = λ p. absurd (subst (AtRole ⊤ ⊥ ⊥ (Reads name)) p f.1);
         },
       )
@@ -119,19 +121,19 @@ module _ {S : Type 0} (s : source.Ghosts S) (map : Option Names) (i : ℕ) where
   reader-there (Writes name) None h = refl
 
 -- an opened reader that takes these fields is the work of its stage
-pub reader-work : {S K : Type 0} (s : source.Ghosts S) (k : sink.Ghosts K) (map : Option Names) (i : ℕ) (o : Options) (r q : LasReader S) (fields : List ExtraField) → IsOpened s map i (role_of o) (Some r)
-    → q.source ≡ r.source → q.header ≡ r.header → q.vlrs ≡ r.vlrs → q.evlrs ≡ r.evlrs → q.progress ≡ r.progress → q.fields ≡ fields → IsWork s k map i o (Some r) (formed.Reads fields) (Reader q)
-reader-work {S} {K} s k map i o r q fields is source header vlrs evlrs progress taken = record {
+pub reader-work : {S K P Q : Type 0} (s : source.Ghosts S) (k : sink.Ghosts K) (map : Option Names) (i : ℕ) (o : Options) (r q : LasReader S) (fields : List ExtraField) (layout : Layout) → IsOpened s map i (role_of o) (Some r)
+    → q.source ≡ r.source → q.header ≡ r.header → q.vlrs ≡ r.vlrs → q.evlrs ≡ r.evlrs → q.progress ≡ r.progress → q.fields ≡ fields → IsWork {P = P} {Q = Q} s k map i o (Some r) (formed.Reads fields) layout (Reader q)
+reader-work {S} {K} {P} {Q} s k map i o r q fields layout is source header vlrs evlrs progress taken = record {
   same = ap (λ f. Some f) same;
-  start = λ setting e. subst (λ form. IsStarted {S = S} {K = K} k.bytes form (Reader q)) e (progress ∙ opened.1.start, taken);
-  device = op-at-start s k.bytes o nowhere (Reader q) (reader-start s k.bytes o nowhere q (opened.0) (progress ∙ opened.1.start) taken);
-  tells = λ m e x w. (let also : q ≡ x = cc in subst (λ (x : LasReader S). Tells s (λ j. holds m j (role_of o)) i x) also (told m e));
+  start = λ setting e laid. subst (λ form. IsStarted {S = S} {K = K} {P = P} {Q = Q} k.bytes setting.dims form (Reader q)) e (progress ∙ opened.1.start, taken);
+  device = op-at-start {S = S} {K = K} {P = P} {Q = Q} s k.bytes o nowhere (Reader q) (reader-start P Q k.bytes o nowhere q (opened.0) (progress ∙ opened.1.start) taken);
+  tells = λ m e x w. (let also : q ≡ x = cc in subst (λ (x : LasReader S). Tells s (over_files (λ j. holds m j (role_of o))) i x) also (told m e));
   front = λ x w. (let also : q ≡ x = cc in subst (λ (x : LasReader S). IsInFront s.reached x) also in-front);
   header = λ m e x w. (let also : q ≡ x = cc in subst (λ (x : LasReader S). header_at m (role_of o) ≡ Some x.header) also (opened.1.header m e ∙ ap (λ h. Some h) (sym header)));
 }
   where
     nowhere : Setting
-    nowhere = record { names = []; reads = []; dims = λ dim. false; fields = fields }
+    nowhere = record { names = []; reads = []; dims = λ dim. false; fields = fields; handed = none_handed }
 
     opened : (is_reading (role_of o) ≡ true) × IsReading s map i (role_of o) r
     opened = by-reader s map i (role_of o) r is
@@ -139,7 +141,7 @@ reader-work {S} {K} s k map i o r q fields is source header vlrs evlrs progress 
     same : read_of q ≡ read_of r
     same = ap (λ h. read_file h q.vlrs q.evlrs) header ∙ ap (λ l. read_file r.header l q.evlrs) vlrs ∙ ap (read_file r.header r.vlrs) evlrs
 
-    told : (m : Names) → map ≡ Some m → Tells s (λ j. holds m j (role_of o)) i q
+    told : (m : Names) → map ≡ Some m → Tells s (over_files (λ j. holds m j (role_of o))) i q
     told m e =
         let t = opened.1.tells m e in
         record {
@@ -152,9 +154,9 @@ reader-work {S} {K} s k map i o r q fields is source header vlrs evlrs progress 
     in-front = λ none. subst (λ (h : Header). s.reached q.source ≤ h.points_at) (sym header) (subst (λ x. s.reached x ≤ r.header.points_at) (sym source) (opened.1.front (ap (λ (h : Header). h.evlrs) (sym header) ∙ none)))
 
 -- a work that is no reader's is that of a stage that doesn't read
-pub other-work : {S K : Type 0} (s : source.Ghosts S) (k : sink.Ghosts K) (map : Option Names) (i : ℕ) (o : Options) (form : StageForm) (w : StageWork S K) → is_reading (role_of o) ≡ false
-    → op_of w ≡ op_for (role_of o) → ((setting : Setting) → form ≡ form_for o setting → IsAtStart k.bytes o setting w) → IsWork s k map i o None form w
-other-work {S} {K} s k map i o form w inner device start = record {
+pub other-work : {S K P Q : Type 0} (s : source.Ghosts S) (k : sink.Ghosts K) (map : Option Names) (i : ℕ) (o : Options) (form : StageForm) (layout : Layout) (w : StageWork S K P Q) → is_reading (role_of o) ≡ false
+    → op_of w ≡ op_for (role_of o) → ((setting : Setting) → form ≡ form_for o setting → IsLaidOut layout setting.dims form → IsAtStart k.bytes o setting w) → IsWork s k map i o None form layout w
+other-work {S} {K} {P} {Q} s k map i o form layout w inner device start = record {
   same = ap read_with (no_reader w device);
   start = start;
   device = device;
@@ -170,9 +172,11 @@ other-work {S} {K} s k map i o form w inner device start = record {
     reads_not (WritesEach name) i e = cc
     reads_not (Writes name) i e = cc
 
-    no_reader : (w : StageWork S K) → op_of w ≡ op_for (role_of o) → reader_of w ≡ None
+    no_reader : (w : StageWork S K P Q) → op_of w ≡ op_for (role_of o) → reader_of w ≡ None
     no_reader (Reader r) e = absurd (reads_not (role_of o) inner e)
     no_reader (Filter f) e = refl
+    no_reader (Plug v) e = refl
+    no_reader (Tally v) e = refl
     no_reader (Collector c) e = refl
     no_reader (Views h) e = refl
     no_reader (ViewFiles t) e = refl
@@ -183,8 +187,8 @@ module _ {S : Type 0} (s : source.Ghosts S) (map : Option Names) (stages : List 
   are-readers i o e = reader-there s map i (role_at stages i) o (are i o e)
 
   -- the readers' files are those of the map
-  pub have-readers : (m : Names) → map ≡ Some m → HaveReaders readers (opened_in m stages)
-  have-readers m told i r e = ap (λ (x : LasFile). x.read) ((by-reader s map i (role_at stages i) r (are i (Some r) e)).1.tells m told).holds
+  pub have-readers : (handed : Handed) (m : Names) → map ≡ Some m → HaveReaders readers (opened_in handed m stages)
+  have-readers handed m told i r e = ap (λ (x : LasFile). x.read) ((by-reader s map i (role_at stages i) r (are i (Some r) e)).1.tells m told).holds
 
 -- a stage that neither reads nor writes has no device
 pub no-device : (role : Role) → is_reading role ≡ false → is_writing role ≡ false → op_for role ≡ None

@@ -3,3 +3,4 @@ pub mod Headers
 pub mod Binding
 pub mod Opening
 pub mod Ready
+pub mod Taken

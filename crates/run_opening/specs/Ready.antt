@@ -11,17 +11,21 @@ use Rattle.stage_options.specs.declared.stage.StageSpec.{StageSpec}
 use Rattle.answer_model.specs.Runs.{opened_in}
 use Rattle.answer_model.specs.Values.{role_at}
 use Rattle.run_opening.specs.Headers.{header_at}
-use Rattle.stage_forms.specs.Starts.{AreAtStart, AreTold, HaveDevices}
+use Rattle.stage_forms.specs.Starts.{AreAtStart, AreGiven, AreHandedIn, HaveDevices}
 use Rattle.run_outcome.specs.Cause.{CanBegin}
+use Rattle.plug_stages.specs.declared.filter.PlugFilter as plug_type
+use Rattle.plug_stages.specs.declared.tally.PlugTally as tally_type
+use Rattle.plug_stages.specs.Handed.{Handed}
 
-module _ {S K : Type 0} (s : source.Ghosts S) (k : sink.Ghosts K) where
-  -- the works of stages before their first turn, over these files: each is at its start and holds its device, the sources of readers tell
-  -- their files, of which no more than the front was read, and the run can begin
-  pub record AreReady (map : Option Names) (stages : List StageSpec) (works : List (StageWork S K)) : Type 0 where
+module _ {S K P Q : Type 0} (s : source.Ghosts S) (k : sink.Ghosts K) (fs : plug_type.Ghosts P) (ts : tally_type.Ghosts Q) where
+  -- the works of stages before their first turn, over these files and what was handed in: each is at its start and holds its device, the
+  -- sources of readers tell their files, of which no more than the front was read, and the run can begin
+  pub record AreReady (given : Handed) (map : Option Names) (stages : List StageSpec) (works : List (StageWork S K P Q)) : Type 0 where
     pub count : length works ≡ length stages
     pub starts : AreAtStart k.bytes stages works
     pub devices : HaveDevices stages works
-    pub tell : (m : Names) → map ≡ Some m → AreTold s works (opened_in m stages)
+    pub handed : AreHandedIn fs ts stages works given
+    pub tell : (m : Names) → map ≡ Some m → AreGiven s fs ts stages works (opened_in given m stages)
     pub front : AreInFront s.reached works
     pub headers : (m : Names) → map ≡ Some m → (i : ℕ) (r : LasReader S) → slice_get works i ≡ Some (Reader r) → header_at m (role_at stages i) ≡ Some r.header
-    pub come : (m : Names) → map ≡ Some m → CanBegin m stages
+    pub come : (m : Names) → map ≡ Some m → CanBegin given m stages

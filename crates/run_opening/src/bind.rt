@@ -6,12 +6,13 @@ ghost use Rattle.cloud_points.specs.declared.dims.Dim.{Dim};
 ghost use Rattle.extra_bytes.specs.Asked.{AreOwn};
 ghost use Rattle.pipeline_json.specs.Trees.{IsTree};
 ghost use Rattle.answer_model.specs.Values.{fields_past, gives_dim, names_past, unbound};
+ghost use Rattle.plug_stages.specs.Handed.{Handed};
 ghost use Rattle.stage_names.specs.Faults.{IsFaultOf};
 ghost use Rattle.stage_options.specs.Roles.{is_reading, role_of};
 ghost use Rattle.stage_options.specs.Shapes.{shapes};
 ghost use Rattle.stage_forms.specs.Below.{AreReaders, found_of, reads_in};
 ghost use Rattle.stage_forms.specs.Starts.{form_for};
-ghost use Rattle.run_opening.specs.Begun.{AreFine, AreForms, AreNamesBound, FitRoles, IsFine, IsForm, IsUnbound};
+ghost use Rattle.run_opening.specs.Begun.{AreFine, AreForms, AreLayouts, AreNamesBound, FitStages, IsFine, IsForm, IsUnbound};
 ghost use Rattle.run_opening.specs.Binding.{IsUnboundAt};
 
 use cloud_points::{ExtraNames, Layout};
@@ -51,13 +52,14 @@ fn bind_stage<S: Source>(
     requires fit { is_some reader.now ≡ is_reading (role_of stage.now.options) }
     requires own { AreOwn names.old }
     ensures form { let found = found_of stage.now.options reader.now in
-        IfOk result (λ o. o ≡ form_for stage.now.options (record {
+        IfOk result (λ o. (handed : Handed) → o ≡ form_for stage.now.options (record {
           names = names.old;
           reads = reads_in readers.now below.old.readers.items;
           dims = holds below.old.layout;
           fields = fields_past names.old stage.now.options found;
+          handed = handed;
         })) }
-    ensures fits { IfOk result (IsForm (role_of stage.now.options)) }
+    ensures fits { IfOk result (IsForm stage.now.options) }
     ensures fine { IfOk result (IsFine reader.now) }
     ensures names { OnOk result (names.new
         ≡ names_past names.old stage.now.options (found_of stage.now.options reader.now)) }
@@ -118,10 +120,11 @@ pub(crate) fn bind_stages<S: Source>(
     requires count { length readers.now ≡ length stages.now }
     requires fit { AreReaders stages.now readers.now }
     ensures forms { IfOk result (λ bound. AreForms stages.now readers.now bound.forms.items) }
-    ensures fits { IfOk result (λ bound. FitRoles stages.now bound.forms.items) }
+    ensures fits { IfOk result (λ bound. FitStages stages.now bound.forms.items) }
     ensures fine { IfOk result (λ bound. AreFine readers.now bound.forms.items) }
     ensures count { IfOk result (λ bound. length bound.forms.items ≡ length stages.now) }
-    ensures layouts { IfOk result (λ bound. length bound.layouts.items ≡ length stages.now) }
+    ensures layouts { IfOk result (λ bound. AreLayouts stages.now readers.now bound.layouts.items) }
+    ensures as_many { IfOk result (λ bound. length bound.layouts.items ≡ length stages.now) }
     ensures bound { OnOk result (AreNamesBound stages.now readers.now (length stages.now)) }
     ensures err { IfErr result (IsUnbound stages.now readers.now) }
 {

@@ -2,6 +2,7 @@
 
 ghost use Rattle.std.specs.Prelude.{◌≡◌, ◌≤◌, ◌+◌, ◌<◌, length, None, IfOk, IfErr, OnOk, OnErr};
 ghost use Rattle.file_devices.specs.Counts.{Rose};
+ghost use Rattle.plug_stages.specs.Handed.{Handed};
 ghost use Rattle.stage_options.specs.Roles.{Reads, role_of};
 ghost use Rattle.run_opening.specs.Begun.{IsReading, IsOpened, AreOpened};
 ghost use Rattle.held_devices.specs.Holding.{there, all_there};
@@ -94,8 +95,8 @@ pub(crate) fn open_readers<F: Files>(
     requires few { length stages.now ≤ 64 }
     ensures ok { IfOk result (λ readers. AreOpened F.In.Source (F.map files.old) stages.now readers.items) }
     ensures count { IfOk result (λ readers. length readers.items ≡ length stages.now) }
-    ensures err { IfErr result (IsCause (Rose (F.faults files.old) (F.faults files.new))
-        (F.map files.old) stages.now) }
+    ensures err { IfErr result (λ refusal. (handed : Handed)
+        → IsCause (Rose (F.faults files.old) (F.faults files.new)) handed (F.map files.old) stages.now refusal) }
     ensures early { IfErr result IsEarly }
     ensures before { IfErr result IsBeforePoints }
     ensures map { F.map files.new ≡ F.map files.old }

@@ -5,6 +5,7 @@ use Rattle.file_devices.specs.Named.{Names}
 use Rattle.file_devices.specs.Content.{Appends, AppendsPart}
 use Rattle.file_devices.specs.declared.devices.Op.{Op}
 use Rattle.file_devices.specs.declared.devices.Op.TheVariants as op
+use Rattle.plug_stages.specs.Handed.{Handed}
 use Rattle.stage_options.specs.Roles.{Role, Reads, Writes, WritesEach}
 use Rattle.stage_options.specs.declared.stage.StageSpec.{StageSpec}
 use Rattle.stage_options.specs.declared.options.Options.{Options}
@@ -48,25 +49,25 @@ patches (WritersLas o) = true
 patches _ = false
 
 -- all files can be read, and all names of dimensions are bound
-abbrev pub CanBegin : Names → List StageSpec → Type 0
-CanBegin m stages = AreRead m stages (length stages) × AreBound m stages
+abbrev pub CanBegin : Handed → Names → List StageSpec → Type 0
+CanBegin handed m stages = AreRead m stages (length stages) × AreBound handed m stages
 
 -- the device of stage i may have failed in this, in a run over these files
-pub record MayFail (m : Names) (stages : List StageSpec) (i : ℕ) (o : Op) : Type 0 where
+pub record MayFail (handed : Handed) (m : Names) (stages : List StageSpec) (i : ℕ) (o : Op) : Type 0 where
   pub inside : i < length stages
-  pub come : AtRole (AreRead m stages i) (CanBegin m stages) (IsOk (run_of m stages)) (role_at stages i) o
+  pub come : AtRole (AreRead m stages i) (CanBegin handed m stages) (IsOk (run_of handed m stages)) (role_at stages i) o
   pub patched : o ≡ op.Patch → patches (options_at stages i) ≡ true
 
 -- why a run was refused: the answer is that refusal, memory was wanting, or a device of its stages failed, so that the count of
 -- faults rose. Of files that aren't told only the last is known
-abbrev pub IsCause : Type 0 → Option Names → List StageSpec → Refusal → Type 0
-IsCause rose map stages of.Memory = ⊤
-IsCause rose map stages (of.Data i f) = (m : Names) → map ≡ Some m → run_of m stages ≡ Err (of.Data i f)
-IsCause rose map stages (of.Pipeline f) = (m : Names) → map ≡ Some m → run_of m stages ≡ Err (of.Pipeline f)
-IsCause rose map stages (of.Device (at.Stage i) o) =
-    ((m : Names) × (map ≡ Some m) × (run_of m stages ≡ Err (of.Device (at.Stage i) o)))
-    ⊎ (rose × ((m : Names) → map ≡ Some m → MayFail m stages i o))
-IsCause rose map stages _ = ⊥
+abbrev pub IsCause : Type 0 → Handed → Option Names → List StageSpec → Refusal → Type 0
+IsCause rose handed map stages of.Memory = ⊤
+IsCause rose handed map stages (of.Data i f) = (m : Names) → map ≡ Some m → run_of handed m stages ≡ Err (of.Data i f)
+IsCause rose handed map stages (of.Pipeline f) = (m : Names) → map ≡ Some m → run_of handed m stages ≡ Err (of.Pipeline f)
+IsCause rose handed map stages (of.Device (at.Stage i) o) =
+    ((m : Names) × (map ≡ Some m) × (run_of handed m stages ≡ Err (of.Device (at.Stage i) o)))
+    ⊎ (rose × ((m : Names) → map ≡ Some m → MayFail handed m stages i o))
+IsCause rose handed map stages _ = ⊥
 
 -- it is neither for a file that wasn't kept nor for the program's output
 abbrev pub IsEarly : Refusal → Type 0

@@ -4,7 +4,7 @@ use Rattle.std.proofs.lemmas.List.{drop_all}
 use Rattle.file_devices.specs.Content.{Appends, AppendsPart}
 use Rattle.file_devices.proofs.ContentLemmas.{appends_more}
 use Rattle.run_report.specs.declared.report.StageCount.{StageCount}
-use Rattle.run_report.specs.Reports.{stage_line, lines_of, outputs_in, report_of}
+use Rattle.run_report.specs.Reports.{stage_text, lines_of, outputs_in, report_of}
 
 short_part : (ys zs : List ℕ) (k : ℕ) → (n : ℕ) × (take n (ys ++ zs) ≡ take k ys)
 short_part [] zs zero = (0, refl)
@@ -35,13 +35,13 @@ pub record Reporting (counts rest : List StageCount) (out_before out : Option (L
   pub with_rest : lines ++ lines_of rest ≡ lines_of counts
   pub later : faults_before ≤ faults
 
-next_line : (counts : List StageCount) (i : ℕ) (d : StageCount) → i < length counts → lines_of (drop i counts) ≡ stage_line (get_or counts i d) ++ lines_of (drop (i + 1) counts)
-next_line counts i d h = ap lines_of (drop-cons counts i d h) ∙ ap (λ n. stage_line (get_or counts i d) ++ lines_of (drop n counts)) (sym (add-one i))
+next_line : (counts : List StageCount) (i : ℕ) (d : StageCount) → i < length counts → lines_of (drop i counts) ≡ stage_text (get_or counts i d) ++ lines_of (drop (i + 1) counts)
+next_line counts i d h = ap lines_of (drop-cons counts i d h) ∙ ap (λ n. stage_text (get_or counts i d) ++ lines_of (drop n counts)) (sym (add-one i))
 
 pub reporting_more : (counts : List StageCount) (i : ℕ) (d : StageCount) (first middle last : Option (List ℕ)) (faults0 faults1 faults2 : ℕ) → i < length counts
-    → Appends middle (stage_line (get_or counts i d)) last → faults1 ≤ faults2 → Reporting counts (drop i counts) first middle faults0 faults1 → Reporting counts (drop (i + 1) counts) first last faults0 faults2
+    → Appends middle (stage_text (get_or counts i d)) last → faults1 ≤ faults2 → Reporting counts (drop i counts) first middle faults0 faults1 → Reporting counts (drop (i + 1) counts) first last faults0 faults2
 reporting_more counts i d first middle last faults0 faults1 faults2 h more later was =
-    let line = stage_line (get_or counts i d) in
+    let line = stage_text (get_or counts i d) in
     record {
       lines = was.lines ++ line;
       put = appends_more first middle last was.lines line was.put more;
@@ -53,11 +53,11 @@ reporting_more counts i d first middle last faults0 faults1 faults2 h more later
 abbrev pub last_line : List StageCount → List ℕ
 last_line counts = codes "outputs " ++ decimal (outputs_in counts) ++ codes "\n"
 
--- a report that broke off in the line of a stage
+-- a report that broke off in what is said of a stage
 pub report_part : (counts : List StageCount) (i : ℕ) (d : StageCount) (first middle last : Option (List ℕ)) (faults0 faults1 : ℕ) → i < length counts
-    → Reporting counts (drop i counts) first middle faults0 faults1 → AppendsPart middle (stage_line (get_or counts i d)) last → AppendsPart first (report_of counts) last
+    → Reporting counts (drop i counts) first middle faults0 faults1 → AppendsPart middle (stage_text (get_or counts i d)) last → AppendsPart first (report_of counts) last
 report_part counts i d first middle last faults0 faults1 h was part =
-    let line = stage_line (get_or counts i d) in
+    let line = stage_text (get_or counts i d) in
     let rest = lines_of (drop (i + 1) counts) in
     let all : was.lines ++ ((line ++ rest) ++ last_line counts) ≡ report_of counts =
     sym (append_assoc was.lines (line ++ rest) (last_line counts))

@@ -12,7 +12,7 @@ use Rattle.cloud_points.specs.declared.faults.PointFault.{PointFault}
 use Rattle.cloud_points.specs.declared.faults.PointFault.TheVariants.{Cut, NotHeld, ValueOutOfRange, DivideByZero, ArithOverflow, TooMany}
 use Rattle.cloud_points.specs.Dims.{name_of}
 use Rattle.stage_names.specs.declared.faults.PipeFault.{PipeFault}
-use Rattle.stage_names.specs.declared.faults.PipeFault.TheVariants.{TextTooLong, NotJson, NotAPipeline, Empty, TooManyStages, BadStage, TypeUnknown, CannotInfer, TagTwice, TagUnknown, InputOfReader, NoInput, UsedTwice, Loose, OptionUnknown, OptionMissing, OptionValue, SameOutput, DimUnknown, DimNotNumeric, TooManyDims}
+use Rattle.stage_names.specs.declared.faults.PipeFault.TheVariants.{TextTooLong, NotJson, NotAPipeline, Empty, TooManyStages, BadStage, TypeUnknown, CannotInfer, TagTwice, TagUnknown, InputOfReader, NoInput, UsedTwice, Loose, OptionUnknown, OptionMissing, OptionValue, SameOutput, PlugUnknown, PlugTaken, DimUnknown, DimNotNumeric, TooManyDims}
 use Rattle.run_report.specs.declared.refusal.Place.{Place}
 use Rattle.run_report.specs.declared.refusal.Place.TheVariants.{PipelineFile, Stage, Generated, Out}
 use Rattle.run_report.specs.declared.refusal.Fault.{Fault}
@@ -85,6 +85,8 @@ pipe_fault_text (OptionUnknown i name) = at_stage i (codes "unknown option " ++ 
 pipe_fault_text (OptionMissing i name) = at_stage i (codes "missing option " ++ name)
 pipe_fault_text (OptionValue i name) = at_stage i (codes "bad value of option " ++ name)
 pipe_fault_text (SameOutput i) = at_stage i (codes "output file already named")
+pipe_fault_text (PlugUnknown i name) = at_stage i (codes "no plug " ++ name)
+pipe_fault_text (PlugTaken i name) = at_stage i (codes "plug " ++ name ++ codes " already used")
 pipe_fault_text (DimUnknown i name) = at_stage i (codes "unknown dimension " ++ name)
 pipe_fault_text (DimNotNumeric i name) = at_stage i (codes "dimension " ++ name ++ codes " is not numeric")
 pipe_fault_text (TooManyDims i) = at_stage i (codes "more than 8 extra dimensions")

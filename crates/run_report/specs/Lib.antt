@@ -1,3 +1,4 @@
 pub mod Reports
 pub mod Faults
 pub mod Lines
+pub mod Padding

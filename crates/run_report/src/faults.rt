@@ -300,6 +300,8 @@ fn pipe_fault_line(fault: &PipeFault) -> Line<'_>
         PipeFault::OptionMissing(i, name) => named_line(*i, "missing option ", name, "\n"),
         PipeFault::OptionValue(i, name) => named_line(*i, "bad value of option ", name, "\n"),
         PipeFault::SameOutput(i) => stage_line(*i, "output file already named"),
+        PipeFault::PlugUnknown(i, name) => named_line(*i, "no plug ", name, "\n"),
+        PipeFault::PlugTaken(i, name) => named_line(*i, "plug ", name, " already used\n"),
         PipeFault::DimUnknown(i, name) => named_line(*i, "unknown dimension ", name, "\n"),
         PipeFault::DimNotNumeric(i, name) => named_line(
             *i,

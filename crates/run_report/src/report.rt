@@ -4,10 +4,11 @@ ghost use Rattle.std.specs.Prelude.{◌≡◌, ◌+◌, ◌≤◌, ◌++◌, cod
 ghost use Rattle.arrayvec.specs.ArrayString.{array_string_len};
 ghost use Rattle.file_devices.specs.Counts.{HasCause};
 ghost use Rattle.file_devices.specs.Content.{Appends, AppendsPart};
-ghost use Rattle.run_report.specs.Reports.{report_of, stage_line, wrote_text, outputs_in};
+ghost use Rattle.run_report.specs.Reports.{report_of, stage_line, stage_text, tally_text, wrote_text, outputs_in};
 
+use crate::tally::TallyLine;
 use crate::text::{Text, push_number};
-use arrayvec::ArrayVec;
+use arrayvec::{ArrayString, ArrayVec};
 use file_devices::{Failed, Sink};
 use stage_names::KindName;
 
@@ -26,11 +27,14 @@ pub struct StageCount {
     /// How many points it gave on.
     pub points: u64,
 
-    /// How many points it wrote, of a writer.
+    /// How many points it wrote, of a writer, or showed, of a tally.
     pub wrote: Option<u64>,
 
     /// How many files it wrote.
     pub files: u64,
+
+    /// What its tally says, where it has one.
+    pub tally: Option<TallyLine>,
 }
 
 impl Default for StageCount {
@@ -43,6 +47,7 @@ impl Default for StageCount {
             points: 0,
             wrote: None,
             files: 0,
+            tally: None,
         }
     }
 }
@@ -50,7 +55,10 @@ impl Default for StageCount {
 /// What each stage of a run gave on, in the order of the stages, which are at most 64.
 pub type Report = ArrayVec<StageCount, 64>;
 
-/// How many points a writer wrote.
+/// What is said of a stage: at most 192 bytes for its line, and 328 for that of its tally.
+type StageText = ArrayString<520>;
+
+/// How many points a writer wrote, or a tally's stage showed.
 fn push_wrote(wrote: Option<u64>, text: &mut Text)
     requires { array_string_len text.old ≤ 120 }
     ensures bytes { text.new.bytes ≡ text.old.bytes ++ wrote_text wrote }
@@ -63,8 +71,8 @@ fn push_wrote(wrote: Option<u64>, text: &mut Text)
 }
 
 /// The line of a stage.
-fn stage_line(count: StageCount) -> Text
-    ensures { result.bytes ≡ stage_line count }
+fn stage_line(count: &StageCount) -> Text
+    ensures { result.bytes ≡ stage_line count.now }
 {
     let mut text = Text::new();
     text.push_str("stage ");
@@ -77,6 +85,30 @@ fn stage_line(count: StageCount) -> Text
     push_number(count.points, &mut text);
     push_wrote(count.wrote, &mut text);
     text.push_str("\n");
+    text
+}
+
+/// Puts the line of a tally behind the text, where a stage has one.
+fn push_tally(tally: &Option<TallyLine>, text: &mut StageText)
+    requires { array_string_len text.old ≤ 192 }
+    ensures { text.new.bytes ≡ text.old.bytes ++ tally_text tally.now }
+{
+    if let Some(line) = tally {
+        text.push_str("tally ");
+        text.push_str(line.name.as_str());
+        text.push_str(" ");
+        text.push_str(line.text.as_str());
+        text.push_str("\n");
+    }
+}
+
+/// The line of a stage, and behind it that of its tally, where it has one.
+fn stage_text(count: &StageCount) -> StageText
+    ensures { result.bytes ≡ stage_text count.now }
+{
+    let mut text = StageText::new();
+    text.push_str(stage_line(count).as_str());
+    push_tally(&count.tally, &mut text);
     text
 }
 
@@ -102,15 +134,15 @@ fn outputs_line(outputs: u64) -> Text
     text
 }
 
-/// Appends the report of a run, by what each of its stages gave on: a line for each stage, and the number of files that were
-/// written.
+/// Appends the report of a run, by what each of its stages gave on: a line for each stage, behind it the line of its tally
+/// where it has one, and the number of files that were written.
 pub fn report_text<K: Sink>(report: &[StageCount], out: &mut K) -> Result<(), Failed>
     ensures ok { OnOk result (Appends (K.bytes out.old) (report_of report.now) (K.bytes out.new)) }
     ensures part { OnErr result (AppendsPart (K.bytes out.old) (report_of report.now) (K.bytes out.new)) }
     ensures cause { HasCause (K.faults out.old) (K.faults out.new) result }
 {
     for count in report {
-        let text = stage_line(*count);
+        let text = stage_text(count);
         out.append(text.as_bytes())?;
     }
     let text = outputs_line(outputs_in(report));

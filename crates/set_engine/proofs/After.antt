@@ -5,19 +5,17 @@ use Rattle.std.proofs.Math.ListN.{set}
 use Rattle.std.proofs.lemmas.Bool.{cases_lt}
 use Rattle.std.proofs.lemmas.Bool.Decides.{eqb_tells}
 use Rattle.std.proofs.lemmas.Option.{slice_get_within}
-use Rattle.answer_model.specs.Values.{LasFile, Opened}
 use Rattle.cloud_points.specs.Events.{is_device}
 use Rattle.cloud_points.specs.declared.faults.StageFault.{StageFault}
 use Rattle.cloud_points.specs.declared.faults.StageFault.TheVariants.{Device}
 use Rattle.file_devices.specs.Counts.{Rose}
-use Rattle.file_devices.specs.declared.devices.Source as source
+use Rattle.plug_stages.specs.declared.filter.PlugFilter as plug_type
+use Rattle.plug_stages.specs.declared.tally.PlugTally as tally_type
 use Rattle.stage_kinds.specs.Held.{op_of}
 use Rattle.stage_kinds.specs.declared.stage_work.StageWork.{StageWork}
 use Rattle.run_outcome.specs.Faults.{NoneFailed, fault_at}
 use Rattle.set_engine.proofs.Values.{AreAfter}
 use Rattle.set_engine.specs.Evaluated.{AreCaused, FailedAt}
-use Rattle.stage_forms.specs.Starts.{AreTold}
-use Rattle.set_engine.specs.Fits.{HasFile}
 use Rattle.set_engine.specs.Given.{IsAfter}
 use Rattle.set_engine.specs.Stops.{IsCaused}
 use Rattle.set_engine.proofs.Joined.{stays-elsewhere}
@@ -33,28 +31,28 @@ front [] ys n e = ap (λ k. take k ys) (sym e)
 front (x ∷ xs) ys zero e = absurd (omega (arith, e))
 front (x ∷ xs) ys (suc n) e = ap (λ zs. x ∷ zs) (front xs ys n (omega (arith, e)))
 
-module _ {S K : Type 0} (faults : StageWork S K → ℕ) where
-  stays : (v : StageWork S K) → IsAfter faults v v
-  stays v = record { op = refl; later = omega arith; writing = refl }
+module _ {S K P Q : Type 0} (fs : plug_type.Ghosts P) (ts : tally_type.Ghosts Q) (faults : StageWork S K P Q → ℕ) where
+  stays : (v : StageWork S K P Q) → IsAfter fs ts faults v v
+  stays v = record { op = refl; later = omega arith; writing = refl; holds = (refl, refl) }
 
-  and-then : (u v w : StageWork S K) → IsAfter faults u v → IsAfter faults v w → IsAfter faults u w
-  and-then u v w a b = record { op = b.op ∙ a.op; later = (let x = a.later in let y = b.later in omega (arith, x, y)); writing = b.writing ∙ a.writing }
+  and-then : (u v w : StageWork S K P Q) → IsAfter fs ts faults u v → IsAfter fs ts faults v w → IsAfter fs ts faults u w
+  and-then u v w a b = record { op = b.op ∙ a.op; later = (let x = a.later in let y = b.later in omega (arith, x, y)); writing = b.writing ∙ a.writing; holds = (b.holds.0 ∙ a.holds.0, b.holds.1 ∙ a.holds.1) }
 
   -- nothing was done yet
-  pub all-stay : (works : List (StageWork S K)) → AreAfter faults works works
+  pub all-stay : (works : List (StageWork S K P Q)) → AreAfter fs ts faults works works
   all-stay works = record {
     count = refl;
-    each = λ i v w a b. (let e : Some v ≡ Some w = sym a ∙ b in let same : v ≡ w = cc in subst (IsAfter faults v) same (stays v));
+    each = λ i v w a b. (let e : Some v ≡ Some w = sym a ∙ b in let same : v ≡ w = cc in subst (IsAfter fs ts faults v) same (stays v));
   }
 
   -- one more call
-  pub one-later : (old now : List (StageWork S K)) (i : ℕ) (v w : StageWork S K) → AreAfter faults old now → slice_get now i ≡ Some v → IsAfter faults v w → AreAfter faults old (set now i w)
+  pub one-later : (old now : List (StageWork S K P Q)) (i : ℕ) (v w : StageWork S K P Q) → AreAfter fs ts faults old now → slice_get now i ≡ Some v → IsAfter fs ts faults v w → AreAfter fs ts faults old (set now i w)
   one-later old now i v w before at call = record {
     count = length-set now i w ∙ before.count;
-    each = λ j u x a b. elim (eqb_tells j i) as (λ _. IsAfter faults u x) [
+    each = λ j u x a b. elim (eqb_tells j i) as (λ _. IsAfter fs ts faults u x) [
       | inl p ↦ (let lt = slice_get_within now i v at in
           let e : Some w ≡ Some x = sym (put-there now i w lt) ∙ ap (slice_get (set now i w)) (sym p.1) ∙ b in let same : w ≡ x = cc in
-          subst (IsAfter faults u) same (and-then u v w (before.each i u v (ap (slice_get old) (sym p.1) ∙ a) at) call))
+          subst (IsAfter fs ts faults u) same (and-then u v w (before.each i u v (ap (slice_get old) (sym p.1) ∙ a) at) call))
       | inr p ↦ before.each j u x a (sym (stays-elsewhere now i j w p.1) ∙ b)
     ];
   }
@@ -86,7 +84,7 @@ none-with found f none = (
 )
 
 -- one more stage, whose fault has its cause
-pub caused-more : {S K : Type 0} (faults : StageWork S K → ℕ) (old now : List (StageWork S K)) (found : List (Option StageFault)) (i : ℕ) (v w : StageWork S K) (f : Option StageFault)
+pub caused-more : {S K P Q : Type 0} (faults : StageWork S K P Q → ℕ) (old now : List (StageWork S K P Q)) (found : List (Option StageFault)) (i : ℕ) (v w : StageWork S K P Q) (f : Option StageFault)
     → length found ≡ i → slice_get old i ≡ Some v → slice_get now i ≡ Some v → IsCaused (op_of v) (Rose (faults v) (faults w)) f → AreCaused faults old now found
     → AreCaused faults old (set now i w) (found ++ f ∷ [])
 caused-more faults old now found i v w f size was at caused before j o e = elim (eqb_tells j i) as (λ _. FailedAt faults old (set now i w) j o) [

@@ -4,7 +4,7 @@ use Rattle.std.proofs.lemmas.List.{map-append}
 use Rattle.cloud_points.specs.Flows.{Flow}
 use Rattle.cloud_points.specs.Marks.{Mark, At, View_end, view_marks, piece_marks}
 
-view_marks-more : {P : Type 0} (vs : List (List P)) (v : List P) → view_marks (vs ++ v ∷ []) ≡ view_marks vs ++ (map At v ++ View_end ∷ [])
+pub view_marks-more : {P : Type 0} (vs : List (List P)) (v : List P) → view_marks (vs ++ v ∷ []) ≡ view_marks vs ++ (map At v ++ View_end ∷ [])
 view_marks-more [] v = refl
 view_marks-more (w ∷ vs) v = ap (λ ms. map At w ++ View_end ∷ ms) (view_marks-more vs v) ∙ sym (append_assoc (map At w) (View_end ∷ view_marks vs) (map At v ++ View_end ∷ []))
 

@@ -3,6 +3,8 @@ pub mod Values
 pub mod Joined
 pub mod Firsts
 pub mod Giving
+pub mod Shown
+pub mod OfCaller
 pub mod StageGiving
 pub mod UpTo
 pub mod After

@@ -1,10 +1,11 @@
 -- The stages of a tree that were evaluated so far.
 use Rattle.std.proofs.Common.{◌≡◌, ℕ, zero, suc, ◌+◌, ◌<◌, ◌≤◌, Bool, true, false, ◌||◌, List, [], ◌∷◌, ◌++◌, length, map, take, Option, Some, None, refl, ap, sym, subst, ◌∙◌, arith, add-one, inl, inr, All, length-append}
+use Rattle.std.specs.Option.{option_or}
 use Rattle.std.specs.Prelude.{◌==◌, option_map, slice_get, slice_index_or}
 use Rattle.std.proofs.lemmas.Bool.Decides.{eqb_tells}
 use Rattle.std.proofs.lemmas.List.FromFn.{length-map-range_with_len}
 use Rattle.std.proofs.lemmas.Option.{get_or_from_slice_get, same_Some, slice_get_within}
-use Rattle.answer_model.specs.Values.{Opened, IsDown, stage_at, role_at, row_at, stage_value, stage_input, stage_fault, count_at, counts_of, value_of, wrote_with, files_with, las_at}
+use Rattle.answer_model.specs.Values.{Opened, IsDown, stage_at, role_at, row_at, stage_value, stage_input, stage_fault, count_at, counts_of, value_of, wrote_with, files_with, or_shown, said_at, said_with, shown_with, las_at}
 use Rattle.answer_model.proofs.Least.{least-nowhere}
 use Rattle.answer_model.proofs.Values.{has-own, has-later, map-same, tree-down, value-input}
 use Rattle.cloud_points.specs.Flows.{Flow, empty_flow, join_all, points}
@@ -13,11 +14,13 @@ use Rattle.cloud_points.specs.declared.faults.StageFault.{StageFault}
 use Rattle.cloud_points.specs.declared.faults.StageFault.TheVariants as stage
 use Rattle.cloud_points.specs.declared.point.Point.{Point}
 use Rattle.pipeline_json.specs.Lists.{has, times}
+use Rattle.plug_stages.specs.declared.tally.PlugTally as tally_type
+use Rattle.run_report.specs.declared.tally.TallyLine.{TallyLine}
 use Rattle.pipeline_json.specs.Stages.{taken}
 use Rattle.pipeline_json.specs.Trees.{IsTree}
 use Rattle.pipeline_json.proofs.Taken.{times-append, present}
 use Rattle.run_report.specs.declared.report.StageCount.{StageCount}
-use Rattle.stage_kinds.specs.Stages.{HoldsAll, files_by, keeps_of, writing_of, written_by}
+use Rattle.stage_kinds.specs.Stages.{HoldsAll, files_by, keeps_of, says_of, shown_by, writing_of, written_by}
 use Rattle.stage_kinds.specs.declared.file_form.Writing.{Writing}
 use Rattle.stage_kinds.specs.declared.stage_work.StageWork.{StageWork}
 use Rattle.stage_options.specs.Shapes.{shapes}
@@ -117,18 +120,26 @@ no-point : (o : Option PointFault) → option_map stage.Point o ≡ None → o �
 no-point None e = refl
 no-point (Some f) e = absurd cc
 
-module _ {S K : Type 0} (bytes : K → Option (List ℕ)) (stages : List StageSpec) where
+pub or-is : (a b : Option ℕ) → option_or a b ≡ or_shown a b
+or-is None b = refl
+or-is (Some n) b = refl
+
+-- how much a stage gave on, by its work then
+abbrev pub count_with : {S K P Q : Type 0} → tally_type.Ghosts Q → ℕ → StageSpec → Flow Point → StageWork S K P Q → StageCount
+count_with ts i s given w = count_for i s given (or_shown (written_by w) (shown_by w)) (files_by w) (says_of ts w)
+
+module _ {S K P Q : Type 0} (bytes : K → Option (List ℕ)) (stages : List StageSpec) where
   -- the first so many stages have their faults, their values stand at their places where no stage took them, and those without a fault
   -- gave on so much, and the writers among them hold what they take
-  pub record AreUpTo (opened : Opened) (start : List (StageWork S K)) (count : ℕ) (values : List (Flow Point)) (counts : List StageCount) (found : List (Option StageFault)) (works : List (StageWork S K)) : Type 0 where
+  pub record AreUpTo (opened : Opened) (start : List (StageWork S K P Q)) (count : ℕ) (values : List (Flow Point)) (counts : List StageCount) (found : List (Option StageFault)) (works : List (StageWork S K P Q)) : Type 0 where
     pub faults : (j : ℕ) → j < count → fault_at found j ≡ option_map stage.Point (stage_fault stages opened j)
     pub values_are : (j : ℕ) (v : Flow Point) → slice_get values j ≡ Some v → times j (taken_by stages count) ≡ 0 → v ≡ stage_value stages opened j
     pub counted : (j : ℕ) → j < count → stage_fault stages opened j ≡ None → slice_get counts j ≡ Some (count_at stages opened j)
-    pub held : (j : ℕ) → j < count → stage_fault stages opened j ≡ None → (w : StageWork S K) → slice_get works j ≡ Some w → (x : Writing) → writing_of w ≡ Some x → HoldsAll bytes x (points (stage_input stages opened j)) w
-    pub keeps : (j : ℕ) → j < count → (v w : StageWork S K) → slice_get start j ≡ Some v → slice_get works j ≡ Some w → keeps_of w ≡ kept_after v (stage_value stages opened j)
+    pub held : (j : ℕ) → j < count → stage_fault stages opened j ≡ None → (w : StageWork S K P Q) → slice_get works j ≡ Some w → (x : Writing) → writing_of w ≡ Some x → HoldsAll bytes x (points (stage_input stages opened j)) w
+    pub keeps : (j : ℕ) → j < count → (v w : StageWork S K P Q) → slice_get start j ≡ Some v → slice_get works j ≡ Some w → keeps_of w ≡ kept_after v (stage_value stages opened j)
 
   module _ (tree : IsTree (shapes stages)) where
-    module _ (opened : Opened) (start : List (StageWork S K)) (i : ℕ) (lt : i < length stages) (values : List (Flow Point)) (counts : List StageCount) (found : List (Option StageFault)) (works : List (StageWork S K))
+    module _ (opened : Opened) (start : List (StageWork S K P Q)) (i : ℕ) (lt : i < length stages) (values : List (Flow Point)) (counts : List StageCount) (found : List (Option StageFault)) (works : List (StageWork S K P Q))
         (so_far : AreUpTo opened start i values counts found works) (size : length values ≡ i) where
       -- what the stage takes
       input-is : join_all (map (value_in values) ((stage_at stages i).ins)) ≡ stage_input stages opened i
@@ -136,8 +147,8 @@ module _ {S K : Type 0} (bytes : K → Option (List ℕ)) (stages : List StageSp
           let at = some-at values j (let l = down stages tree i j h in omega (arith, l, size)) in
           get_or_from_slice_get values j at.0 empty_flow at.1 ∙ so_far.values_are j at.0 at.1 (untaken stages tree i j lt h)))
 
-      module _ (s : StageSpec) (is : slice_get stages i ≡ Some s) (taken_now : Flow Point) (input : taken_now ≡ join_all (map (value_in values) ((stage_at stages i).ins)))
-          (w : StageWork S K) (given : StageOutput) (gave : IsGivenBy bytes (role_at stages i) (row_at stages opened i) (las_at stages opened i) taken_now w given) where
+      module _ (ts : tally_type.Ghosts Q) (s : StageSpec) (is : slice_get stages i ≡ Some s) (taken_now : Flow Point) (input : taken_now ≡ join_all (map (value_in values) ((stage_at stages i).ins)))
+          (w : StageWork S K P Q) (given : StageOutput) (gave : IsGivenBy bytes ts (role_at stages i) (row_at stages opened i) (las_at stages opened i) taken_now w given) where
         taken-is : taken_now ≡ stage_input stages opened i
         taken-is = input ∙ input-is
 
@@ -150,33 +161,41 @@ module _ {S K : Type 0} (bytes : K → Option (List ℕ)) (stages : List StageSp
         stage-is : stage_at stages i ≡ s
         stage-is = get_or_from_slice_get stages i s _ is
 
-        holds : stage_fault stages opened i ≡ None → HoldsTaken bytes (role_at stages i) (row_at stages opened i) taken_now given.views w
+        holds : stage_fault stages opened i ≡ None → HoldsTaken bytes ts (role_at stages i) (row_at stages opened i) taken_now given.views w
         holds none = gave.sound (fault-is ∙ ap (option_map stage.Point) none)
 
-        count-is : stage_fault stages opened i ≡ None → count_for i s given.views (written_by w) (files_by w) ≡ count_at stages opened i
+        count-is : stage_fault stages opened i ≡ None → count_with ts i s given.views w ≡ count_at stages opened i
         count-is none =
             let role = role_at stages i in
             let row = row_at stages opened i in
-            ap (λ (t : StageSpec). count_for i t given.views (written_by w) (files_by w)) (sym stage-is)
-            ∙ ap (λ f. count_for i (stage_at stages i) f (written_by w) (files_by w)) value-is
-            ∙ ap (λ o. count_for i (stage_at stages i) (stage_value stages opened i) o (files_by w))
-            ((holds none).wrote ∙ ap (λ f. wrote_with role row f given.views) taken-is ∙ ap (wrote_with role row (stage_input stages opened i)) value-is)
-            ∙ ap (count_for i (stage_at stages i) (stage_value stages opened i) (wrote_with role row (stage_input stages opened i) (stage_value stages opened i))) (gave.files ∙ ap (files_with role) value-is)
+            let here = stage_at stages i in
+            let value = stage_value stages opened i in
+            let own = holds none in
+            let wrote : written_by w ≡ wrote_with role row (stage_input stages opened i) value =
+            own.wrote ∙ ap (λ f. wrote_with role row f given.views) taken-is ∙ ap (wrote_with role row (stage_input stages opened i)) value-is in
+            let shown : shown_by w ≡ shown_with row (stage_input stages opened i) = own.says.shown ∙ ap (shown_with row) taken-is in
+            let says : says_of ts w ≡ said_at stages opened i = own.says.says ∙ ap (said_with row) taken-is in
+            let files : files_by w ≡ files_with role value = gave.files ∙ ap (files_with role) value-is in
+            ap (λ (t : StageSpec). count_with ts i t given.views w) (sym stage-is) ∙ ap (λ f. count_with ts i here f w) value-is
+            ∙ ap (λ o. count_for i here value (or_shown o (shown_by w)) (files_by w) (says_of ts w)) wrote
+            ∙ ap (λ o. count_for i here value (or_shown (wrote_with role row (stage_input stages opened i) value) o) (files_by w) (says_of ts w)) shown
+            ∙ ap (λ n. count_for i here value (count_at stages opened i).wrote n (says_of ts w)) files
+            ∙ ap (λ (l : Option TallyLine). count_for i here value (count_at stages opened i).wrote (files_with role value) l) says
 
         -- with one more, where the values that the stage took are gone
-        pub one-more : (rest values_then : List (Flow Point)) (counts_then : List StageCount) (found_then : List (Option StageFault)) (works_then : List (StageWork S K)) → length rest ≡ i
+        pub one-more : (rest values_then : List (Flow Point)) (counts_then : List StageCount) (found_then : List (Option StageFault)) (works_then : List (StageWork S K P Q)) → length rest ≡ i
             → ((j : ℕ) → has ((stage_at stages i).ins) j ≡ false → slice_get rest j ≡ slice_get values j) → values_then ≡ rest ++ given.views ∷ []
-            → length counts ≡ i → counts_then ≡ counts ++ count_for i s given.views (written_by w) (files_by w) ∷ [] → length found ≡ i → found_then ≡ found ++ given.fault ∷ []
+            → length counts ≡ i → counts_then ≡ counts ++ count_with ts i s given.views w ∷ [] → length found ≡ i → found_then ≡ found ++ given.fault ∷ []
             → slice_get works_then i ≡ Some w → ((j : ℕ) → j < i → slice_get works_then j ≡ slice_get works j)
-            → (v : StageWork S K) → slice_get start i ≡ Some v → keeps_of w ≡ kept_after v given.views → AreUpTo opened start (i + 1) values_then counts_then found_then works_then
+            → (v : StageWork S K P Q) → slice_get start i ≡ Some v → keeps_of w ≡ kept_after v given.views → AreUpTo opened start (i + 1) values_then counts_then found_then works_then
         one-more rest values_then counts_then found_then works_then left others more few counted few-found pushed here same v was kept = record {
           faults = λ j l. ap (λ fs. fault_at fs j) pushed ∙ elim (eqb_tells j i) as (λ _. fault_at (found ++ given.fault ∷ []) j ≡ option_map stage.Point (stage_fault stages opened j)) [
             | inl p ↦ ap (fault_at (found ++ given.fault ∷ [])) (p.1 ∙ sym few-found) ∙ fault-last found given.fault ∙ fault-is ∙ ap (λ k. option_map stage.Point (stage_fault stages opened k)) (sym p.1)
             | inr p ↦ (let ne = p.1 in fault-front found given.fault j (omega (arith, l, ne, few-found)) ∙ so_far.faults j (omega (arith, l, ne)))
           ];
-          counted = λ j l none. ap (λ cs. slice_get cs j) counted ∙ elim (eqb_tells j i) as (λ _. slice_get (counts ++ count_for i s given.views (written_by w) (files_by w) ∷ []) j ≡ Some (count_at stages opened j)) [
-            | inl p ↦ at-last counts (count_for i s given.views (written_by w) (files_by w)) j (few ∙ sym p.1) ∙ ap Some (count-is (ap (stage_fault stages opened) (sym p.1) ∙ none)) ∙ ap (λ k. Some (count_at stages opened k)) (sym p.1)
-            | inr p ↦ (let ne = p.1 in in-front counts (count_for i s given.views (written_by w) (files_by w) ∷ []) j (omega (arith, l, ne, few)) ∙ so_far.counted j (omega (arith, l, ne)) none)
+          counted = λ j l none. ap (λ cs. slice_get cs j) counted ∙ elim (eqb_tells j i) as (λ _. slice_get (counts ++ count_with ts i s given.views w ∷ []) j ≡ Some (count_at stages opened j)) [
+            | inl p ↦ at-last counts (count_with ts i s given.views w) j (few ∙ sym p.1) ∙ ap Some (count-is (ap (stage_fault stages opened) (sym p.1) ∙ none)) ∙ ap (λ k. Some (count_at stages opened k)) (sym p.1)
+            | inr p ↦ (let ne = p.1 in in-front counts (count_with ts i s given.views w ∷ []) j (omega (arith, l, ne, few)) ∙ so_far.counted j (omega (arith, l, ne)) none)
           ];
           values_are = λ j x e untook.
               let there : slice_get (rest ++ given.views ∷ []) j ≡ Some x = ap (λ vs. slice_get vs j) (sym more) ∙ e in
@@ -204,7 +223,7 @@ module _ {S K : Type 0} (bytes : K → Option (List ℕ)) (stages : List StageSp
         }
 
     -- nothing was evaluated yet
-    pub none-yet : (opened : Opened) (start works : List (StageWork S K)) → AreUpTo opened start 0 [] [] [] works
+    pub none-yet : (opened : Opened) (start works : List (StageWork S K P Q)) → AreUpTo opened start 0 [] [] [] works
     none-yet opened start works = record {
       keeps = λ j l. absurd (omega (arith, l));
       faults = λ j l. absurd (omega (arith, l));
@@ -214,7 +233,7 @@ module _ {S K : Type 0} (bytes : K → Option (List ℕ)) (stages : List StageSp
     }
 
     -- all were, and no stage has a fault
-    pub all-done : (opened : Opened) (start : List (StageWork S K)) (n : ℕ) (values : List (Flow Point)) (counts : List StageCount) (found : List (Option StageFault)) (works : List (StageWork S K)) → n ≡ length stages → length counts ≡ n
+    pub all-done : (opened : Opened) (start : List (StageWork S K P Q)) (n : ℕ) (values : List (Flow Point)) (counts : List StageCount) (found : List (Option StageFault)) (works : List (StageWork S K P Q)) → n ≡ length stages → length counts ≡ n
         → length works ≡ length stages → AreUpTo opened start n values counts found works → AreSound found → AreEvaluated bytes stages opened start works counts
     all-done opened start n values counts found works all few size up sound = record {
       sound = least-nowhere (stage_fault stages opened) (length stages) (λ j l. none j (omega (arith, l, all)));

@@ -3,4 +3,5 @@ pub mod Taking
 pub mod Fits
 pub mod Given
 pub mod Gathering
+pub mod Showing
 pub mod Evaluated

@@ -13,22 +13,24 @@ use crate::inputs::take_joined;
 use crate::output::StageOutput;
 use crate::stages::stage_views;
 use file_devices::{FileSink, Source};
+use plug_stages::{PlugFilter, PlugTally};
 use run_outcome::{Ended, StageFaults};
-use run_report::{Report, StageCount};
+use run_report::{Report, StageCount, TallyLine};
 use stage_kinds::StageWork;
 use stage_options::StageSpec;
 use std::alloc::{AllocError, Global};
 use whole_filters::Views;
 
-/// What a stage, the one with this number, gave on, and how many points and files it wrote.
+/// What a stage, the one with this number, gave on, how many points it wrote or showed, how many files it wrote, and what its tally says.
 fn stage_count(
     number: u32,
     stage: &StageSpec,
     given: &Views,
     wrote: Option<u64>,
     files: u64,
+    tally: Option<TallyLine>,
 ) -> StageCount
-    ensures { result ≡ count_for number stage.now given.now wrote files }
+    ensures { result ≡ count_for number stage.now given.now wrote files tally }
 {
     let mut points: u64 = 0;
     for v in 0..given.views() {
@@ -41,6 +43,7 @@ fn stage_count(
         points: points.saturating_add(given.len(given.views()) as u64),
         wrote,
         files,
+        tally,
     }
 }
 
@@ -49,17 +52,17 @@ fn stage_count(
 ///
 /// A stage of which a point has a fault gives what stands before that point, and later stages are evaluated, too; so they are
 /// behind a stage whose device failed. Refuses for want of memory alone.
-pub fn evaluate_stages<S: Source, K: FileSink>(
+pub fn evaluate_stages<S: Source, K: FileSink, P: PlugFilter, Q: PlugTally>(
     alloc: Global,
-    works: &mut [StageWork<S, K>],
+    works: &mut [StageWork<S, K, P, Q>],
     stages: &[StageSpec],
 ) -> Result<Ended, AllocError>
     requires tree { IsTree (shapes stages.now) }
     requires count { length works.old ≡ length stages.now }
     requires starts { AreAtStart K.bytes stages.now works.old }
-    ensures ended { IfOk result (λ ended. HaveEnded S.Source K.Sink stages.now works.old works.new
+    ensures ended { IfOk result (λ ended. HaveEnded S.Source K.Sink P.PlugFilter Q.PlugTally stages.now works.old works.new
         ended.faults.items ended.report.items) }
-    ensures later { AreLater (faults_of S.faults K.faults) works.old works.new }
+    ensures later { AreLater P.PlugFilter Q.PlugTally (faults_of S.faults K.faults) works.old works.new }
 {
     let mut values = Vec::with_capacity(alloc, stages.len())?;
     let mut report = Report::new();
@@ -69,7 +72,15 @@ pub fn evaluate_stages<S: Source, K: FileSink>(
         let taken = take_joined(alloc, values.as_mut_slice(), inputs)?;
         let StageOutput { views, fault } = stage_views(alloc, &mut works[i], taken)?;
         let work = &works[i];
-        let count = stage_count(i as u32, &stages[i], &views, work.written(), work.files());
+        let wrote = work.written().or(work.shown());
+        let count = stage_count(
+            i as u32,
+            &stages[i],
+            &views,
+            wrote,
+            work.files(),
+            work.says(),
+        );
         report.push(count);
         faults.push(fault);
         values.push_reserved(views);

@@ -3,14 +3,16 @@
 ghost use Rattle.std.specs.Prelude.{◌≡◌, None, IfOk};
 ghost use Rattle.set_engine.specs.Gathering.{IsMadeBy, IsMadeOf};
 ghost use Rattle.stage_forms.specs.Starts.{IsCollecting};
-ghost use Rattle.stage_kinds.specs.Held.{op_of};
+ghost use Rattle.stage_kinds.specs.Held.{held_by};
 ghost use Rattle.stage_kinds.specs.Makings.{IsGoodMaking};
 ghost use Rattle.stage_kinds.specs.Stages.{writing_of};
+ghost use Rattle.stage_kinds.specs.declared.held.Held.TheVariants.{Nothing};
 ghost use Rattle.stage_kinds.specs.declared.making.Making as making_type;
 
 use crate::filters::of_point;
 use crate::output::StageOutput;
 use file_devices::{FileSink, Source};
+use plug_stages::{PlugFilter, PlugTally};
 use stage_kinds::{Making, StageWork, ViewFiles, Writing};
 use std::alloc::{AllocError, Global};
 use std::mem::replace;
@@ -34,25 +36,28 @@ fn copy_of(views: &Views) -> Result<Views, AllocError>
     Ok(copy)
 }
 
-/// A work in place of one that holds no device, which ends.
-fn put_work<S: Source, K: FileSink>(work: &mut StageWork<S, K>, now: StageWork<S, K>)
-    requires { op_of work.old ≡ None }
+/// A work in place of one that holds nothing, which ends.
+fn put_work<S: Source, K: FileSink, P: PlugFilter, Q: PlugTally>(
+    work: &mut StageWork<S, K, P, Q>,
+    now: StageWork<S, K, P, Q>,
+)
+    requires { held_by work.old ≡ Nothing }
     ensures { work.new ≡ now }
 {
     replace(work, now).let_go();
 }
 
 /// What a writer of a file for each view gives of views that it takes, and its fault; the work keeps them then.
-fn kept_views<S: Source, K: FileSink>(
-    work: &mut StageWork<S, K>,
+fn kept_views<S: Source, K: FileSink, P: PlugFilter, Q: PlugTally>(
+    work: &mut StageWork<S, K, P, Q>,
     writing: Writing,
     taken: Views,
 ) -> Result<StageOutput, AllocError>
-    requires none { op_of work.old ≡ None }
+    requires none { held_by work.old ≡ Nothing }
     requires form { IsGoodMaking (making_type.Making.WritesEach writing) }
     requires idle { writing_of work.old ≡ None }
     ensures made { IfOk result (IsMadeOf (making_type.Making.WritesEach writing) taken work.new) }
-    ensures device { op_of work.new ≡ None }
+    ensures device { held_by work.new ≡ Nothing }
     ensures writing { writing_of work.new ≡ None }
 {
     let files = ViewFiles::new(taken, writing);
@@ -66,14 +71,14 @@ fn kept_views<S: Source, K: FileSink>(
 
 /// What a stage that needs whole views makes of them, and its fault. Its work is used up, but that it keeps the views of which it is to
 /// write files. Refuses for want of memory alone.
-pub(crate) fn gathered_views<S: Source, K: FileSink>(
+pub(crate) fn gathered_views<S: Source, K: FileSink, P: PlugFilter, Q: PlugTally>(
     alloc: Global,
-    work: &mut StageWork<S, K>,
+    work: &mut StageWork<S, K, P, Q>,
     taken: Views,
 ) -> Result<StageOutput, AllocError>
     requires { IsCollecting work.old }
     ensures made { IfOk result (IsMadeBy work.old taken work.new) }
-    ensures device { op_of work.new ≡ None }
+    ensures device { held_by work.new ≡ Nothing }
     ensures writing { writing_of work.new ≡ None }
 {
     let gatherer = match replace(work, StageWork::Filter(Filter::Merge)) {

@@ -7,6 +7,7 @@ mod gathering;
 mod inputs;
 mod leaves;
 mod output;
+mod showing;
 mod stages;
 mod writers;
 

@@ -17,6 +17,7 @@ use Rattle.las_writer.specs.LasOutput.{IsForm}
 use Rattle.name_binding.specs.Binding.{asked_in, bound_stage, bound_where}
 use Rattle.name_binding.specs.Ferries.{names_behind}
 use Rattle.name_binding.specs.declared.binding.BoundStage.TheVariants as does
+use Rattle.plug_stages.specs.Handed.{Handed}
 use Rattle.option_texts.specs.declared.extra_dims.NamedField.{NamedField}
 use Rattle.stage_kinds.specs.declared.file_form.FileForm.{FileForm}
 use Rattle.stage_kinds.specs.declared.file_form.FileForm.TheVariants as file
@@ -57,20 +58,20 @@ form-asked has names reads o extra e =
     ap (λ l. record form { extra = l }) (ap (map (moved size)) e ∙ asked-moved names size 0 asked ∙ ap (λ n. asked_fields names n asked) here)
 
 -- a work that writes is made of the form of its file, and of the condition of its points
-pub writes-made : (o : Options) (has : Dim → Bool) (before names : List (List ℕ)) (reads : List ReadFile) (only : Option (Formula Dim)) (extra : List ExtraField) (form : FileForm)
+pub writes-made : (o : Options) (has : Dim → Bool) (handed : Handed) (before names : List (List ℕ)) (reads : List ReadFile) (only : Option (Formula Dim)) (extra : List ExtraField) (form : FileForm)
     → does.Writes only extra ≡ bound_stage has before o → names ≡ names_behind before o
-    → (extra ≡ fields_for has names o → file_for o (record { names = names; reads = reads; dims = has; fields = [] }) ≡ Some form)
-    → writes_as (role_of o) (record { form = form; only = only }) ≡ form_for o (record { names = before; reads = reads; dims = has; fields = [] })
-writes-made (WritersLas w) has before names reads only extra form e behind made =
+    → (extra ≡ fields_for has names o → file_for o (record { names = names; reads = reads; dims = has; fields = []; handed = handed }) ≡ Some form)
+    → writes_as (role_of o) (record { form = form; only = only }) ≡ form_for o (record { names = before; reads = reads; dims = has; fields = []; handed = handed })
+writes-made (WritersLas w) has handed before names reads only extra form e behind made =
     let only-is : only ≡ bound_where before w.only = cc in
     let extra-is : extra ≡ asked_fields before 0 (asked_in has before w.extra) = cc in
     let given = made (extra-is ∙ ap (λ n. asked_fields n 0 (asked_in has n w.extra)) (sym behind)) in
     let form-is : form ≡ file.Las (las_form has before reads w) = same_Some form _ (sym given) ∙ ap (λ n. file.Las (las_form has n reads w)) behind in
     ap (λ f. writes_as (role_of (WritersLas w)) (record { form = f; only = only })) form-is ∙ ap (λ l. writes_as (role_of (WritersLas w)) (record { form = file.Las (las_form has before reads w); only = l })) only-is
-writes-made (WritersText w) has before names reads only extra form e behind made =
+writes-made (WritersText w) has handed before names reads only extra form e behind made =
     let only-is : only ≡ bound_where before w.only = cc in
     let extra-is : extra ≡ [] = cc in
     let given = made extra-is in
     let form-is : form ≡ file.Text (text_form before w) = same_Some form _ (sym given) ∙ ap (λ n. file.Text (text_form n w)) behind in
     ap (λ f. writes_as (role_of (WritersText w)) (record { form = f; only = only })) form-is ∙ ap (λ l. writes_as (role_of (WritersText w)) (record { form = file.Text (text_form before w); only = l })) only-is
-writes-made o has before names reads only extra form e behind made = absurd (cc)
+writes-made o has handed before names reads only extra form e behind made = absurd (cc)

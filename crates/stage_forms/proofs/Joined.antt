@@ -68,8 +68,8 @@ module _ {S : Type 0} (stages : List StageSpec) (readers : List (Option (LasRead
   -- below a reader stands itself
   own-below : (i : ℕ) (r : LasReader S) (b : Below) → slice_get readers i ≡ Some (Some r) → IsOwn i r.header.format b → IsTaken stages readers opened i b
   own-below i r b at own = record {
-    reads = ap (reads_in readers) own.readers ∙ read-one readers i (Some r) at ∙ ap (λ f. f ∷ []) (sym (have i r at)) ∙ sym (reads-are i ∙ ap (λ c. cond c ((opened i).read ∷ []) (flat_map (λ list. list) (map (reads_at stages opened) ((stage_at stages i).ins)))) reading);
-    dims = λ dim. own.dims dim ∙ ap (λ (f : ReadFile). is_among dim (dims_of f.values.format)) (sym (have i r at)) ∙ sym (ap (λ c. cond c (is_among dim (dims_of (opened i).read.values.format)) (list_any (λ set. set dim) (map (dims_at stages opened) ((stage_at stages i).ins)))) reading);
+    reads = ap (reads_in readers) own.readers ∙ read-one readers i (Some r) at ∙ ap (λ f. f ∷ []) (sym (have i r at)) ∙ sym (reads-are i ∙ ap (λ c. cond c ((opened.file i).read ∷ []) (flat_map (λ list. list) (map (reads_at stages opened) ((stage_at stages i).ins)))) reading);
+    dims = λ dim. own.dims dim ∙ ap (λ (f : ReadFile). is_among dim (dims_of f.values.format)) (sym (have i r at)) ∙ sym (ap (λ c. cond c (is_among dim (dims_of (opened.file i).read.values.format)) (list_any (λ set. set dim) (map (dims_at stages opened) ((stage_at stages i).ins)))) reading);
   }
     where
       reading : is_reading (role_at stages i) ≡ true
@@ -98,10 +98,10 @@ module _ {S : Type 0} (stages : List StageSpec) (readers : List (Option (LasRead
   joined-below i s b belows at stage count are joined = record {
     reads = ap (reads_in readers) joined.readers ∙ reads-joined belows s.ins (λ j h. ap (λ o. reads_in readers (readers_in o)) (input j h).1 ∙ (are j (input j h).0 (input j h).1).reads)
         ∙ ap (λ (t : StageSpec). flat_map (λ list. list) (map (reads_at stages opened) t.ins)) (sym is)
-        ∙ sym (reads-are i ∙ ap (λ c. cond c ((opened i).read ∷ []) (flat_map (λ list. list) (map (reads_at stages opened) ((stage_at stages i).ins)))) reading);
+        ∙ sym (reads-are i ∙ ap (λ c. cond c ((opened.file i).read ∷ []) (flat_map (λ list. list) (map (reads_at stages opened) ((stage_at stages i).ins)))) reading);
     dims = λ dim. joined.dims dim ∙ dims-joined belows dim s.ins (λ j h. ap (λ o. dims_in o dim) (input j h).1 ∙ (are j (input j h).0 (input j h).1).dims dim)
         ∙ ap (λ (t : StageSpec). list_any (λ set. set dim) (map (dims_at stages opened) t.ins)) (sym is)
-        ∙ sym (ap (λ c. cond c (is_among dim (dims_of (opened i).read.values.format)) (list_any (λ set. set dim) (map (dims_at stages opened) ((stage_at stages i).ins)))) reading);
+        ∙ sym (ap (λ c. cond c (is_among dim (dims_of (opened.file i).read.values.format)) (list_any (λ set. set dim) (map (dims_at stages opened) ((stage_at stages i).ins)))) reading);
   }
     where
       is : stage_at stages i ≡ s

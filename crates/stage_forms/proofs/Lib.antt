@@ -4,3 +4,5 @@ pub mod Texts
 pub mod AtStart
 pub mod Works
 pub mod Asking
+pub mod Told
+pub mod Out

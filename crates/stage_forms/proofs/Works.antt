@@ -1,13 +1,36 @@
 -- What the works of stages tell and make, by what they are made of.
 use Rattle.std.proofs.Common.{◌≡◌, ℕ, Bool, true, false, List, [], filter, Option, Some, None, refl, ap, sym, subst, ◌∙◌, true≢false}
-use Rattle.std.specs.Prelude.{option_map, length}
+use Rattle.std.specs.Prelude.{ℤ, map, option_map, length, ◌+◌, Result, Ok, Err, ◌∷◌, if◌then◌else◌}
+use Rattle.std.proofs.lemmas.Option.{same_Some}
+use Rattle.cloud_points.specs.Clearing.{cleared}
+use Rattle.cloud_points.specs.Layouts.{holds}
+use Rattle.cloud_points.specs.Meaning.{Nature}
+use Rattle.cloud_points.specs.declared.dims.Dim.{Dim}
+use Rattle.cloud_points.specs.declared.dims.Dim.TheVariants.{X, Y, Z, Intensity, ReturnNumber, NumberOfReturns, ScanDirectionFlag, EdgeOfFlightLine, Classification, Synthetic, KeyPoint, Withheld, Overlap, ScanChannel, ScanAngleRank, UserData, PointSourceId, GpsTime, Red, Green, Blue, Infrared, Extra}
+use Rattle.plug_stages.specs.Folds.{Step, plug_fold, shown_if, step_where}
+use Rattle.std.specs.List.{cons_option}
+use Rattle.expr_lang.specs.Formula.{Formula}
+use Rattle.stage_meanings.specs.Conditions.{passes}
+use Rattle.stage_meanings.specs.Filtering.{Admit}
+use Rattle.stage_meanings.specs.Filters.{before_stop, first_refused, first_unjudged, found, if_passing, is_true, point_fault, reason_of, refusal_of, refused_by}
+use Rattle.stage_meanings.specs.declared.reason.Reason.{Reason}
+use Rattle.stage_meanings.specs.declared.spot.Spot.{Spot}
+use Rattle.plug_stages.specs.Handed.{named_in}
+use Rattle.plug_stages.specs.PlugSteps.{plug_spot_at}
+use Rattle.plug_stages.specs.TallySteps.{passing, tally_spot_at}
+use Rattle.plug_stages.specs.Works.{plug_meaning, plug_nature, plug_spot, tally_meaning, tally_nature, tally_spot}
+use Rattle.plug_stages.specs.declared.filter.PlugFilter as plug_type
+use Rattle.plug_stages.specs.declared.plug_work.PlugWork.{PlugWork}
+use Rattle.plug_stages.specs.declared.tally.PlugTally as tally_type
+use Rattle.plug_stages.specs.declared.tally_work.TallyWork.{TallyWork}
+use Rattle.stage_kinds.specs.declared.writer_stage.WriterStage.{WriterStage}
 use Rattle.las_reader.specs.declared.reader.Progress.TheVariants.{Records}
 use Rattle.stage_names.specs.Kinds as names
 use Rattle.stage_options.specs.Kinds.{kind_of}
 use Rattle.file_devices.specs.declared.devices.Source as source
 use Rattle.cloud_points.specs.declared.point.Point.{Point}
 use Rattle.cloud_points.specs.declared.faults.StageFault.TheVariants as stage
-use Rattle.cloud_points.specs.Flows.{Flow, all_of, points}
+use Rattle.cloud_points.specs.Flows.{Flow, all_of, map_views, points}
 use Rattle.cloud_points.specs.Queue.{up_to_limit}
 use Rattle.cloud_points.specs.Marks.{flow_marks}
 use Rattle.las_reader.specs.Files.{Las as LasPoints, las_with}
@@ -18,45 +41,46 @@ use Rattle.stage_meanings.specs.ByRule.{spot_at}
 use Rattle.stream_filters.specs.Kinds.{filtering_of, spot_of}
 use Rattle.stream_filters.specs.declared.filter.Filter.{Filter as Filtering}
 use Rattle.stage_kinds.specs.declared.file_form.StageForm.{StageForm}
-use Rattle.stage_kinds.specs.declared.file_form.StageForm.TheVariants.{Reads, Filters, Gathers, Writes}
+use Rattle.stage_kinds.specs.declared.file_form.StageForm.TheVariants.{Reads, Filters, Plugs, Tallies, Gathers, Writes}
 use Rattle.stage_kinds.specs.declared.file_form.Writing.{Writing}
 use Rattle.stage_kinds.specs.declared.stage_work.StageWork.{StageWork}
-use Rattle.stage_kinds.specs.declared.stage_work.StageWork.TheVariants.{Reader, Filter, Collector, Writer}
-use Rattle.stage_kinds.specs.declared.stage_work.StageState.TheVariants.{Filtering as At}
+use Rattle.stage_kinds.specs.declared.stage_work.StageWork.TheVariants.{Reader, Filter, Plug, Tally, Collector, Writer}
+use Rattle.stage_kinds.specs.declared.stage_work.StageState.TheVariants.{Filtering as At, Plugging, Tallying, Writing as Written}
 use Rattle.stage_kinds.specs.declared.making.Making.{Making}
 use Rattle.stage_kinds.specs.declared.making.Making.TheVariants.{Gathers as Views, WritesEach as Each}
 use Rattle.stage_kinds.specs.Files.{chosen, file_bytes, unwritten}
 use Rattle.stage_kinds.specs.Makings.{made_by, fault_by}
 use Rattle.stage_kinds.specs.Held.{op_of}
-use Rattle.stage_kinds.specs.Stages.{filter_work, writer_work, writing_filter, stops_nowhere, meaning_of, state_of, is_leaf, holds_of, keeps_of, writing_of}
+use Rattle.stage_kinds.specs.Stages.{begun, filter_work, plug_work, tally_work, spot_in, writes_of, writer_work, writing_filter, stops_nowhere, meaning_of, state_of, is_leaf, holds_of, keeps_of, writing_of}
 use Rattle.stage_kinds.specs.Reads.{tells_of, told_of, told_fault_of}
-use Rattle.stage_kinds.proofs.Streams.{filter_gives, filter_fault, writer_gives, writer_fault, sound_nowhere}
+use Rattle.stage_kinds.proofs.Streams.{filter_gives, filter_fault, plug_gives, plug_fault, tally_gives, tally_fault, writer_gives, writer_fault, sound_nowhere}
 use Rattle.stage_kinds.proofs.Telling.{reader_starts}
 use Rattle.stage_options.specs.declared.options.Options.{Options}
-use Rattle.stage_options.specs.declared.options.Options.TheVariants.{ReadersLas, FiltersSort, FiltersTail, FiltersGroupby, FiltersSplitter, FiltersVoxeldownsize, WritersLas, WritersText}
-use Rattle.stage_options.specs.Roles.{Role, role_of, is_reading, is_gathering, is_writing}
+use Rattle.stage_options.specs.declared.options.Options.TheVariants.{ReadersLas, FiltersSort, FiltersTail, FiltersGroupby, FiltersSplitter, FiltersVoxeldownsize, FiltersPlug, WritersLas, WritersText, WritersTally}
+use Rattle.stage_options.specs.Roles.{Role, plug_of, tally_of, role_of, is_reading, is_gathering, is_writing}
 use Rattle.stage_options.specs.Values.{is_numbered}
 use Rattle.stage_options.specs.Roles as role
-use Rattle.answer_model.specs.Rows.{Row, Setting, row_of, value_on}
+use Rattle.answer_model.specs.Naming.{found_in}
+use Rattle.answer_model.specs.Rows.{Row, Setting, folds, row_of, said_by, value_on}
 use Rattle.answer_model.specs.Rows as rows
 use Rattle.answer_model.specs.Values.{LasFile, Opened, wrote_with, files_with}
-use Rattle.stage_forms.specs.Starts.{files_of, wrote_of, writes_as, IsCollecting, HoldsNone, IsAtStart, IsStarted, form_for, op_for}
+use Rattle.stage_forms.specs.Starts.{files_of, wrote_of, writes_as, IsBegun, IsCollecting, IsHandedIn, ShowsNone, TellsNone, HoldsNone, IsAtStart, IsStarted, form_for, op_for}
 use Rattle.whole_filters.specs.declared.gathering.Gathering.{Gathering}
 use Rattle.view_works.specs.declared.collector.Collector.{Collector as Collecting}
 use Rattle.stage_forms.specs.Below.{Tells}
 
 -- a leaf is the work of a reader, and tells the flow and the fault of its file
-pub record IsLeaf {S K : Type 0} (s : source.Ghosts S) (o : Options) (las : LasPoints) (w : StageWork S K) : Type 0 where
+pub record IsLeaf {S K P Q : Type 0} (s : source.Ghosts S) (o : Options) (las : LasPoints) (w : StageWork S K P Q) : Type 0 where
   pub reads : is_reading (role_of o) ≡ true
   pub tells : tells_of s.bytes w ≡ true
   pub told : told_of s.bytes w ≡ flow_marks (las_flow las)
   pub fault : told_fault_of s.bytes w ≡ option_map stage.Point (las_fault las)
 
 -- any other work of a stage that doesn't need whole views makes the value of its stage, and has the stage's fault
-pub record IsInner {S K : Type 0} (o : Options) (setting : Setting) (w : StageWork S K) : Type 0 where
+pub record IsInner {S K P Q : Type 0} (fs : plug_type.Ghosts P) (ts : tally_type.Ghosts Q) (o : Options) (setting : Setting) (w : StageWork S K P Q) : Type 0 where
   pub inner : is_reading (role_of o) ≡ false
-  pub makes : (flow : Flow Point) → made_of (meaning_of w) (state_of w) flow ≡ flow_marks (value_on (row_of o setting) flow)
-  pub fault : (flow : Flow Point) → fault_on (meaning_of w) (state_of w) flow ≡ option_map stage.Point (rows.fault_on (row_of o setting) flow)
+  pub makes : (flow : Flow Point) → made_of (meaning_of fs ts w) (state_of fs ts w) flow ≡ flow_marks (value_on (row_of o setting) flow)
+  pub fault : (flow : Flow Point) → fault_on (meaning_of fs ts w) (state_of fs ts w) flow ≡ option_map stage.Point (rows.fault_on (row_of o setting) flow)
 
 -- ---- what a stage's work is made of is what its row says
 
@@ -92,9 +116,24 @@ abbrev pub IsMakingRow : Making → Options → Setting → Type 0
 IsMakingRow (Views g) o setting = role_of o ≡ role.Gathers
 IsMakingRow (Each x) o setting = IsEachRow x o setting
 
+-- a filter of the caller, which is the one of the name that the stage has for it
+pub record IsPlugRow (only : Option (Formula Dim)) (o : Options) (setting : Setting) : Type 0 where
+  pub does : role_of o ≡ role.Filters
+  pub folds : (n : Nature Point) → found_in setting.handed.filters (plug_of o) ≡ Some n → (row_of o setting).making ≡ rows.Folding n.step n.opening (cleared setting.dims) only
+  pub silent : (row_of o setting).says ≡ None
+
+-- a tally likewise
+pub record IsTallyRow (only : Option (Formula Dim)) (o : Options) (setting : Setting) : Type 0 where
+  pub does : role_of o ≡ role.Filters
+  pub judges : (row_of o setting).making ≡ rows.Judging (Admit (λ k p. None) only)
+  pub shows : (ps : List Point) → filter ((row_of o setting).writes) ps ≡ passing (passes only) ps
+  pub says : (n : Nature Point) → found_in setting.handed.tallies (tally_of o) ≡ Some n → (row_of o setting).says ≡ Some (said_by n)
+
 abbrev pub IsRow : StageForm → Options → Setting → Type 0
 IsRow (Reads fields) o setting = (is_reading (role_of o) ≡ true) × (op_for (role_of o) ≡ op_for (role.Reads [])) × (fields ≡ setting.fields)
 IsRow (Filters f) o setting = IsFilterRow f o setting
+IsRow (Plugs only) o setting = IsPlugRow only o setting
+IsRow (Tallies only) o setting = IsTallyRow only o setting
 IsRow (Gathers m) o setting = IsGatherRow m o setting × IsMakingRow m o setting
 IsRow (Writes x) o setting = IsWriterRow x o setting
 
@@ -133,6 +172,21 @@ pub row-is : (o : Options) (setting : Setting) → IsRow (form_for o setting) o 
 row-is (ReadersLas o) setting = (refl, refl, refl)
 row-is (WritersLas o) setting = writes-row (is_numbered o.filename) o.filename _ (WritersLas o) setting refl refl (λ ps. refl) (λ ps. refl)
 row-is (WritersText o) setting = writes-row (is_numbered o.filename) o.filename _ (WritersText o) setting refl refl (λ ps. refl) (λ ps. refl)
+row-is (FiltersPlug o) setting = record {
+  does = refl;
+  folds = λ n e. ap (λ h. (folds setting.names setting.dims h o.only).making) e;
+  silent = silent (named_in setting.handed.filters o.plug);
+}
+  where
+    silent : (h : Option (Nature Point)) → (folds setting.names setting.dims h o.only).says ≡ None
+    silent None = refl
+    silent (Some n) = refl
+row-is (WritersTally o) setting = record {
+  does = refl;
+  judges = refl;
+  shows = λ ps. refl;
+  says = λ n e. ap (option_map said_by) e;
+}
 row-is (FiltersSort o) setting = gathers-row _ (FiltersSort o) setting refl refl
 row-is (FiltersTail o) setting = gathers-row _ (FiltersTail o) setting refl refl
 row-is (FiltersGroupby o) setting = gathers-row _ (FiltersGroupby o) setting refl refl
@@ -147,6 +201,8 @@ reads-form o setting reads = go (form_for o setting) refl (row-is o setting)
     go : (form : StageForm) → form_for o setting ≡ form → IsRow form o setting → form_for o setting ≡ Reads setting.fields
     go (Reads fields) e row = e ∙ ap Reads row.2
     go (Filters f) e row = absurd (true≢false (sym reads ∙ ap is_reading row.does))
+    go (Plugs only) e row = absurd (true≢false (sym reads ∙ ap is_reading row.does))
+    go (Tallies only) e row = absurd (true≢false (sym reads ∙ ap is_reading row.does))
     go (Gathers g) e row = absurd (true≢false (sym reads ∙ row.0.inner))
     go (Writes x) e row = absurd (true≢false (sym reads ∙ ap is_reading row.does))
 
@@ -155,16 +211,115 @@ writer-inner : (each : Bool) (name : List ℕ) → is_reading (role.writing_by e
 writer-inner true name = refl
 writer-inner false name = refl
 
+-- ---- points against which there is no reason
+
+module _ (only : Point → Result Bool Reason) where
+  none_at : (p : Point) (n : ℕ) → refused_by (λ k q. None) only (p, n) ≡ reason_of (only p)
+  none_at p n = go (only p)
+    where
+      go : (r : Result Bool Reason) → if_passing r None ≡ reason_of r
+      go (Ok true) = refl
+      go (Ok false) = refl
+      go (Err e) = refl
+
+  none_from : (n k : ℕ) (ps : List Point) → first_refused (λ k q. None) only n k ps ≡ first_unjudged only n ps
+  none_from n k [] = refl
+  none_from n k (p ∷ ps) =
+      ap (λ o. found n o (first_refused (λ k q. None) only (n + 1) (if is_true (only p) then up_to_limit (k + 1) else k) ps)) (none_at p k)
+      ∙ ap (found n (reason_of (only p))) (none_from (n + 1) (if is_true (only p) then up_to_limit (k + 1) else k) ps)
+
+  pub none-against : (flow : Flow Point) → refusal_of (λ k q. None) only flow ≡ first_unjudged only 0 (points flow)
+  none-against flow = none_from 0 0 (points flow)
+
+-- ---- sets that hold the same dimensions
+
+cleared-same : (one other : Dim → Bool) → ((dim : Dim) → one dim ≡ other dim) → (p : Point) → cleared one p ≡ cleared other p
+cleared-same one other same p = rw (
+  same X,
+  same Y,
+  same Z,
+  same Intensity,
+  same ReturnNumber,
+  same NumberOfReturns,
+  same ScanDirectionFlag,
+  same EdgeOfFlightLine,
+  same Classification,
+  same Synthetic,
+  same KeyPoint,
+  same Withheld,
+  same Overlap,
+  same ScanChannel,
+  same ScanAngleRank,
+  same UserData,
+  same PointSourceId,
+  same GpsTime,
+  same Red,
+  same Green,
+  same Blue,
+  same Infrared,
+  same (Extra 0),
+  same (Extra 1),
+  same (Extra 2),
+  same (Extra 3),
+  same (Extra 4),
+  same (Extra 5),
+  same (Extra 6),
+  same (Extra 7),
+) refl
+
+all-mapped : (f g : List Point → List Point) → ((v : List Point) → f v ≡ g v) → (vs : List (List Point)) → map f vs ≡ map g vs
+all-mapped f g same [] = refl
+all-mapped f g same (v ∷ vs) = ap (λ x. x ∷ map f vs) (same v) ∙ ap (λ xs. g v ∷ xs) (all-mapped f g same vs)
+
+views-mapped : (f g : List Point → List Point) → ((v : List Point) → f v ≡ g v) → (flow : Flow Point) → map_views f flow ≡ map_views g flow
+views-mapped f g same flow = ap (λ vs. record { views = vs; open_view = f flow.open_view; cut = flow.cut }) (all-mapped f g same flow.views)
+    ∙ ap (λ v. record { views = map g flow.views; open_view = v; cut = flow.cut }) (same flow.open_view)
+
+module _ (step : Step Point) (opening : List ℤ) (one other : Dim → Bool) (only : Option (Formula Dim)) (same : (dim : Dim) → one dim ≡ other dim) where
+  step-same : (s : List ℤ) (p : Point) → step_where (passes only) (cleared one) step s p ≡ step_where (passes only) (cleared other) step s p
+  step-same s p = go (is_true (passes only p))
+    where
+      clear-same : (o : Option Point) → option_map (cleared one) o ≡ option_map (cleared other) o
+      clear-same None = refl
+      clear-same (Some q) = ap Some (cleared-same one other same q)
+
+      go : (b : Bool) → shown_if b (cleared one) step s p ≡ shown_if b (cleared other) step s p
+      go false = refl
+      go true = ap (λ (o : Option Point). ((step s p).0, o)) (clear-same (step s p).1)
+
+  fold-same : (s : List ℤ) (view : List Point) → plug_fold (step_where (passes only) (cleared one) step) s view ≡ plug_fold (step_where (passes only) (cleared other) step) s view
+  fold-same s [] = refl
+  fold-same s (p ∷ ps) = ap (λ (t : List ℤ × Option Point). cons_option t.1 (plug_fold (step_where (passes only) (cleared one) step) t.0 ps)) (step-same s p)
+      ∙ ap (cons_option (step_where (passes only) (cleared other) step s p).1) (fold-same (step_where (passes only) (cleared other) step s p).0 ps)
+
+  folds-same : (flow : Flow Point) → rows.made (rows.Folding step opening (cleared one) only) flow ≡ rows.made (rows.Folding step opening (cleared other) only) flow
+  folds-same flow = views-mapped (plug_fold (step_where (passes only) (cleared one) step) opening) (plug_fold (step_where (passes only) (cleared other) step) opening) (fold-same opening)
+      (before_stop (first_unjudged (passes only) 0 (points flow)) flow)
+
+-- ---- states at the start
+
+both : {A B : Type 0} {a c : A} {b d : B} → a ≡ c → b ≡ d → ◌≡◌ {A = A × B} (a, b) (c, d)
+both e f = rw (e, f) refl
+
+plug-begins : {P : Type 0} (fs : plug_type.Ghosts P) (w : PlugWork P) (only : Option (Formula Dim)) (has : Dim → Bool) → ShowsNone only has w → plug_spot fs w ≡ plug_spot_at 0 (fs.state w.plug)
+plug-begins fs w only has start = ap (λ (y : ℕ × Bool). record { number = y.0; begun = y.1; remembered = fs.state w.plug }) (both start.number start.begun)
+
+pub tally-begins : {Q : Type 0} (ts : tally_type.Ghosts Q) (w : TallyWork Q) (only : Option (Formula Dim)) → TellsNone only w → tally_spot ts w ≡ tally_spot_at 0 0 (ts.state w.tally)
+tally-begins ts w only start = ap (λ (y : ℕ × ℕ). record { number = y.0; shown = y.1; remembered = ts.state w.tally }) (both start.number start.shown)
+
+pub writer-begins : {S K P Q : Type 0} {bytes : K → Option (List ℕ)} (w : WriterStage K) (x : Writing) → IsBegun {S = S} {K = K} {P = P} {Q = Q} bytes x (Writer w) → Written (writes_of w) (spot_in w) ≡ begun x
+writer-begins w x start = ap (λ (y : Writing × Spot). Written y.0 y.1) (both (same_Some _ _ start.is) (same_Some _ _ start.spot))
+
 -- ---- works at their start
 
-module _ {S K : Type 0} (s : source.Ghosts S) (bytes : K → Option (List ℕ)) where
-  pub leaf-is : (o : Options) (setting : Setting) (opened : Opened) (i : ℕ) (w : StageWork S K) → IsAtStart bytes o setting w → is_leaf w ≡ true → ((r : LasReader S) → w ≡ Reader r → Tells s opened i r) → IsLeaf s o ((opened i).las setting.fields) w
+module _ {S K P Q : Type 0} (s : source.Ghosts S) (bytes : K → Option (List ℕ)) where
+  pub leaf-is : (o : Options) (setting : Setting) (opened : Opened) (i : ℕ) (w : StageWork S K P Q) → IsAtStart bytes o setting w → is_leaf w ≡ true → ((r : LasReader S) → w ≡ Reader r → Tells s opened i r) → IsLeaf s o ((opened.file i).las setting.fields) w
   leaf-is o setting opened i w start leaf tell = go (form_for o setting) (row-is o setting) w start leaf tell
     where
-      go : (form : StageForm) → IsRow form o setting → (w : StageWork S K) → IsStarted bytes form w → is_leaf w ≡ true → ((r : LasReader S) → w ≡ Reader r → Tells s opened i r) → IsLeaf s o ((opened i).las setting.fields) w
+      go : (form : StageForm) → IsRow form o setting → (w : StageWork S K P Q) → IsStarted bytes setting.dims form w → is_leaf w ≡ true → ((r : LasReader S) → w ≡ Reader r → Tells s opened i r) → IsLeaf s o ((opened.file i).las setting.fields) w
       go (Reads fields) row (Reader r) start leaf tell = (
           let t = tell r refl in
-          let f = reader_starts {K = K} s.bytes r t.file start.0 t.told in
+          let f = reader_starts {K = K} {P = P} {Q = Q} s.bytes r t.file start.0 t.told in
           let las = ap (λ (x : LasFile). x.las setting.fields) t.holds ∙ ap (λ fields. las_with r.header fields t.file) (sym (start.1 ∙ row.2)) in
           record {
             reads = row.0;
@@ -173,74 +328,110 @@ module _ {S K : Type 0} (s : source.Ghosts S) (bytes : K → Option (List ℕ)) 
             fault = f.fault ∙ ap (λ las. option_map stage.Point (las_fault las)) (sym las);
           })
       go (Filters f) row (Filter g) start leaf tell = absurd (true≢false (sym leaf))
+      go (Plugs only) row (Plug v) start leaf tell = absurd (true≢false (sym leaf))
+      go (Tallies only) row (Tally v) start leaf tell = absurd (true≢false (sym leaf))
       go (Gathers g) row (Collector c) start leaf tell = absurd (true≢false (sym leaf))
       go (Writes x) row (Writer v) start leaf tell = absurd (true≢false (sym leaf))
       go form row w start leaf tell = absurd start
 
-  pub inner-is : (o : Options) (setting : Setting) (w : StageWork S K) → IsAtStart bytes o setting w → is_leaf w ≡ false → is_gathering (role_of o) ≡ false → IsInner o setting w
-  inner-is o setting w start inner streams = go (form_for o setting) (row-is o setting) w start inner
+  pub inner-is : (fs : plug_type.Ghosts P) (ts : tally_type.Ghosts Q) (o : Options) (setting : Setting) (w : StageWork S K P Q) → IsAtStart bytes o setting w → IsHandedIn fs ts o setting.handed w
+      → is_leaf w ≡ false → is_gathering (role_of o) ≡ false → IsInner fs ts o setting w
+  inner-is fs ts o setting w start handed inner streams = go (form_for o setting) (row-is o setting) w start handed inner
     where
-      go : (form : StageForm) → IsRow form o setting → (w : StageWork S K) → IsStarted bytes form w → is_leaf w ≡ false → IsInner o setting w
-      go (Reads fields) row (Reader r) start inner = absurd (true≢false inner)
-      go (Filters f) row (Filter g) start inner = subst (λ h. IsInner {S = S} {K = K} o setting (Filter h)) (sym start) (record {
+      go : (form : StageForm) → IsRow form o setting → (w : StageWork S K P Q) → IsStarted bytes setting.dims form w → IsHandedIn fs ts o setting.handed w → is_leaf w ≡ false → IsInner fs ts o setting w
+      go (Reads fields) row (Reader r) start handed inner = absurd (true≢false inner)
+      go (Filters f) row (Filter g) start handed inner = subst (λ h. IsInner {S = S} {K = K} {P = P} {Q = Q} fs ts o setting (Filter h)) (sym start) (record {
         inner = ap is_reading row.does;
         makes = λ flow. ap (λ t. made_of (filter_work (filtering_of f)) (At t) flow) row.begins ∙ filter_gives (filtering_of f) flow ∙ ap (λ m. flow_marks (rows.made m flow)) (sym row.filtering);
         fault = λ flow. ap (λ t. fault_on (filter_work (filtering_of f)) (At t) flow) row.begins ∙ filter_fault (filtering_of f) flow ∙ ap (λ m. option_map stage.Point (rows.stop m flow)) (sym row.filtering);
       })
-      go (Gathers g) row (Collector c) start inner = absurd (true≢false (sym row.0.gathers ∙ streams))
-      go (Writes x) row (Writer v) start inner = record {
+      go (Plugs only) row (Plug v) start handed inner = record {
         inner = ap is_reading row.does;
-        makes = λ flow. ap (λ t. made_of writer_work t flow) start.state ∙ writer_gives x flow ∙ ap (λ m. flow_marks (rows.made m flow)) (sym row.filtering);
-        fault = λ flow. ap (λ t. fault_on writer_work t flow) start.state ∙ writer_fault x flow ∙ ap (λ m. option_map stage.Point (rows.stop m flow)) (sym row.filtering);
+        makes = λ flow. ap (λ t. made_of (plug_work (plug_meaning fs v)) (Plugging t) flow) (plug-begins fs v only setting.dims start)
+            ∙ plug_gives (plug_nature fs v) (fs.opening v.plug) (fs.step v.plug) (cleared (holds v.layout)) (passes v.only) (fs.state v.plug) flow
+            ∙ ap (λ (y : Option (Formula Dim)). flow_marks (rows.made (rows.Folding (fs.step v.plug) (fs.opening v.plug) (cleared (holds v.layout)) y) flow)) start.only_is
+            ∙ ap flow_marks (folds-same (fs.step v.plug) (fs.opening v.plug) (holds v.layout) setting.dims only start.layout_is flow)
+            ∙ ap (λ m. flow_marks (rows.made m flow)) (sym (row.folds (plug_nature fs v) handed));
+        fault = λ flow. ap (λ t. fault_on (plug_work (plug_meaning fs v)) (Plugging t) flow) (plug-begins fs v only setting.dims start)
+            ∙ plug_fault (plug_nature fs v) (fs.opening v.plug) (fs.step v.plug) (cleared (holds v.layout)) (passes v.only) (fs.state v.plug) flow
+            ∙ ap (λ (y : Option (Formula Dim)). option_map stage.Point (rows.stop (rows.Folding (fs.step v.plug) (fs.opening v.plug) (cleared setting.dims) y) flow)) start.only_is
+            ∙ ap (λ m. option_map stage.Point (rows.stop m flow)) (sym (row.folds (plug_nature fs v) handed));
       }
-      go form row w start inner = absurd start
+      go (Tallies only) row (Tally v) start handed inner = record {
+        inner = ap is_reading row.does;
+        makes = λ flow. ap (λ t. made_of (tally_work (tally_meaning ts v)) (Tallying t) flow) (tally-begins ts v only start)
+            ∙ tally_gives (tally_nature ts v) (ts.step v.tally) (passes v.only) (ts.state v.tally) flow
+            ∙ ap (λ o. flow_marks (before_stop o flow)) (sym (none-against (passes v.only) flow))
+            ∙ ap (λ (y : Option (Formula Dim)). flow_marks (rows.made (rows.Judging (Admit (λ k p. None) y)) flow)) start.only_is
+            ∙ ap (λ m. flow_marks (rows.made m flow)) (sym row.judges);
+        fault = λ flow. ap (λ t. fault_on (tally_work (tally_meaning ts v)) (Tallying t) flow) (tally-begins ts v only start)
+            ∙ tally_fault (tally_nature ts v) (ts.step v.tally) (passes v.only) (ts.state v.tally) flow
+            ∙ ap (λ o. option_map stage.Point (option_map (λ s. point_fault (up_to_limit s.0) s.1) o)) (sym (none-against (passes v.only) flow))
+            ∙ ap (λ (y : Option (Formula Dim)). option_map stage.Point (rows.stop (rows.Judging (Admit (λ k p. None) y)) flow)) start.only_is
+            ∙ ap (λ m. option_map stage.Point (rows.stop m flow)) (sym row.judges);
+      }
+      go (Gathers g) row (Collector c) start handed inner = absurd (true≢false (sym row.0.gathers ∙ streams))
+      go (Writes x) row (Writer v) start handed inner = record {
+        inner = ap is_reading row.does;
+        makes = λ flow. ap (λ t. made_of writer_work t flow) (writer-begins v x start) ∙ writer_gives x flow ∙ ap (λ m. flow_marks (rows.made m flow)) (sym row.filtering);
+        fault = λ flow. ap (λ t. fault_on writer_work t flow) (writer-begins v x start) ∙ writer_fault x flow ∙ ap (λ m. option_map stage.Point (rows.stop m flow)) (sym row.filtering);
+      }
+      go form row w start handed inner = absurd start
 
   -- a work at its start holds nothing
-  pub holds-nothing : (o : Options) (setting : Setting) (w : StageWork S K) → IsAtStart bytes o setting w → holds_of bytes w [] ≡ true
+  pub holds-nothing : (o : Options) (setting : Setting) (w : StageWork S K P Q) → IsAtStart bytes o setting w → holds_of bytes w [] ≡ true
   holds-nothing o setting w start = go (form_for o setting) w start
     where
-      go : (form : StageForm) (w : StageWork S K) → IsStarted bytes form w → holds_of bytes w [] ≡ true
+      go : (form : StageForm) (w : StageWork S K P Q) → IsStarted bytes setting.dims form w → holds_of bytes w [] ≡ true
       go (Reads fields) (Reader r) start = refl
       go (Filters f) (Filter g) start = refl
+      go (Plugs only) (Plug v) start = refl
+      go (Tallies only) (Tally v) start = refl
       go (Gathers g) (Collector c) start = refl
       go (Writes x) (Writer v) start = start.holds
       go form w start = absurd start
 
   -- and keeps no views
-  pub keeps-at-start : (o : Options) (setting : Setting) (w : StageWork S K) → IsAtStart bytes o setting w → keeps_of w ≡ None
+  pub keeps-at-start : (o : Options) (setting : Setting) (w : StageWork S K P Q) → IsAtStart bytes o setting w → keeps_of w ≡ None
   keeps-at-start o setting w start = go (form_for o setting) w start
     where
-      go : (form : StageForm) (w : StageWork S K) → IsStarted bytes form w → keeps_of w ≡ None
+      go : (form : StageForm) (w : StageWork S K P Q) → IsStarted bytes setting.dims form w → keeps_of w ≡ None
       go (Reads fields) (Reader r) start = refl
       go (Filters f) (Filter g) start = refl
+      go (Plugs only) (Plug v) start = refl
+      go (Tallies only) (Tally v) start = refl
       go (Gathers g) (Collector c) start = refl
       go (Writes x) (Writer v) start = refl
       go form w start = absurd start
 
   -- and has the device of its stage's role
-  pub op-at-start : (o : Options) (setting : Setting) (w : StageWork S K) → IsAtStart bytes o setting w → op_of w ≡ op_for (role_of o)
+  pub op-at-start : (o : Options) (setting : Setting) (w : StageWork S K P Q) → IsAtStart bytes o setting w → op_of w ≡ op_for (role_of o)
   op-at-start o setting w start = go (form_for o setting) (row-is o setting) w start
     where
-      go : (form : StageForm) → IsRow form o setting → (w : StageWork S K) → IsStarted bytes form w → op_of w ≡ op_for (role_of o)
+      go : (form : StageForm) → IsRow form o setting → (w : StageWork S K P Q) → IsStarted bytes setting.dims form w → op_of w ≡ op_for (role_of o)
       go (Reads fields) row (Reader r) start = sym row.1
       go (Filters f) row (Filter g) start = sym (ap op_for row.does)
+      go (Plugs only) row (Plug v) start = sym (ap op_for row.does)
+      go (Tallies only) row (Tally v) start = sym (ap op_for row.does)
       go (Gathers g) row (Collector c) start = sym row.0.device
       go (Writes x) row (Writer v) start = sym (ap op_for row.does)
       go form row w start = absurd start
 
   -- its work is a leaf exactly where the stage reads
-  reads-at-start : (o : Options) (setting : Setting) (w : StageWork S K) → IsAtStart bytes o setting w → is_leaf w ≡ is_reading (role_of o)
+  reads-at-start : (o : Options) (setting : Setting) (w : StageWork S K P Q) → IsAtStart bytes o setting w → is_leaf w ≡ is_reading (role_of o)
   reads-at-start o setting w start = go (form_for o setting) (row-is o setting) w start
     where
-      go : (form : StageForm) → IsRow form o setting → (w : StageWork S K) → IsStarted bytes form w → is_leaf w ≡ is_reading (role_of o)
+      go : (form : StageForm) → IsRow form o setting → (w : StageWork S K P Q) → IsStarted bytes setting.dims form w → is_leaf w ≡ is_reading (role_of o)
       go (Reads fields) row (Reader r) start = sym row.0
       go (Filters f) row (Filter g) start = sym (ap is_reading row.does)
+      go (Plugs only) row (Plug v) start = sym (ap is_reading row.does)
+      go (Tallies only) row (Tally v) start = sym (ap is_reading row.does)
       go (Gathers g) row (Collector c) start = sym row.0.inner
       go (Writes x) row (Writer v) start = sym (ap is_reading row.does)
       go form row w start = absurd start
 
   -- so it is where its type is a reader's
-  pub start-reads : (o : Options) (setting : Setting) (w : StageWork S K) → IsAtStart bytes o setting w → is_leaf w ≡ names.is_reader (kind_of o)
+  pub start-reads : (o : Options) (setting : Setting) (w : StageWork S K P Q) → IsAtStart bytes o setting w → is_leaf w ≡ names.is_reader (kind_of o)
   start-reads o setting w start = reads-at-start o setting w start ∙ same o
     where
       same : (o : Options) → is_reading (role_of o) ≡ names.is_reader (kind_of o)
@@ -250,7 +441,7 @@ module _ {S K : Type 0} (s : source.Ghosts S) (bytes : K → Option (List ℕ)) 
       same o = refl
 
   -- a stage that needs whole views has a work that takes them
-  pub collects-at-start : (o : Options) (setting : Setting) (w : StageWork S K) → IsAtStart bytes o setting w → is_gathering (role_of o) ≡ true
+  pub collects-at-start : (o : Options) (setting : Setting) (w : StageWork S K P Q) → IsAtStart bytes o setting w → is_gathering (role_of o) ≡ true
       → (c : Collecting Making) × (m : Making) × (w ≡ Collector c) × HoldsNone m c × (form_for o setting ≡ Gathers m)
   collects-at-start o setting w start gathers = go (form_for o setting) refl (row-is o setting) w start
     where
@@ -260,46 +451,51 @@ module _ {S K : Type 0} (s : source.Ghosts S) (bytes : K → Option (List ℕ)) 
       not-reading (role.WritesEach name) a b = absurd (true≢false (sym a))
       not-reading r a b = absurd (true≢false (sym b))
 
-      go : (form : StageForm) → form_for o setting ≡ form → IsRow form o setting → (w : StageWork S K) → IsStarted bytes form w
+      go : (form : StageForm) → form_for o setting ≡ form → IsRow form o setting → (w : StageWork S K P Q) → IsStarted bytes setting.dims form w
           → (c : Collecting Making) × (m : Making) × (w ≡ Collector c) × HoldsNone m c × (form_for o setting ≡ Gathers m)
       go (Reads fields) e row (Reader r) start = absurd (not-reading (role_of o) row.0 gathers)
       go (Filters f) e row (Filter h) start = absurd (true≢false (sym gathers ∙ ap is_gathering row.does))
+      go (Plugs only) e row (Plug v) start = absurd (true≢false (sym gathers ∙ ap is_gathering row.does))
+      go (Tallies only) e row (Tally v) start = absurd (true≢false (sym gathers ∙ ap is_gathering row.does))
       go (Gathers m) e row (Collector c) start = (c, m, refl, start, e)
       go (Writes x) e row (Writer v) start = absurd (true≢false (sym gathers ∙ ap is_gathering row.does))
       go form e row w start = absurd start
 
   -- and a work that takes them is that of a stage that needs them
-  pub collects-gathers : (o : Options) (setting : Setting) (w : StageWork S K) → IsAtStart bytes o setting w → IsCollecting w → is_gathering (role_of o) ≡ true
+  pub collects-gathers : (o : Options) (setting : Setting) (w : StageWork S K P Q) → IsAtStart bytes o setting w → IsCollecting w → is_gathering (role_of o) ≡ true
   collects-gathers o setting (Collector c) start collects = go (form_for o setting) (row-is o setting) start
     where
-      go : (form : StageForm) → IsRow form o setting → IsStarted {S = S} {K = K} bytes form (Collector c) → is_gathering (role_of o) ≡ true
+      go : (form : StageForm) → IsRow form o setting → IsStarted {S = S} {K = K} {P = P} {Q = Q} bytes setting.dims form (Collector c) → is_gathering (role_of o) ≡ true
       go (Gathers g) row start = row.0.gathers
       go form row start = absurd start
   collects-gathers o setting w start collects = absurd collects
 
   -- a writer writes what its stage does
-  pub writing-at-start : (o : Options) (setting : Setting) (w : StageWork S K) → IsAtStart bytes o setting w → (x : Writing) → form_for o setting ≡ Writes x → writing_of w ≡ Some x
-  writing-at-start o setting w start x e = go w (subst (λ form. IsStarted bytes form w) e start)
+  pub writing-at-start : (o : Options) (setting : Setting) (w : StageWork S K P Q) → IsAtStart bytes o setting w → (x : Writing) → form_for o setting ≡ Writes x → writing_of w ≡ Some x
+  writing-at-start o setting w start x e = go w (subst (λ form. IsStarted bytes setting.dims form w) e start)
     where
-      go : (w : StageWork S K) → IsStarted bytes (Writes x) w → writing_of w ≡ Some x
+      go : (w : StageWork S K P Q) → IsStarted bytes setting.dims (Writes x) w → writing_of w ≡ Some x
       go (Writer v) start = start.is
       go w start = absurd start
 
+module _ {S K : Type 0} (P Q : Type 0) (bytes : K → Option (List ℕ)) where
   -- a reader takes the fields of its stage
-  pub fields-at-start : (o : Options) (setting : Setting) (r : LasReader S) → IsAtStart bytes o setting (Reader r) → r.fields ≡ setting.fields
+  pub fields-at-start : (o : Options) (setting : Setting) (r : LasReader S) → IsAtStart {P = P} {Q = Q} bytes o setting (Reader r) → r.fields ≡ setting.fields
   fields-at-start o setting r start = go (form_for o setting) (row-is o setting) start
     where
-      go : (form : StageForm) → IsRow form o setting → IsStarted {S = S} {K = K} bytes form (Reader r) → r.fields ≡ setting.fields
+      go : (form : StageForm) → IsRow form o setting → IsStarted {S = S} {K = K} {P = P} {Q = Q} bytes setting.dims form (Reader r) → r.fields ≡ setting.fields
       go (Reads fields) row start = start.1 ∙ row.2
       go form row start = absurd start
 
   -- a reader that gave nothing yet is the work of a stage that reads
-  pub reader-start : (o : Options) (setting : Setting) (r : LasReader S) → is_reading (role_of o) ≡ true → r.progress ≡ Records 0 → r.fields ≡ setting.fields → IsAtStart bytes o setting (Reader r)
+  pub reader-start : (o : Options) (setting : Setting) (r : LasReader S) → is_reading (role_of o) ≡ true → r.progress ≡ Records 0 → r.fields ≡ setting.fields → IsAtStart {P = P} {Q = Q} bytes o setting (Reader r)
   reader-start o setting r reads start fields = go (form_for o setting) (row-is o setting) reads
     where
-      go : (form : StageForm) → IsRow form o setting → is_reading (role_of o) ≡ true → IsStarted {S = S} {K = K} bytes form (Reader r)
+      go : (form : StageForm) → IsRow form o setting → is_reading (role_of o) ≡ true → IsStarted {S = S} {K = K} {P = P} {Q = Q} bytes setting.dims form (Reader r)
       go (Reads taken) row reads = (start, fields ∙ sym row.2)
       go (Filters f) row reads = absurd (true≢false (sym reads ∙ ap is_reading row.does))
+      go (Plugs only) row reads = absurd (true≢false (sym reads ∙ ap is_reading row.does))
+      go (Tallies only) row reads = absurd (true≢false (sym reads ∙ ap is_reading row.does))
       go (Gathers g) row reads = absurd (true≢false (sym reads ∙ row.0.inner))
       go (Writes x) row reads = absurd (true≢false (sym reads ∙ ap is_reading row.does))
 
@@ -317,6 +513,8 @@ writes-form o setting writes = go (form_for o setting) refl (row-is o setting)
     go : (form : StageForm) → form_for o setting ≡ form → IsRow form o setting → (x : Writing) × (form_for o setting ≡ Writes x)
     go (Reads fields) e row = absurd (not-both (role_of o) row.0 writes)
     go (Filters f) e row = absurd (true≢false (sym writes ∙ ap is_writing row.does))
+    go (Plugs only) e row = absurd (true≢false (sym writes ∙ ap is_writing row.does))
+    go (Tallies only) e row = absurd (true≢false (sym writes ∙ ap is_writing row.does))
     go (Gathers g) e row = absurd (true≢false (sym writes ∙ row.0.later))
     go (Writes x) e row = (x, e)
 

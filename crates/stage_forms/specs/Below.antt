@@ -21,7 +21,7 @@ read_of r = read_file r.header r.vlrs r.evlrs
 pub record Tells {S : Type 0} (s : source.Ghosts S) (opened : Opened) (i : ℕ) (r : LasReader S) : Type 0 where
   pub file : List ℕ
   pub told : s.bytes r.source ≡ Some file
-  pub holds : opened i ≡ record { read = read_of r; las = λ fields. las_with r.header fields file }
+  pub holds : opened.file i ≡ record { read = read_of r; las = λ fields. las_with r.header fields file }
 
 -- the fields that a stage with these options takes of the file of its reader, where it has one
 abbrev pub found_of : {S : Type 0} → Options → Option (LasReader S) → List ExtraField
@@ -39,7 +39,7 @@ reads_in readers places = flat_map (λ j. read_in (slice_index_or readers j None
 
 -- these are the files of the readers
 abbrev pub HaveReaders : {S : Type 0} → List (Option (LasReader S)) → Opened → Type 0
-HaveReaders {S} readers opened = (i : ℕ) (r : LasReader S) → slice_get readers i ≡ Some (Some r) → (opened i).read ≡ read_of r
+HaveReaders {S} readers opened = (i : ℕ) (r : LasReader S) → slice_get readers i ≡ Some (Some r) → (opened.file i).read ≡ read_of r
 
 -- a stage has a reader exactly where it reads
 abbrev pub AreReaders : {S : Type 0} → List StageSpec → List (Option (LasReader S)) → Type 0

@@ -4,6 +4,7 @@ use Rattle.file_devices.specs.declared.devices.Op.{Op}
 use Rattle.file_devices.specs.declared.devices.Op.TheVariants.{Read, Write}
 use Rattle.file_devices.specs.declared.devices.Source as source
 use Rattle.cloud_points.specs.declared.dims.Dim.{Dim}
+use Rattle.cloud_points.specs.Layouts.{holds}
 use Rattle.cloud_points.specs.declared.work.Work.{Ghosts}
 use Rattle.cloud_points.specs.Flows.{Flow, all_of, points, empty_flow}
 use Rattle.expr_lang.specs.Formula.{Formula}
@@ -13,17 +14,23 @@ use Rattle.las_reader.specs.declared.reader.Progress.TheVariants.{Records}
 use Rattle.stage_kinds.specs.declared.file_form.FileForm.{FileForm}
 use Rattle.stage_kinds.specs.declared.file_form.FileForm.TheVariants as file
 use Rattle.stage_kinds.specs.declared.file_form.StageForm.{StageForm}
-use Rattle.stage_kinds.specs.declared.file_form.StageForm.TheVariants.{Reads, Filters, Gathers, Writes}
+use Rattle.stage_kinds.specs.declared.file_form.StageForm.TheVariants.{Reads, Filters, Plugs, Tallies, Gathers, Writes}
 use Rattle.stage_kinds.specs.declared.file_form.Writing.{Writing}
 use Rattle.stage_kinds.specs.declared.making.Making.{Making}
 use Rattle.stage_kinds.specs.declared.making.Making.TheVariants.{Gathers as Views, WritesEach as Each}
 use Rattle.stage_kinds.specs.declared.stage_work.StageWork.{StageWork}
-use Rattle.stage_kinds.specs.declared.stage_work.StageWork.TheVariants.{Reader, Filter, Collector, Writer}
+use Rattle.stage_kinds.specs.declared.stage_work.StageWork.TheVariants.{Reader, Filter, Plug, Tally, Collector, Writer}
 use Rattle.stage_kinds.specs.Files.{IsFileForm, chosen}
 use Rattle.stage_kinds.specs.Makings.{IsGoodMaking, kept_by}
 use Rattle.stage_kinds.specs.Held.{op_of}
-use Rattle.stage_kinds.specs.Stages.{begun, state_of, holds_of, writing_of}
-use Rattle.stage_options.specs.Roles.{Role, role_of}
+use Rattle.stage_kinds.specs.Stages.{holds_of, writes_at, writing_of}
+use Rattle.plug_stages.specs.Handed.{Handed}
+use Rattle.plug_stages.specs.Works.{plug_nature, tally_nature}
+use Rattle.plug_stages.specs.declared.filter.PlugFilter as plug_type
+use Rattle.plug_stages.specs.declared.plug_work.PlugWork.{PlugWork}
+use Rattle.plug_stages.specs.declared.tally.PlugTally as tally_type
+use Rattle.plug_stages.specs.declared.tally_work.TallyWork.{TallyWork}
+use Rattle.stage_options.specs.Roles.{Role, plug_of, role_of, tally_of}
 use Rattle.stage_options.specs.Roles as role
 use Rattle.stage_options.specs.declared.options.Options.{Options}
 use Rattle.stage_options.specs.declared.options.Options.TheVariants.{WritersLas, WritersText}
@@ -44,6 +51,7 @@ use Rattle.stream_filters.specs.declared.filter.Filter.TheVariants as filter
 use Rattle.stage_options.specs.declared.stage.StageSpec.{StageSpec}
 use Rattle.stage_forms.specs.Below.{Tells, read_of}
 use Rattle.answer_model.specs.Forms.{las_form, text_form}
+use Rattle.answer_model.specs.Naming.{found_in}
 use Rattle.answer_model.specs.Rows.{Setting}
 use Rattle.answer_model.specs.Values.{Opened, options_at, role_at, setting_at}
 use Rattle.cloud_points.specs.declared.point.Point.{Point}
@@ -85,8 +93,10 @@ writes_as _ writing = Writes writing
 -- by what a stage does; each that writes has the form of a file, and one that reads takes these fields
 abbrev pub does_with : Role → BoundStage → Option FileForm → List ExtraField → StageForm
 does_with r (does.Filters f only) form fields = Filters (started f only)
+does_with r (does.Plugs only) form fields = Plugs only
 does_with r (does.Gathers g) form fields = Gathers (Views g)
 does_with r (does.Writes only extra) (Some form) fields = writes_as r (record { form = form; only = only })
+does_with r (does.Tallies only) form fields = Tallies only
 does_with r _ form fields = Reads fields
 
 -- by its options, and where it stands
@@ -108,9 +118,9 @@ IsGood _ = ⊤
 -- ---- works at their start
 
 -- a writer that had no point yet; `bytes` is what a sink tells
-pub record IsBegun {S K : Type 0} (bytes : K → Option (List ℕ)) (writing : Writing) (w : StageWork S K) : Type 0 where
+pub record IsBegun {S K P Q : Type 0} (bytes : K → Option (List ℕ)) (writing : Writing) (w : StageWork S K P Q) : Type 0 where
   pub is : writing_of w ≡ Some writing
-  pub state : state_of w ≡ begun writing
+  pub spot : writes_at w ≡ Some (spot_at 0)
   pub holds : holds_of bytes w [] ≡ true
 
 -- a stage that needs whole views and took none yet
@@ -119,17 +129,31 @@ pub record HoldsNone (making : Making) (c : Collecting Making) : Type 0 where
   pub short : c.short ≡ false
   pub views : c.views ≡ empty_flow
 
--- a work made of this that had no turn yet
-abbrev pub IsStarted : {S K : Type 0} → (K → Option (List ℕ)) → StageForm → StageWork S K → Type 0
-IsStarted bytes (Reads fields) (Reader r) = (r.progress ≡ Records 0) × (r.fields ≡ fields)
-IsStarted bytes (Filters f) (Filter g) = g ≡ f
-IsStarted bytes (Gathers g) (Collector c) = HoldsNone g c
-IsStarted {S} {K} bytes (Writes writing) (Writer w) = IsBegun {S = S} {K = K} bytes writing (Writer w)
-IsStarted bytes _ _ = ⊥
+-- the stage of a filter of the caller that had no point yet, and takes points with these dimensions; and that of a tally
+pub record ShowsNone {P : Type 0} (only : Option (Formula Dim)) (has : Dim → Bool) (w : PlugWork P) : Type 0 where
+  pub only_is : w.only ≡ only
+  pub layout_is : (dim : Dim) → holds w.layout dim ≡ has dim
+  pub number : w.number ≡ 0
+  pub begun : w.begun ≡ false
+
+pub record TellsNone {Q : Type 0} (only : Option (Formula Dim)) (w : TallyWork Q) : Type 0 where
+  pub only_is : w.only ≡ only
+  pub number : w.number ≡ 0
+  pub shown : w.shown ≡ 0
+
+-- a work made of this that had no turn yet, and takes points with these dimensions
+abbrev pub IsStarted : {S K P Q : Type 0} → (K → Option (List ℕ)) → (Dim → Bool) → StageForm → StageWork S K P Q → Type 0
+IsStarted bytes has (Reads fields) (Reader r) = (r.progress ≡ Records 0) × (r.fields ≡ fields)
+IsStarted bytes has (Filters f) (Filter g) = g ≡ f
+IsStarted bytes has (Plugs only) (Plug w) = ShowsNone only has w
+IsStarted bytes has (Tallies only) (Tally w) = TellsNone only w
+IsStarted bytes has (Gathers g) (Collector c) = HoldsNone g c
+IsStarted {S} {K} {P} {Q} bytes has (Writes writing) (Writer w) = IsBegun {S = S} {K = K} {P = P} {Q = Q} bytes writing (Writer w)
+IsStarted bytes has _ _ = ⊥
 
 -- a work does what a stage with these options does where it stands, and had no turn yet
-abbrev pub IsAtStart : {S K : Type 0} → (K → Option (List ℕ)) → Options → Setting → StageWork S K → Type 0
-IsAtStart bytes o setting w = IsStarted bytes (form_for o setting) w
+abbrev pub IsAtStart : {S K P Q : Type 0} → (K → Option (List ℕ)) → Options → Setting → StageWork S K P Q → Type 0
+IsAtStart bytes o setting w = IsStarted bytes setting.dims (form_for o setting) w
 
 -- what a stage that does this does with its device while the stages take turns
 abbrev pub op_for : Role → Option Op
@@ -140,24 +164,41 @@ op_for (role.Writes name) = Some Write
 op_for (role.WritesEach name) = None
 
 -- works that hold the devices of their stages' roles
-abbrev pub HaveDevices : {S K : Type 0} → List StageSpec → List (StageWork S K) → Type 0
-HaveDevices {S} {K} stages works = (i : ℕ) (w : StageWork S K) → slice_get works i ≡ Some w → op_of w ≡ op_for (role_at stages i)
+abbrev pub HaveDevices : {S K P Q : Type 0} → List StageSpec → List (StageWork S K P Q) → Type 0
+HaveDevices {S} {K} {P} {Q} stages works = (i : ℕ) (w : StageWork S K P Q) → slice_get works i ≡ Some w → op_of w ≡ op_for (role_at stages i)
 
 -- these are the files of the readers among works
-abbrev pub HaveRead : {S K : Type 0} → List (StageWork S K) → Opened → Type 0
-HaveRead {S} works opened = (i : ℕ) (r : LasReader S) → slice_get works i ≡ Some (Reader r) → (opened i).read ≡ read_of r
+abbrev pub HaveRead : {S K P Q : Type 0} → List (StageWork S K P Q) → Opened → Type 0
+HaveRead {S} works opened = (i : ℕ) (r : LasReader S) → slice_get works i ≡ Some (Reader r) → (opened.file i).read ≡ read_of r
 
 -- the works of the first stages, as many as there are, are at their start behind the files of the readers among them
-abbrev pub AreAtStart : {S K : Type 0} → (K → Option (List ℕ)) → List StageSpec → List (StageWork S K) → Type 0
-AreAtStart {S} {K} bytes stages works = (opened : Opened) → HaveRead works opened
-    → (i : ℕ) (w : StageWork S K) → slice_get works i ≡ Some w → IsAtStart bytes (options_at stages i) (setting_at stages opened i) w
+abbrev pub AreAtStart : {S K P Q : Type 0} → (K → Option (List ℕ)) → List StageSpec → List (StageWork S K P Q) → Type 0
+AreAtStart {S} {K} {P} {Q} bytes stages works = (opened : Opened) → HaveRead works opened
+    → (i : ℕ) (w : StageWork S K P Q) → slice_get works i ≡ Some w → IsAtStart bytes (options_at stages i) (setting_at stages opened i) w
 
 -- the readers' sources tell these files
-abbrev pub AreTold : {S K : Type 0} → source.Ghosts S → List (StageWork S K) → Opened → Type 0
-AreTold {S} {K} s works opened = (i : ℕ) (w : StageWork S K) (r : LasReader S) → slice_get works i ≡ Some w → w ≡ Reader r → Tells s opened i r
+abbrev pub AreTold : {S K P Q : Type 0} → source.Ghosts S → List (StageWork S K P Q) → Opened → Type 0
+AreTold {S} {K} {P} {Q} s works opened = (i : ℕ) (w : StageWork S K P Q) (r : LasReader S) → slice_get works i ≡ Some w → w ≡ Reader r → Tells s opened i r
+
+-- ---- what a caller handed in
+
+module _ {S K P Q : Type 0} (fs : plug_type.Ghosts P) (ts : tally_type.Ghosts Q) where
+  -- the work of a stage with these options shows its points to what was handed in under the name that the stage has for it; a tally begins
+  abbrev pub IsHandedIn : Options → Handed → StageWork S K P Q → Type 0
+  IsHandedIn o handed (Plug w) = found_in handed.filters (plug_of o) ≡ Some (plug_nature fs w)
+  IsHandedIn o handed (Tally w) = (found_in handed.tallies (tally_of o) ≡ Some (tally_nature ts w)) × (ts.state w.tally ≡ ts.opening w.tally)
+  IsHandedIn o handed _ = ⊤
+
+  abbrev pub AreHandedIn : List StageSpec → List (StageWork S K P Q) → Handed → Type 0
+  AreHandedIn stages works handed = (i : ℕ) (w : StageWork S K P Q) → slice_get works i ≡ Some w → IsHandedIn (options_at stages i) handed w
+
+-- works run on this: their sources tell these files, and this was handed in
+pub record AreGiven {S K P Q : Type 0} (s : source.Ghosts S) (fs : plug_type.Ghosts P) (ts : tally_type.Ghosts Q) (stages : List StageSpec) (works : List (StageWork S K P Q)) (opened : Opened) : Type 0 where
+  pub told : AreTold s works opened
+  pub handed : AreHandedIn fs ts stages works opened.handed
 
 -- a work takes whole views
-abbrev pub IsCollecting : {S K : Type 0} → StageWork S K → Type 0
+abbrev pub IsCollecting : {S K P Q : Type 0} → StageWork S K P Q → Type 0
 IsCollecting (Collector c) = ⊤
 IsCollecting w = ⊥
 
@@ -166,6 +207,11 @@ abbrev pub wrote_of : StageForm → Flow Point → Flow Point → Option ℕ
 wrote_of (Writes x) taken given = Some (up_to_limit (length (chosen x.only (points taken))))
 wrote_of (Gathers (Each x)) taken given = Some (up_to_limit (length (chosen x.only (all_of given.views))))
 wrote_of _ taken given = None
+
+-- whether it shows its points to a tally
+abbrev pub tells_points : StageForm → Bool
+tells_points (Tallies only) = true
+tells_points _ = false
 
 -- what it writes of each of these views, which it keeps for that
 abbrev pub kept_for : StageForm → Flow Point → Option (Writing × Flow Point)

@@ -10,6 +10,7 @@ ghost use Rattle.stage_forms.specs.Starts.{IsBoundBehind, IsGood, fields_for, fi
 ghost use Rattle.cloud_points.specs.declared.dims.Dim.{Dim};
 ghost use Rattle.extra_bytes.specs.Fields.{AreLaid};
 ghost use Rattle.name_binding.specs.Binding.{IsLaidStage};
+ghost use Rattle.plug_stages.specs.Handed.{Handed};
 
 use crate::{las_form, text_form};
 use cloud_points::{ExtraNames, FieldList};
@@ -66,9 +67,10 @@ fn file_form<S: Source>(
     requires inside { All (λ j. j < length readers.now) below.now }
     requires laid { AreLaid 0 extra }
     requires few { length extra ≤ 8 }
-    ensures form { (has : Dim → Bool) → extra ≡ fields_for has names.now options.now
+    ensures form { (has : Dim → Bool) (handed : Handed) → extra ≡ fields_for has names.now options.now
         → IfOk result (λ form. file_for options.now
-        (record { names = names.now; reads = reads_in readers.now below.now; dims = has; fields = [] }) ≡ Some form) }
+        (record { names = names.now; reads = reads_in readers.now below.now; dims = has; fields = []; handed = handed })
+        ≡ Some form) }
     ensures good { IfOk result IsFileForm }
 {
     match options {
@@ -110,15 +112,17 @@ pub fn stage_form<S: Source>(
         × IsBoundBehind options.now bound has before names.now }
     requires laid { IsLaidStage bound }
     requires inside { All (λ j. j < length readers.now) below.now }
-    ensures form { (has : Dim → Bool) (before : List (List ℕ))
+    ensures form { (has : Dim → Bool) (before : List (List ℕ)) (handed : Handed)
         → IsBoundBehind options.now bound has before names.now
         → IfOk result (λ form. form ≡ form_for options.now
-        (record { names = before; reads = reads_in readers.now below.now; dims = has; fields = [] })) }
+        (record { names = before; reads = reads_in readers.now below.now; dims = has; fields = []; handed = handed })) }
     ensures good { IfOk result IsGood }
 {
     match bound {
         BoundStage::Reads => Ok(StageForm::Reads(FieldList::none(alloc))),
         BoundStage::Filters(filter, only) => Ok(StageForm::Filters(filter_of(filter, only))),
+        BoundStage::Plugs(only) => Ok(StageForm::Plugs(only)),
+        BoundStage::Tallies(only) => Ok(StageForm::Tallies(only)),
         BoundStage::Gathers(gathering) => Ok(StageForm::Gathers(Making::Gathers(gathering))),
         BoundStage::Writes(only, extra) => {
             let form = file_form(alloc, options, extra, names, readers, below)?;

@@ -23,7 +23,7 @@ use Rattle.stage_meanings.specs.declared.reason.Reason.TheVariants.{OutOfRange, 
 use Rattle.stage_meanings.specs.declared.spot.Spot.{Spot}
 use Rattle.stage_kinds.specs.declared.file_form.Writing.{Writing as Writes}
 use Rattle.stage_kinds.specs.declared.stage_work.StageState.{StageState}
-use Rattle.stage_kinds.specs.declared.stage_work.StageState.TheVariants.{Reading, Filtering as At, Collecting, Keeping, Writing}
+use Rattle.stage_kinds.specs.declared.stage_work.StageState.TheVariants.{Reading, Filtering as At, Plugging, Tallying, Collecting, Keeping, Writing}
 use Rattle.stage_kinds.specs.Files.{unwritten}
 use Rattle.stage_kinds.specs.Stages.{writing_steps, writing_meaning, writing_in, writer_work, filtering_in, filter_work}
 use Rattle.stage_kinds.specs.Leads.{number_of, taken_in}
@@ -113,6 +113,8 @@ writer-counts = record {
     points-of (Writing x spot) ps e = counts x spot ps e
     points-of Reading ps e = omega arith
     points-of (At spot) ps e = omega arith
+    points-of (Plugging spot) ps e = omega arith
+    points-of (Tallying spot) ps e = omega arith
     points-of (Collecting making views) ps e = omega arith
     points-of (Keeping x views) ps e = omega arith
 
@@ -120,6 +122,8 @@ writer-counts = record {
     view-of (Writing x spot) = refl
     view-of Reading = refl
     view-of (At spot) = refl
+    view-of (Plugging spot) = refl
+    view-of (Tallying spot) = refl
     view-of (Collecting making views) = refl
     view-of (Keeping x views) = refl
 
@@ -127,6 +131,8 @@ writer-counts = record {
     last-of (Writing x spot) cut = refl
     last-of Reading cut = refl
     last-of (At spot) cut = refl
+    last-of (Plugging spot) cut = refl
+    last-of (Tallying spot) cut = refl
     last-of (Collecting making views) cut = refl
     last-of (Keeping x views) cut = refl
 
@@ -134,5 +140,7 @@ writer-counts = record {
     fault-of (Writing x spot) ps f e = uncounted x spot ps f e
     fault-of Reading ps f e = cc
     fault-of (At spot) ps f e = cc
+    fault-of (Plugging spot) ps f e = cc
+    fault-of (Tallying spot) ps f e = cc
     fault-of (Collecting making views) ps f e = cc
     fault-of (Keeping x views) ps f e = cc

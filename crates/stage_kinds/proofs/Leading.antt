@@ -187,19 +187,19 @@ told-marks las count read ViewEnded = omega arith
 told-marks las count read (Ended cut) = omega arith
 
 -- behind its start it read no more records than those that it gave of what it told, and those beyond
-pub reads-most : {S : Type 0} (K : Type 0) (bytes : S → Option (List ℕ)) (reached : S → ℕ) (r0 r1 : LasReader S) (file : List ℕ) → bytes r0.source ≡ Some file → r0.progress ≡ Records 0
-    → extent_of {K = K} bytes (Reader r1) ≡ extent_of {K = K} bytes (Reader r0)
-    → read_at r1.header (reached r1.source) + count_points (told_of {K = K} bytes (Reader r1)) ≤ count_points (told_of {K = K} bytes (Reader r0)) + ahead_of {K = K} bytes reached (Reader r1)
-reads-most {S} K bytes reached r0 r1 file told start same = by_bytes (bytes r1.source) same'
+pub reads-most : {S : Type 0} (K P Q : Type 0) (bytes : S → Option (List ℕ)) (reached : S → ℕ) (r0 r1 : LasReader S) (file : List ℕ) → bytes r0.source ≡ Some file → r0.progress ≡ Records 0
+    → extent_of {K = K} {P = P} {Q = Q} bytes (Reader r1) ≡ extent_of {K = K} {P = P} {Q = Q} bytes (Reader r0)
+    → read_at r1.header (reached r1.source) + count_points (told_of {K = K} {P = P} {Q = Q} bytes (Reader r1)) ≤ count_points (told_of {K = K} {P = P} {Q = Q} bytes (Reader r0)) + ahead_of {K = K} {P = P} {Q = Q} bytes reached (Reader r1)
+reads-most {S} K P Q bytes reached r0 r1 file told start same = by_bytes (bytes r1.source) same'
   where
     same' : option_map (extent_in r1.header r1.fields) (bytes r1.source) ≡ Some (extent_in r0.header r0.fields file)
     same' = same ∙ ap (option_map (extent_in r0.header r0.fields)) told
 
-    first : count_points (told_of {K = K} bytes (Reader r0)) ≡ length (las_with r0.header r0.fields file).points
+    first : count_points (told_of {K = K} {P = P} {Q = Q} bytes (Reader r0)) ≡ length (las_with r0.header r0.fields file).points
     first = ap (λ o. count_points (told_at o r0.header r0.fields r0.progress)) told ∙ ap (λ p. count_points (rest_marks (las_with r0.header r0.fields file) p)) start ∙ count-marks (las_with r0.header r0.fields file).points (las_with r0.header r0.fields file).fault
 
     by_bytes : (o : Option (List ℕ)) → option_map (extent_in r1.header r1.fields) o ≡ Some (extent_in r0.header r0.fields file)
-        → read_at r1.header (reached r1.source) + count_points (told_at o r1.header r1.fields r1.progress) ≤ count_points (told_of {K = K} bytes (Reader r0)) + beyond_at o r1.header r1.fields (reached r1.source) r1.progress
+        → read_at r1.header (reached r1.source) + count_points (told_at o r1.header r1.fields r1.progress) ≤ count_points (told_of {K = K} {P = P} {Q = Q} bytes (Reader r0)) + beyond_at o r1.header r1.fields (reached r1.source) r1.progress
     by_bytes None e = absurd (none-some (extent_in r0.header r0.fields file) e)
     by_bytes (Some now) e =
         let many : length (las_with r1.header r1.fields now).points ≡ length (las_with r0.header r0.fields file).points = ap (λ (x : Extent). x.points) (same_Some (extent_in r1.header r1.fields now) (extent_in r0.header r0.fields file) e) in
@@ -222,9 +222,9 @@ pub lead-read : (header : Header) (reached : ℕ) → 0 < header.record_length �
 lead-read header reached some = below-to header (read_at header reached) reached (points_in header) (reaches header reached some)
 
 -- at its first record, with nothing of the points read, it read none beyond
-pub begins-near : {S : Type 0} (K : Type 0) (bytes : S → Option (List ℕ)) (reached : S → ℕ) (r : LasReader S) (file : List ℕ) → bytes r.source ≡ Some file → r.progress ≡ Records 0
-    → reached r.source ≤ r.header.points_at → ahead_of {K = K} bytes reached (Reader r) ≡ 0
-begins-near K bytes reached r file told start none =
+pub begins-near : {S : Type 0} (K P Q : Type 0) (bytes : S → Option (List ℕ)) (reached : S → ℕ) (r : LasReader S) (file : List ℕ) → bytes r.source ≡ Some file → r.progress ≡ Records 0
+    → reached r.source ≤ r.header.points_at → ahead_of {K = K} {P = P} {Q = Q} bytes reached (Reader r) ≡ 0
+begins-near K P Q bytes reached r file told start none =
     let las = las_with r.header r.fields file in
     let read = read_at r.header (reached r.source) in
     let few : read ≤ 0 = below-to r.header 0 (reached r.source) (reached r.source) (omega (arith, none)) in

@@ -117,7 +117,7 @@ still_tells (Some file) bytes1 header0 header1 fields0 fields1 chunk before afte
     rw (same, same_header, same_fields) (step_within (las_with header0 fields0 file) chunk before after m points tells (step_told header0 fields0 file chunk before after m points step tells calm) goes_on)
 
 -- a reader at its start tells its whole file
-pub record TellsFile {S K : Type 0} (bytes : S → Option (List ℕ)) (k : StageWork S K) (las : Las) : Type 0 where
+pub record TellsFile {S K P Q : Type 0} (bytes : S → Option (List ℕ)) (k : StageWork S K P Q) (las : Las) : Type 0 where
   pub tells : tells_of bytes k ≡ true
   pub told : told_of bytes k ≡ flow_marks (las_flow las)
   pub fault : told_fault_of bytes k ≡ cut_fault las
@@ -126,7 +126,7 @@ start_marks : (points : List Point) (fault : Option PointFault) → map At point
 start_marks points None = sym (ap (λ ms. ms ++ End false ∷ []) (append-nil (map At points ++ View_end ∷ [])) ∙ append_assoc (map At points) (View_end ∷ []) (End false ∷ []))
 start_marks points (Some k) = refl
 
-pub reader_starts : {S K : Type 0} (bytes : S → Option (List ℕ)) (r : LasReader S) (file : List ℕ) → r.progress ≡ Records 0 → bytes r.source ≡ Some file → TellsFile {K = K} bytes (Reader r) (las_with r.header r.fields file)
+pub reader_starts : {S K P Q : Type 0} (bytes : S → Option (List ℕ)) (r : LasReader S) (file : List ℕ) → r.progress ≡ Records 0 → bytes r.source ≡ Some file → TellsFile {K = K} {P = P} {Q = Q} bytes (Reader r) (las_with r.header r.fields file)
 reader_starts bytes r file start told =
     let las = las_with r.header r.fields file in
     record {

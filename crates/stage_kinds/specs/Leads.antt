@@ -30,7 +30,7 @@ records_below header place many = total (begins_below header place) many
 abbrev pub lead : {S : Type 0} → (S → ℕ) → LasReader S → ℕ
 lead reached r = records_below r.header (reached r.source) (points_in r.header)
 
-abbrev pub lead_of : {S K : Type 0} → (S → ℕ) → StageWork S K → ℕ
+abbrev pub lead_of : {S K P Q : Type 0} → (S → ℕ) → StageWork S K P Q → ℕ
 lead_of reached (Reader r) = lead reached r
 lead_of reached _ = 0
 
@@ -52,7 +52,7 @@ beyond_at (Some file) header fields reached progress =
     beyond_in (las_with header fields file) (points_in header) (read_at header reached) progress
 
 -- of a stage: only readers read
-abbrev pub ahead_of : {S K : Type 0} → (S → Option (List ℕ)) → (S → ℕ) → StageWork S K → ℕ
+abbrev pub ahead_of : {S K P Q : Type 0} → (S → Option (List ℕ)) → (S → ℕ) → StageWork S K P Q → ℕ
 ahead_of bytes reached (Reader r) = beyond_at (bytes r.source) r.header r.fields (reached r.source) r.progress
 ahead_of bytes reached _ = 0
 
@@ -64,25 +64,25 @@ extent_in header fields file = record {
   stride = header.record_length;
 }
 
-abbrev pub extent_of : {S K : Type 0} → (S → Option (List ℕ)) → StageWork S K → Option Extent
+abbrev pub extent_of : {S K P Q : Type 0} → (S → Option (List ℕ)) → StageWork S K P Q → Option Extent
 extent_of bytes (Reader r) = option_map (extent_in r.header r.fields) (bytes r.source)
 extent_of bytes _ = None
 
 -- how far a stage has read its file, and where the points begin there
-abbrev pub reached_of : {S K : Type 0} → (S → ℕ) → StageWork S K → ℕ
+abbrev pub reached_of : {S K P Q : Type 0} → (S → ℕ) → StageWork S K P Q → ℕ
 reached_of reached (Reader r) = reached r.source
 reached_of reached _ = 0
 
-abbrev pub begins_at : {S K : Type 0} → StageWork S K → ℕ
+abbrev pub begins_at : {S K P Q : Type 0} → StageWork S K P Q → ℕ
 begins_at (Reader r) = r.header.points_at
 begins_at _ = 0
 
 -- no header counts EVLRs
-abbrev pub HaveNoEvlrs : {S K : Type 0} → List (StageWork S K) → Type 0
+abbrev pub HaveNoEvlrs : {S K P Q : Type 0} → List (StageWork S K P Q) → Type 0
 HaveNoEvlrs {S} works = (i : ℕ) (r : LasReader S) → slice_get works i ≡ Some (Reader r) → r.header.evlrs ≡ 0
 
 -- of the files whose headers count none nothing behind the header and the VLRs was read
-abbrev pub AreInFront : {S K : Type 0} → (S → ℕ) → List (StageWork S K) → Type 0
+abbrev pub AreInFront : {S K P Q : Type 0} → (S → ℕ) → List (StageWork S K P Q) → Type 0
 AreInFront {S} reached works = (i : ℕ) (r : LasReader S) → slice_get works i ≡ Some (Reader r) → r.header.evlrs ≡ 0 → reached r.source ≤ r.header.points_at
 
 -- ---- what a writer counts

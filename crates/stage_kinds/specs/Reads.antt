@@ -70,31 +70,31 @@ views_left ViewEnded = 0
 views_left (Ended cut) = 0
 
 -- of a stage, by the bytes that a source tells: a reader has something to give, and one that gives what was made of whole views
-module _ {S K : Type 0} where
-  abbrev pub tells_of : (S → Option (List ℕ)) → StageWork S K → Bool
+module _ {S K P Q : Type 0} where
+  abbrev pub tells_of : (S → Option (List ℕ)) → StageWork S K P Q → Bool
   tells_of bytes (Reader r) = tells_at (bytes r.source) r.header r.fields r.progress
   tells_of bytes (Views h) = not h.ended
   tells_of bytes (ViewFiles t) = not t.views.ended
   tells_of bytes _ = false
 
-  abbrev pub told_of : (S → Option (List ℕ)) → StageWork S K → List (Mark Point)
+  abbrev pub told_of : (S → Option (List ℕ)) → StageWork S K P Q → List (Mark Point)
   told_of bytes (Reader r) = told_at (bytes r.source) r.header r.fields r.progress
   told_of bytes (Views h) = left_of h
   told_of bytes (ViewFiles t) = left_of t.views
   told_of bytes _ = []
 
-  abbrev pub told_fault_of : (S → Option (List ℕ)) → StageWork S K → Option StageFault
+  abbrev pub told_fault_of : (S → Option (List ℕ)) → StageWork S K P Q → Option StageFault
   told_fault_of bytes (Reader r) = told_fault_at (bytes r.source) r.header r.fields r.progress
   told_fault_of bytes (ViewFiles t) = fault_with t.fault
   told_fault_of bytes _ = None
 
-  abbrev pub points_left_of : StageWork S K → ℕ
+  abbrev pub points_left_of : StageWork S K P Q → ℕ
   points_left_of (Reader r) = points_left (points_in r.header) r.progress
   points_left_of (Views h) = count_points (left_of h)
   points_left_of (ViewFiles t) = count_points (left_of t.views)
   points_left_of _ = 0
 
-  abbrev pub views_left_of : StageWork S K → ℕ
+  abbrev pub views_left_of : StageWork S K P Q → ℕ
   views_left_of (Reader r) = views_left r.progress
   views_left_of (Views h) = count_views (left_of h)
   views_left_of (ViewFiles t) = count_views (left_of t.views)

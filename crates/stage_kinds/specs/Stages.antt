@@ -16,15 +16,21 @@ use Rattle.stage_meanings.specs.Filters.{refused_by, first_refused}
 use Rattle.stage_meanings.specs.Steps.{Steps, given, reached, stopped}
 use Rattle.stage_meanings.specs.declared.reason.Reason.{Reason}
 use Rattle.stage_meanings.specs.declared.spot.Spot.{Spot}
+use Rattle.plug_stages.specs.Works.{plug_meaning, plug_spot, tally_meaning, tally_spot}
+use Rattle.plug_stages.specs.declared.filter.PlugFilter as filter
+use Rattle.plug_stages.specs.declared.spots.PlugSpot.{PlugSpot}
+use Rattle.plug_stages.specs.declared.spots.TallySpot.{TallySpot}
+use Rattle.plug_stages.specs.declared.tally.PlugTally as tally
+use Rattle.run_report.specs.declared.tally.TallyLine.{TallyLine}
 use Rattle.stream_filters.specs.Kinds.{filtering_of, spot_of}
 use Rattle.view_works.specs.Collecting.{Held, collecting, held}
 use Rattle.view_works.specs.Giving.{resting, resting_until}
 use Rattle.stage_kinds.specs.declared.file_form.Writing.{Writing as Writes}
 use Rattle.stage_kinds.specs.declared.making.Making.{Making}
 use Rattle.stage_kinds.specs.declared.stage_work.StageState.{StageState}
-use Rattle.stage_kinds.specs.declared.stage_work.StageState.TheVariants.{Reading, Filtering as At, Collecting, Keeping, Writing}
+use Rattle.stage_kinds.specs.declared.stage_work.StageState.TheVariants.{Reading, Filtering as At, Plugging, Tallying, Collecting, Keeping, Writing}
 use Rattle.stage_kinds.specs.declared.stage_work.StageWork.{StageWork}
-use Rattle.stage_kinds.specs.declared.stage_work.StageWork.TheVariants.{Reader, Filter, Collector, Views, ViewFiles, Writer}
+use Rattle.stage_kinds.specs.declared.stage_work.StageWork.TheVariants.{Reader, Filter, Plug, Tally, Collector, Views, ViewFiles, Writer}
 use Rattle.stage_kinds.specs.declared.writer_stage.WriterStage.{WriterStage}
 use Rattle.stage_kinds.specs.Files.{chosen, count_of, file_form, file_holds, unwritten}
 
@@ -87,6 +93,14 @@ abbrev pub filtering_in : StageState → Option Spot
 filtering_in (At spot) = Some spot
 filtering_in _ = None
 
+abbrev pub plugging_in : StageState → Option PlugSpot
+plugging_in (Plugging spot) = Some spot
+plugging_in _ = None
+
+abbrev pub tallying_in : StageState → Option TallySpot
+tallying_in (Tallying spot) = Some spot
+tallying_in _ = None
+
 abbrev pub collecting_in : StageState → Option (Making × Held)
 collecting_in (Collecting g views) = Some (g, views)
 collecting_in _ = None
@@ -109,63 +123,89 @@ collector_work = lifted collecting collecting_in (λ s. Collecting s.0 s.1)
 abbrev pub keeping : Writes → Flow Point → Meaning StageState Point StageFault
 keeping x views = resting_until (λ s. Keeping x views)
 
-module _ {S K : Type 0} where
-  abbrev pub meaning_of : StageWork S K → Meaning StageState Point StageFault
+-- the stages of the caller's filters and tallies, by what these are
+abbrev pub plug_work : Meaning PlugSpot Point StageFault → Meaning StageState Point StageFault
+plug_work m = lifted m plugging_in Plugging
+
+abbrev pub tally_work : Meaning TallySpot Point StageFault → Meaning StageState Point StageFault
+tally_work m = lifted m tallying_in Tallying
+
+module _ {S K P Q : Type 0} (plugs : filter.Ghosts P) (tallies : tally.Ghosts Q) where
+  abbrev pub meaning_of : StageWork S K P Q → Meaning StageState Point StageFault
   meaning_of (Reader r) = resting
   meaning_of (Filter f) = filter_work (filtering_of f)
+  meaning_of (Plug w) = plug_work (plug_meaning plugs w)
+  meaning_of (Tally w) = tally_work (tally_meaning tallies w)
   meaning_of (Collector c) = collector_work
   meaning_of (Views h) = resting
   meaning_of (ViewFiles t) = keeping t.writing t.views.views
   meaning_of (Writer w) = writer_work
 
-  abbrev pub state_of : StageWork S K → StageState
+  abbrev pub state_of : StageWork S K P Q → StageState
   state_of (Reader r) = Reading
   state_of (Filter f) = At (spot_of f)
+  state_of (Plug w) = Plugging (plug_spot plugs w)
+  state_of (Tally w) = Tallying (tally_spot tallies w)
   state_of (Collector c) = Collecting c.making (held c.short c.views)
   state_of (Views h) = Reading
   state_of (ViewFiles t) = Keeping t.writing t.views.views
   state_of (Writer w) = Writing (writes_of w) (spot_in w)
 
-  abbrev pub is_leaf : StageWork S K → Bool
+module _ {S K P Q : Type 0} where
+  abbrev pub is_leaf : StageWork S K P Q → Bool
   is_leaf (Reader r) = true
   is_leaf (Views h) = true
   is_leaf (ViewFiles t) = true
   is_leaf _ = false
 
   -- whether memory was wanting for what it takes
-  abbrev pub is_short : StageWork S K → Bool
+  abbrev pub is_short : StageWork S K P Q → Bool
   is_short (Collector c) = c.short
   is_short _ = false
 
   -- what its sink holds, by the bytes that a sink tells
-  abbrev pub holds_of : (K → Option (List ℕ)) → StageWork S K → List Point → Bool
+  abbrev pub holds_of : (K → Option (List ℕ)) → StageWork S K P Q → List Point → Bool
   holds_of bytes (Writer w) points = holds_chosen bytes w points
   holds_of bytes _ points = true
 
   -- what a stage writes
-  abbrev pub writing_of : StageWork S K → Option Writes
+  abbrev pub writing_of : StageWork S K P Q → Option Writes
   writing_of (Writer w) = Some (writes_of w)
   writing_of _ = None
 
+  -- where its next point stands
+  abbrev pub writes_at : StageWork S K P Q → Option Spot
+  writes_at (Writer w) = Some (spot_in w)
+  writes_at _ = None
+
   -- what it writes of each view, and the views that it keeps for that
-  abbrev pub keeps_of : StageWork S K → Option (Writes × Flow Point)
+  abbrev pub keeps_of : StageWork S K P Q → Option (Writes × Flow Point)
   keeps_of (ViewFiles t) = Some (t.writing, t.views.views)
   keeps_of _ = None
 
   -- how many points it writes
-  abbrev pub written_by : StageWork S K → Option ℕ
+  abbrev pub written_by : StageWork S K P Q → Option ℕ
   written_by (Writer w) = Some (count_of w.file)
   written_by (ViewFiles t) = Some t.wrote
   written_by _ = None
 
+  -- how many points it showed to a tally, and what that says
+  abbrev pub shown_by : StageWork S K P Q → Option ℕ
+  shown_by (Tally w) = Some w.shown
+  shown_by _ = None
+
+  abbrev pub says_of : tally.Ghosts Q → StageWork S K P Q → Option TallyLine
+  says_of tallies (Tally w) = Some (record { name = tallies.called w.tally; text = tallies.text w.tally (tallies.state w.tally) })
+  says_of tallies _ = None
+
   -- how many files it writes
-  abbrev pub files_by : StageWork S K → ℕ
+  abbrev pub files_by : StageWork S K P Q → ℕ
   files_by (Writer w) = 1
   files_by (ViewFiles t) = up_to_limit (length t.views.views.views)
   files_by _ = 0
 
 -- a writer of this holds these points, and stops at none of them
-pub record HoldsAll {S K : Type 0} (bytes : K → Option (List ℕ)) (writing : Writes) (points : List Point) (w : StageWork S K) : Type 0 where
+pub record HoldsAll {S K P Q : Type 0} (bytes : K → Option (List ℕ)) (writing : Writes) (points : List Point) (w : StageWork S K P Q) : Type 0 where
   pub is : writing_of w ≡ Some writing
   pub holds : holds_of bytes w points ≡ true
   pub nowhere : stops_nowhere writing points ≡ true

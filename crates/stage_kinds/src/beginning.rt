@@ -7,13 +7,14 @@ ghost use Rattle.file_devices.specs.declared.devices.Op as op_type;
 ghost use Rattle.stage_kinds.specs.Files.{IsFileForm, count_of, file_form, file_holds, sink_of};
 ghost use Rattle.stage_kinds.specs.Held.{op_of, faults_of};
 ghost use Rattle.stage_kinds.specs.Begins.{begin_err_of_text, begin_err_of_las};
-ghost use Rattle.stage_kinds.specs.Stages.{begun, state_of, holds_chosen, holds_of, spot_in, writes_of, writing_of};
+ghost use Rattle.stage_kinds.specs.Stages.{holds_chosen, holds_of, spot_in, writes_at, writes_of, writing_of};
 ghost use Rattle.stage_meanings.specs.ByRule.{spot_at};
 
 use crate::{FileForm, FileWriter, StageWork, WriterStage, Writing};
 use cloud_points::Spread;
 use file_devices::{FileSink, Source};
 use las_writer::{LasBeginErr, LasWriter};
+use plug_stages::{PlugFilter, PlugTally};
 use std::alloc::Global;
 use stream_filters::WriterWhere;
 use text_writer::{TextBeginErr, TextWriter};
@@ -111,14 +112,14 @@ pub(crate) fn begin_stage<K: FileSink>(
 ///
 /// A refusal gives the sink back. It is `Failed` only where the sink failed, and `Memory` only where there is none for what
 /// the writer holds.
-pub fn begin_file<S: Source, K: FileSink>(
+pub fn begin_file<S: Source, K: FileSink, P: PlugFilter, Q: PlugTally>(
     alloc: Global,
     sink: K,
     writing: Writing,
-) -> Result<StageWork<S, K>, (K, FileBeginErr)>
+) -> Result<StageWork<S, K, P, Q>, (K, FileBeginErr)>
     requires { IsFileForm writing.form }
     ensures form { IfOk result (λ w. writing_of w ≡ Some writing) }
-    ensures state { IfOk result (λ w. state_of w ≡ begun writing) }
+    ensures spot { IfOk result (λ w. writes_at w ≡ Some (spot_at 0)) }
     ensures holds { IfOk result (λ w. IsAsTold (K.bytes sink) (Some []) → holds_of K.bytes w [] ≡ true) }
     ensures writes { IfOk result (λ w. op_of w ≡ Some op_type.Op.Write) }
     ensures later { IfOk result (λ w. K.faults sink ≤ faults_of S.faults K.faults w) }

@@ -36,6 +36,12 @@ pub enum StageForm {
     /// It is a filter.
     Filters(Filter),
 
+    /// It shows the points for which this condition holds to a filter of the caller; None is all.
+    Plugs(Option<Bound>),
+
+    /// It shows the points for which this condition holds to a tally of the caller; None is all.
+    Tallies(Option<Bound>),
+
     /// It needs whole views, and makes this of them.
     Gathers(Making),
 

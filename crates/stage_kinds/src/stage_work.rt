@@ -1,9 +1,14 @@
 //! The works of the stages.
 
+ghost use Rattle.std.specs.Prelude.{◌≡◌};
+
 use crate::{Gatherer, Held, Making, ViewFiles, WriterStage, Writing};
+use arrayvec::ArrayString;
 use cloud_points::{Make, Spread, StageFault, Work};
 use file_devices::{FileSink, Op, Source};
 use las_reader::LasReader;
+use plug_stages::{PlugFilter, PlugSpot, PlugTally, PlugWork, TallySpot, TallyWork};
+use run_report::{Label, Note, TallyLine};
 use stage_meanings::Spot;
 use std::alloc::{AllocError, Global};
 use stream_filters::Filter;
@@ -20,6 +25,12 @@ pub enum StageState {
     /// A filter remembers where its next point stands.
     Filtering(Spot),
 
+    /// The stage of a filter of the caller remembers where its next point stands, and what the filter remembers.
+    Plugging(PlugSpot),
+
+    /// The stage of a tally remembers where its next point stands, how many points it showed, and what the tally remembers.
+    Tallying(TallySpot),
+
     /// A stage that needs whole views remembers what it is to make of them, and those that it took; None where memory was wanting.
     Collecting(Making, Option<Views>),
 
@@ -32,12 +43,18 @@ pub enum StageState {
 }
 
 /// The work of a stage.
-pub enum StageWork<S, K: FileSink> {
+pub enum StageWork<S, K: FileSink, P: PlugFilter, Q: PlugTally> {
     /// Reads the points of a LAS file.
     Reader(LasReader<S>),
 
     /// Judges its points.
     Filter(Filter),
+
+    /// Shows its points to a filter of the caller.
+    Plug(PlugWork<P>),
+
+    /// Shows its points to a tally of the caller, and lets them pass.
+    Tally(TallyWork<Q>),
 
     /// Takes the points of whole views.
     Collector(Gatherer),
@@ -52,7 +69,7 @@ pub enum StageWork<S, K: FileSink> {
     Writer(WriterStage<K>),
 }
 
-impl<S: Source, K: FileSink> Work for StageWork<S, K> {
+impl<S: Source, K: FileSink, P: PlugFilter, Q: PlugTally> Work for StageWork<S, K, P, Q> {
     ghost use Rattle.stage_kinds.specs.Stages.{state_of, meaning_of, is_leaf, is_short, holds_of};
     ghost use Rattle.stage_kinds.specs.Held.{faults_of, op_of};
     ghost use Rattle.stage_kinds.specs.Reads.{tells_of, told_of, told_fault_of, points_left_of, views_left_of};
@@ -61,9 +78,9 @@ impl<S: Source, K: FileSink> Work for StageWork<S, K> {
 
     type State = StageState;
 
-    ghost state = { λ w. state_of w };
+    ghost state = { λ w. state_of P.PlugFilter Q.PlugTally w };
 
-    ghost meaning = { λ w. meaning_of w };
+    ghost meaning = { λ w. meaning_of P.PlugFilter Q.PlugTally w };
 
     ghost leaf = { λ w. is_leaf w };
 
@@ -89,7 +106,7 @@ impl<S: Source, K: FileSink> Work for StageWork<S, K> {
 
     ghost holds = { λ w points. holds_of K.bytes w points };
 
-    ghost cutting = { λ w. meaning_keeps w };
+    ghost cutting = { λ w. meaning_keeps P.PlugFilter Q.PlugTally w };
 
     fn is_leaf(&self) -> bool {
         matches!(
@@ -110,6 +127,8 @@ impl<S: Source, K: FileSink> Work for StageWork<S, K> {
     fn on_chunk(&mut self, points: &mut Spread) -> Option<StageFault> {
         match self {
             StageWork::Filter(filter) => filter.on_chunk(points),
+            StageWork::Plug(plug) => plug.turn(points),
+            StageWork::Tally(tally) => tally.turn(points),
             StageWork::Collector(collector) => {
                 collector.on_chunk(points);
                 None
@@ -122,11 +141,15 @@ impl<S: Source, K: FileSink> Work for StageWork<S, K> {
     fn on_end_view(&mut self) -> bool {
         match self {
             StageWork::Filter(filter) => filter.on_end_view(),
+            StageWork::Plug(plug) => {
+                plug.end_view();
+                true
+            }
             StageWork::Collector(collector) => {
                 collector.on_end_view();
                 true
             }
-            StageWork::Writer(_) => true,
+            StageWork::Tally(_) | StageWork::Writer(_) => true,
             _leaf => unreachable!(),
         }
     }
@@ -143,18 +166,33 @@ impl<S: Source, K: FileSink> Work for StageWork<S, K> {
     }
 }
 
-impl<S: Source, K: FileSink> StageWork<S, K> {
+/// What a tally says, under its name.
+fn tally_line<Q: PlugTally>(tally: &TallyWork<Q>) -> TallyLine
+    ensures { result ≡ record {
+      name = Q.called tally.now.tally;
+      text = Q.text tally.now.tally (Q.state tally.now.tally);
+    } }
+{
+    let mut text = ArrayString::new();
+    tally.close(&mut text);
+    TallyLine {
+        name: Label::of(tally.name()),
+        text: Note::new(text),
+    }
+}
+
+impl<S: Source, K: FileSink, P: PlugFilter, Q: PlugTally> StageWork<S, K, P, Q> {
     ghost use Rattle.std.specs.Prelude.{◌≡◌, List, Some, None, true, is_some, option_map, IfErr, IfOk, OnOk};
     ghost use Rattle.cloud_points.specs.declared.point.Point as point_type;
     ghost use Rattle.file_devices.specs.Counts.{HasCause};
     ghost use Rattle.file_devices.specs.Told.{IsAsTold};
     ghost use Rattle.stage_kinds.specs.declared.file_form.Writing as writing_type;
-    ghost use Rattle.stage_kinds.specs.Held.{held_by, op_of, faults_of, told_by};
+    ghost use Rattle.stage_kinds.specs.Held.{HoldsSame, held_by, op_of, faults_of, told_by};
     ghost use Rattle.stage_kinds.specs.Files.{chosen, file_bytes, finishing_op};
     ghost use Rattle.stage_kinds.specs.Gathers.{IsGathered, IsMade};
     ghost use Rattle.stage_kinds.specs.Makings.{IsGoodMaking};
     ghost use Rattle.stage_kinds.specs.declared.held.Held.TheVariants.{Nothing};
-    ghost use Rattle.stage_kinds.specs.Stages.{files_by, holds_of, is_short, keeps_of, stops_nowhere, written_by, writing_of};
+    ghost use Rattle.stage_kinds.specs.Stages.{files_by, holds_of, is_short, keeps_of, says_of, shown_by, stops_nowhere, written_by, writing_of};
 
     /// Makes a writer's file whole: a text writer's sink writes what it holds back, and a LAS writer appends its EVLRs and
     /// puts the totals of its points into the header. Any other stage does nothing.
@@ -171,6 +209,7 @@ impl<S: Source, K: FileSink> StageWork<S, K> {
         ensures cause { HasCause (faults_of S.faults K.faults self.old) (faults_of S.faults K.faults self.new)
             result }
         ensures keeps { keeps_of self.new ≡ keeps_of self.old }
+        ensures handed { HoldsSame P.PlugFilter Q.PlugTally self.old self.new }
     {
         match self {
             StageWork::Writer(writer) => writer.file.finish(),
@@ -208,16 +247,16 @@ impl<S: Source, K: FileSink> StageWork<S, K> {
         }
     }
 
-    /// Ends a work that holds no device.
+    /// Ends a work that holds nothing.
     pub fn let_go(self)
-        requires { op_of self ≡ None }
+        requires { held_by self ≡ Nothing }
     {
         match self {
             StageWork::Filter(_)
             | StageWork::Collector(_)
             | StageWork::Views(_)
             | StageWork::ViewFiles(_) => {}
-            _device => unreachable!(),
+            _holding => unreachable!(),
         }
     }
 
@@ -242,6 +281,26 @@ impl<S: Source, K: FileSink> StageWork<S, K> {
         }
     }
 
+    /// How many points it showed to a tally, up to the greatest u64; None exactly where it has none.
+    pub fn shown(&self) -> Option<u64>
+        ensures { result ≡ shown_by self.now }
+    {
+        match self {
+            StageWork::Tally(tally) => Some(tally.shown()),
+            _ => None,
+        }
+    }
+
+    /// What its tally says; None exactly where it has none.
+    pub fn says(&self) -> Option<TallyLine>
+        ensures { result ≡ says_of Q.PlugTally self.now }
+    {
+        match self {
+            StageWork::Tally(tally) => Some(tally_line(tally)),
+            _ => None,
+        }
+    }
+
     /// Whether it keeps views of which files are to be written.
     pub fn keeps_views(&self) -> bool
         ensures { result ≡ is_some (keeps_of self.now) }
@@ -260,13 +319,21 @@ impl<S: Source, K: FileSink> StageWork<S, K> {
         }
     }
 
-    /// The device that it holds, with the stage ended.
-    pub fn release(self) -> Held<S, K>
+    /// What it holds, with the stage ended.
+    pub fn release(self) -> Held<S, K, P, Q>
         ensures { result ≡ held_by self }
     {
         match self {
             StageWork::Reader(reader) => Held::Source(reader.release()),
             StageWork::Writer(writer) => Held::Sink(writer.release()),
+            StageWork::Plug(plug) => {
+                let (plug, place) = plug.into_parts();
+                Held::Filter(plug, place)
+            }
+            StageWork::Tally(tally) => {
+                let (tally, place) = tally.into_parts();
+                Held::Tally(tally, place)
+            }
             StageWork::Filter(_) => Held::Nothing,
             StageWork::Collector(_) => Held::Nothing,
             StageWork::Views(_) => Held::Nothing,

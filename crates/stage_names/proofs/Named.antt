@@ -3,7 +3,7 @@ use Rattle.std.proofs.Common.{◌≡◌, ◌∙◌, ℕ, List, Bool, true, false
 use Rattle.std.proofs.lemmas.Slice.Eq.{bytes_eq-Decides}
 use Rattle.std.proofs.lemmas.Option.{none-some}
 use Rattle.stage_names.specs.declared.kinds.KindName.{KindName}
-use Rattle.stage_names.specs.declared.kinds.KindName.TheVariants.{ReadersLas, FiltersRange, FiltersCrop, FiltersAssign, FiltersFerry, FiltersExpression, FiltersDecimation, FiltersHead, FiltersReturns, FiltersMerge, FiltersSort, FiltersTail, FiltersGroupby, FiltersSplitter, FiltersVoxeldownsize, WritersLas, WritersText}
+use Rattle.stage_names.specs.declared.kinds.KindName.TheVariants.{ReadersLas, FiltersRange, FiltersCrop, FiltersAssign, FiltersFerry, FiltersExpression, FiltersDecimation, FiltersHead, FiltersReturns, FiltersPlug, FiltersMerge, FiltersSort, FiltersTail, FiltersGroupby, FiltersSplitter, FiltersVoxeldownsize, WritersLas, WritersText, WritersTally}
 use Rattle.stage_names.specs.Kinds.{name_of, kind_named}
 use Rattle.stage_names.specs.Laws.{NamesLeadBack, NamesAreOwn}
 
@@ -18,6 +18,7 @@ lead_back FiltersExpression = refl
 lead_back FiltersDecimation = refl
 lead_back FiltersHead = refl
 lead_back FiltersReturns = refl
+lead_back FiltersPlug = refl
 lead_back FiltersMerge = refl
 lead_back FiltersSort = refl
 lead_back FiltersTail = refl
@@ -26,6 +27,7 @@ lead_back FiltersSplitter = refl
 lead_back FiltersVoxeldownsize = refl
 lead_back WritersLas = refl
 lead_back WritersText = refl
+lead_back WritersTally = refl
 
 -- a name that is this type's, or leads to a type by what is tried after it
 choice : (name : List ℕ) (this kind : KindName) {rest : Option KindName} → (rest ≡ Some kind → name_of kind ≡ name)
@@ -47,6 +49,7 @@ are_own name kind = choice name ReadersLas kind
     (choice name FiltersDecimation kind
     (choice name FiltersHead kind
     (choice name FiltersReturns kind
+    (choice name FiltersPlug kind
     (choice name FiltersMerge kind
     (choice name FiltersSort kind
     (choice name FiltersTail kind
@@ -55,4 +58,5 @@ are_own name kind = choice name ReadersLas kind
     (choice name FiltersVoxeldownsize kind
     (choice name WritersLas kind
     (choice name WritersText kind
-    (λ e. absurd (none-some kind e))))))))))))))))))
+    (choice name WritersTally kind
+    (λ e. absurd (none-some kind e))))))))))))))))))))

@@ -64,6 +64,12 @@ pub enum PipeFault {
     /// An earlier writer names the same file.
     SameOutput(u32),
 
+    /// No filter or tally of this name was handed in.
+    PlugUnknown(u32, Name),
+
+    /// A stage before it names the same one.
+    PlugTaken(u32, Name),
+
     /// No dimension of the stage has this name.
     DimUnknown(u32, Name),
 

@@ -33,6 +33,9 @@ pub enum KindName {
     /// `filters.returns`: keeps points by their place among the returns of a pulse.
     FiltersReturns,
 
+    /// `filters.plug`: shows points to a filter that the caller handed in.
+    FiltersPlug,
+
     /// `filters.merge`: makes one view of all.
     FiltersMerge,
 
@@ -56,6 +59,9 @@ pub enum KindName {
 
     /// `writers.text`: writes points as lines of text.
     WritersText,
+
+    /// `writers.tally`: shows points to a tally that the caller handed in.
+    WritersTally,
 }
 
 impl KindName {
@@ -74,6 +80,7 @@ impl KindName {
             KindName::FiltersDecimation => "filters.decimation",
             KindName::FiltersHead => "filters.head",
             KindName::FiltersReturns => "filters.returns",
+            KindName::FiltersPlug => "filters.plug",
             KindName::FiltersMerge => "filters.merge",
             KindName::FiltersSort => "filters.sort",
             KindName::FiltersTail => "filters.tail",
@@ -82,6 +89,7 @@ impl KindName {
             KindName::FiltersVoxeldownsize => "filters.voxeldownsize",
             KindName::WritersLas => "writers.las",
             KindName::WritersText => "writers.text",
+            KindName::WritersTally => "writers.tally",
         }
     }
 
@@ -100,6 +108,7 @@ impl KindName {
             "filters.decimation" => Some(KindName::FiltersDecimation),
             "filters.head" => Some(KindName::FiltersHead),
             "filters.returns" => Some(KindName::FiltersReturns),
+            "filters.plug" => Some(KindName::FiltersPlug),
             "filters.merge" => Some(KindName::FiltersMerge),
             "filters.sort" => Some(KindName::FiltersSort),
             "filters.tail" => Some(KindName::FiltersTail),
@@ -108,6 +117,7 @@ impl KindName {
             "filters.voxeldownsize" => Some(KindName::FiltersVoxeldownsize),
             "writers.las" => Some(KindName::WritersLas),
             "writers.text" => Some(KindName::WritersText),
+            "writers.tally" => Some(KindName::WritersTally),
             _ => None,
         }
     }

@@ -3,7 +3,7 @@ use Rattle.std.specs.Prelude.{ℕ, ◌≡◌, List, Some, slice_get}
 use Rattle.stage_names.specs.declared.kinds.KindName.{KindName}
 use Rattle.stage_names.specs.declared.kinds.KindName.TheVariants as kind
 use Rattle.stage_options.specs.declared.options.Options.{Options}
-use Rattle.stage_options.specs.declared.options.Options.TheVariants.{ReadersLas, FiltersRange, FiltersCrop, FiltersAssign, FiltersFerry, FiltersExpression, FiltersDecimation, FiltersHead, FiltersReturns, FiltersMerge, FiltersSort, FiltersTail, FiltersGroupby, FiltersSplitter, FiltersVoxeldownsize, WritersLas, WritersText}
+use Rattle.stage_options.specs.declared.options.Options.TheVariants.{ReadersLas, FiltersRange, FiltersCrop, FiltersAssign, FiltersFerry, FiltersExpression, FiltersDecimation, FiltersHead, FiltersReturns, FiltersPlug, FiltersMerge, FiltersSort, FiltersTail, FiltersGroupby, FiltersSplitter, FiltersVoxeldownsize, WritersLas, WritersText, WritersTally}
 use Rattle.stage_options.specs.declared.stage.StageSpec.{StageSpec}
 
 -- the type whose options these are
@@ -17,6 +17,7 @@ kind_of (FiltersExpression o) = kind.FiltersExpression
 kind_of (FiltersDecimation o) = kind.FiltersDecimation
 kind_of (FiltersHead o) = kind.FiltersHead
 kind_of (FiltersReturns o) = kind.FiltersReturns
+kind_of (FiltersPlug o) = kind.FiltersPlug
 kind_of (FiltersMerge o) = kind.FiltersMerge
 kind_of (FiltersSort o) = kind.FiltersSort
 kind_of (FiltersTail o) = kind.FiltersTail
@@ -25,6 +26,7 @@ kind_of (FiltersSplitter o) = kind.FiltersSplitter
 kind_of (FiltersVoxeldownsize o) = kind.FiltersVoxeldownsize
 kind_of (WritersLas o) = kind.WritersLas
 kind_of (WritersText o) = kind.WritersText
+kind_of (WritersTally o) = kind.WritersTally
 
 -- each of these stages has the options of its type
 abbrev pub HaveOwnOptions : List StageSpec → Type 0

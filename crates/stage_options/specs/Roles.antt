@@ -1,7 +1,7 @@
 -- What stages do with files and views.
 use Rattle.std.specs.Prelude.{ℕ, Bool, true, false, List, Option, Some, None}
 use Rattle.stage_options.specs.declared.options.Options.{Options}
-use Rattle.stage_options.specs.declared.options.Options.TheVariants.{ReadersLas, FiltersSort, FiltersTail, FiltersGroupby, FiltersSplitter, FiltersVoxeldownsize, WritersLas, WritersText}
+use Rattle.stage_options.specs.declared.options.Options.TheVariants.{ReadersLas, FiltersSort, FiltersTail, FiltersGroupby, FiltersSplitter, FiltersVoxeldownsize, FiltersPlug, WritersLas, WritersText, WritersTally}
 use Rattle.stage_options.specs.Values.{is_numbered}
 
 pub data Role : Type 0 where
@@ -30,6 +30,15 @@ role_of (FiltersVoxeldownsize o) = Gathers
 role_of (WritersLas o) = writing_role o.filename
 role_of (WritersText o) = writing_role o.filename
 role_of _ = Filters
+
+-- the names of the caller's filter and of the caller's tally to which it shows its points
+abbrev pub plug_of : Options → Option (List ℕ)
+plug_of (FiltersPlug o) = Some o.plug
+plug_of _ = None
+
+abbrev pub tally_of : Options → Option (List ℕ)
+tally_of (WritersTally o) = Some o.tally
+tally_of _ = None
 
 -- the file that is read
 abbrev pub source_of : Role → Option (List ℕ)

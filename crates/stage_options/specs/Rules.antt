@@ -9,7 +9,7 @@ use Rattle.option_texts.specs.Ferries.{ferries_of}
 use Rattle.option_texts.specs.Groups.{groups_of}
 use Rattle.option_texts.specs.ExtraDims.{extra_dims_of}
 use Rattle.stage_names.specs.declared.kinds.KindName.{KindName}
-use Rattle.stage_names.specs.declared.kinds.KindName.TheVariants.{ReadersLas, FiltersRange, FiltersCrop, FiltersAssign, FiltersFerry, FiltersExpression, FiltersDecimation, FiltersHead, FiltersReturns, FiltersMerge, FiltersSort, FiltersTail, FiltersGroupby, FiltersSplitter, FiltersVoxeldownsize, WritersLas, WritersText}
+use Rattle.stage_names.specs.declared.kinds.KindName.TheVariants.{ReadersLas, FiltersRange, FiltersCrop, FiltersAssign, FiltersFerry, FiltersExpression, FiltersDecimation, FiltersHead, FiltersReturns, FiltersPlug, FiltersMerge, FiltersSort, FiltersTail, FiltersGroupby, FiltersSplitter, FiltersVoxeldownsize, WritersLas, WritersText, WritersTally}
 use Rattle.stage_options.specs.Expressions.{condition_with, assignments_with}
 use Rattle.stage_options.specs.Values.{whole_of, truth_of, format_with, decimal_of, is_source, is_target}
 
@@ -132,6 +132,10 @@ rules_of FiltersReturns =
     (optional (codes "groups") groups
     ∷ optional (codes "where") condition
     ∷ [])
+rules_of FiltersPlug =
+    (required (codes "plug") any_text
+    ∷ optional (codes "where") condition
+    ∷ [])
 rules_of FiltersMerge = []
 rules_of FiltersSort =
     (required (codes "dimension") any_text
@@ -180,6 +184,10 @@ rules_of WritersText =
     ∷ optional (codes "delimiter") (sized 1 8)
     ∷ optional (codes "quote_header") truth
     ∷ optional (codes "write_header") truth
+    ∷ optional (codes "where") condition
+    ∷ [])
+rules_of WritersTally =
+    (required (codes "tally") any_text
     ∷ optional (codes "where") condition
     ∷ [])
 

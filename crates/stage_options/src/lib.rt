@@ -18,8 +18,9 @@ pub use laws::roles_follow_types;
 pub use names::{SourceName, TargetName, name_from};
 pub use options::{
     AssignOptions, CropOptions, DecimationOptions, ExpressionOptions, FerryOptions, GroupbyOptions,
-    HeadOptions, LasReaderOptions, LasWriterOptions, MergeOptions, Options, RangeOptions,
-    ReturnsOptions, SortOptions, SplitterOptions, TailOptions, TextOptions, VoxeldownsizeOptions,
+    HeadOptions, LasReaderOptions, LasWriterOptions, MergeOptions, Options, PlugOptions,
+    RangeOptions, ReturnsOptions, SortOptions, SplitterOptions, TailOptions, TallyOptions,
+    TextOptions, VoxeldownsizeOptions,
 };
 pub use role::Role;
 pub use rules::{Allowed, Rule, rules_of};

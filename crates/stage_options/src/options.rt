@@ -5,7 +5,7 @@ ghost use Rattle.option_texts.specs.Ferries.{AreFerries};
 ghost use Rattle.stage_options.specs.Ferries.{ferries_in};
 ghost use Rattle.stage_options.specs.Where.{only_of};
 ghost use Rattle.stage_options.specs.Kinds.{kind_of};
-ghost use Rattle.stage_options.specs.Roles.{role_of};
+ghost use Rattle.stage_options.specs.Roles.{plug_of, role_of, tally_of};
 ghost use Rattle.stage_options.specs.Seen.{role_view};
 
 use crate::assignments::AssignList;
@@ -50,6 +50,9 @@ pub enum Options {
     /// Of `filters.returns`.
     FiltersReturns(ReturnsOptions),
 
+    /// Of `filters.plug`.
+    FiltersPlug(PlugOptions),
+
     /// Of `filters.merge`.
     FiltersMerge(MergeOptions),
 
@@ -73,6 +76,9 @@ pub enum Options {
 
     /// Of `writers.text`.
     WritersText(TextOptions),
+
+    /// Of `writers.tally`.
+    WritersTally(TallyOptions),
 }
 
 /// The options of `readers.las`.
@@ -174,6 +180,16 @@ pub struct ReturnsOptions {
     pub only: Option<Expr>,
 }
 
+/// The options of `filters.plug`.
+#[derive(Drop)]
+pub struct PlugOptions {
+    /// The name of the filter that the caller handed in.
+    pub plug: Name,
+
+    /// The points that it is shown, the others go on; None is all.
+    pub only: Option<Expr>,
+}
+
 /// The options of `filters.merge`: it has none.
 #[derive(Drop)]
 pub struct MergeOptions {}
@@ -263,6 +279,16 @@ pub struct TextOptions {
     pub only: Option<Expr>,
 }
 
+/// The options of `writers.tally`.
+#[derive(Drop)]
+pub struct TallyOptions {
+    /// The name of the tally that the caller handed in.
+    pub tally: Name,
+
+    /// The points that it is shown; None is all.
+    pub only: Option<Expr>,
+}
+
 impl Options {
     /// The type of the stages that have such options.
     pub fn kind(&self) -> KindName
@@ -278,6 +304,7 @@ impl Options {
             Options::FiltersDecimation(_) => KindName::FiltersDecimation,
             Options::FiltersHead(_) => KindName::FiltersHead,
             Options::FiltersReturns(_) => KindName::FiltersReturns,
+            Options::FiltersPlug(_) => KindName::FiltersPlug,
             Options::FiltersMerge(_) => KindName::FiltersMerge,
             Options::FiltersSort(_) => KindName::FiltersSort,
             Options::FiltersTail(_) => KindName::FiltersTail,
@@ -286,6 +313,7 @@ impl Options {
             Options::FiltersVoxeldownsize(_) => KindName::FiltersVoxeldownsize,
             Options::WritersLas(_) => KindName::WritersLas,
             Options::WritersText(_) => KindName::WritersText,
+            Options::WritersTally(_) => KindName::WritersTally,
         }
     }
 
@@ -310,11 +338,13 @@ impl Options {
             | Options::FiltersDecimation(_)
             | Options::FiltersHead(_)
             | Options::FiltersReturns(_)
-            | Options::FiltersMerge(_) => Role::Filters,
+            | Options::FiltersPlug(_)
+            | Options::FiltersMerge(_)
+            | Options::WritersTally(_) => Role::Filters,
         }
     }
 
-    /// The condition of the points that a stage with these options judges or writes; None is all.
+    /// The condition of the points that a stage with these options judges, writes or shows; None is all.
     pub fn only(&self) -> Option<&Expr>
         ensures { option_map (λ e. e.now) result ≡ only_of self.now }
     {
@@ -327,8 +357,30 @@ impl Options {
             Options::FiltersDecimation(options) => options.only.as_ref(),
             Options::FiltersHead(options) => options.only.as_ref(),
             Options::FiltersReturns(options) => options.only.as_ref(),
+            Options::FiltersPlug(options) => options.only.as_ref(),
             Options::WritersLas(options) => options.only.as_ref(),
             Options::WritersText(options) => options.only.as_ref(),
+            Options::WritersTally(options) => options.only.as_ref(),
+            _ => None,
+        }
+    }
+
+    /// The name of the caller's filter to which a stage with these options shows its points; None exactly where it shows them to none.
+    pub fn plug(&self) -> Option<&str>
+        ensures { option_map (λ s. s.now) result ≡ plug_of self.now }
+    {
+        match self {
+            Options::FiltersPlug(options) => Some(options.plug.as_str()),
+            _ => None,
+        }
+    }
+
+    /// The name of the caller's tally to which a stage with these options shows its points; None exactly where it shows them to none.
+    pub fn tally(&self) -> Option<&str>
+        ensures { option_map (λ s. s.now) result ≡ tally_of self.now }
+    {
+        match self {
+            Options::WritersTally(options) => Some(options.tally.as_str()),
             _ => None,
         }
     }

@@ -144,7 +144,7 @@ const READERS_LAS: &[Rule] = &[
     Rule::Optional("use_eb_vlr", Allowed::Truth),
 ];
 
-/// Which points a stage judges or writes.
+/// Which points a stage judges, writes or shows.
 const WHERE: Rule = Rule::Optional("where", Allowed::Condition);
 
 /// The options of `filters.range`.
@@ -185,6 +185,9 @@ const FILTERS_HEAD: &[Rule] = &[
 
 /// The options of `filters.returns`.
 const FILTERS_RETURNS: &[Rule] = &[Rule::Optional("groups", Allowed::Groups), WHERE];
+
+/// The options of `filters.plug`.
+const FILTERS_PLUG: &[Rule] = &[Rule::Required("plug", Allowed::Text), WHERE];
 
 /// The options of `filters.sort`.
 const FILTERS_SORT: &[Rule] = &[
@@ -251,6 +254,9 @@ const WRITERS_TEXT: &[Rule] = &[
     WHERE,
 ];
 
+/// The options of `writers.tally`.
+const WRITERS_TALLY: &[Rule] = &[Rule::Required("tally", Allowed::Text), WHERE];
+
 /// The options of a type, in the order in which they are looked at. A merge has none.
 pub fn rules_of(kind: KindName) -> &'static [Rule]
     ensures { rules_view result.now ≡ rules_of kind }
@@ -265,6 +271,7 @@ pub fn rules_of(kind: KindName) -> &'static [Rule]
         KindName::FiltersDecimation => FILTERS_DECIMATION,
         KindName::FiltersHead => FILTERS_HEAD,
         KindName::FiltersReturns => FILTERS_RETURNS,
+        KindName::FiltersPlug => FILTERS_PLUG,
         KindName::FiltersMerge => &[],
         KindName::FiltersSort => FILTERS_SORT,
         KindName::FiltersTail => FILTERS_TAIL,
@@ -273,5 +280,6 @@ pub fn rules_of(kind: KindName) -> &'static [Rule]
         KindName::FiltersVoxeldownsize => FILTERS_VOXELDOWNSIZE,
         KindName::WritersLas => WRITERS_LAS,
         KindName::WritersText => WRITERS_TEXT,
+        KindName::WritersTally => WRITERS_TALLY,
     }
 }

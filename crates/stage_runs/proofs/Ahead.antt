@@ -27,14 +27,14 @@ use Rattle.stage_kinds.specs.Held.{op_of}
 use Rattle.stage_kinds.specs.Leads.{ahead_of, begins_at, extent_in, extent_of, lead_of, number_of, reached_of, read_at, taken_in, AreInFront, HaveNoEvlrs}
 use Rattle.stage_kinds.specs.Stages.{is_leaf}
 use Rattle.stage_kinds.specs.declared.stage_work.StageWork.{StageWork}
-use Rattle.stage_kinds.specs.declared.stage_work.StageWork.TheVariants.{Reader, Filter, Collector, Views, ViewFiles, Writer}
+use Rattle.stage_kinds.specs.declared.stage_work.StageWork.TheVariants.{Reader, Filter, Plug, Tally, Collector, Views, ViewFiles, Writer}
 use Rattle.stage_kinds.proofs.Counted.{writer-counts}
 use Rattle.stage_kinds.proofs.Leading.{begins-near, lead-read, reaches, reads-most}
 use Rattle.pipeline_json.specs.Trees.{IsTree}
 use Rattle.stage_options.specs.Roles.{is_gathering, is_reading, role_of}
 use Rattle.stage_options.specs.Shapes.{shapes}
 use Rattle.stage_options.specs.declared.options.Options.{Options}
-use Rattle.stage_options.specs.declared.options.Options.TheVariants.{ReadersLas, FiltersAssign, FiltersFerry, FiltersMerge, WritersLas, WritersText}
+use Rattle.stage_options.specs.declared.options.Options.TheVariants.{ReadersLas, FiltersAssign, FiltersFerry, FiltersMerge, WritersLas, WritersText, WritersTally}
 use Rattle.stage_options.specs.declared.stage.StageSpec.{StageSpec}
 use Rattle.stage_parts.specs.Parts.{AreHomes, home_at, is_of, part_ins, strangers}
 use Rattle.stage_parts.proofs.Counted.{each-in}
@@ -46,7 +46,7 @@ use Rattle.stage_forms.specs.Starts.{IsAtStart}
 use Rattle.stage_runs.specs.Ahead.{keeps_points, KeepPoints, EndedAtWriter, RecordsFit, ReadNoMore, most_read}
 use Rattle.stage_runs.specs.Parts.{gathers_of, is_own, AreRunBefore, Besides, IsPartStopped}
 use Rattle.stage_runs.specs.Short.{SomeGathers}
-use Rattle.stage_runs.specs.Works.{as_works, ins_of, AreNewStages, ReadersTell}
+use Rattle.stage_runs.specs.Works.{as_works, ins_of, AreNewStages, RunOn}
 use Rattle.stage_runs.proofs.AtStart.{keeps-at, leaf-first, reader-reads, writer-first}
 use Rattle.stage_runs.proofs.Forests.{children-are}
 use Rattle.stage_runs.proofs.Later.{stopped-turned}
@@ -57,6 +57,8 @@ use Rattle.stage_runs.proofs.Steps.{home-gathers, lt-false, lt-true, true-lt}
 use Rattle.stage_runs.proofs.Totals.{nodes-total, total-le, total-times, total-up}
 use Rattle.stage_runs.proofs.Turns.{all-forest, ins-size, some-stages}
 use Rattle.stage_runs.proofs.Under.{none-skipped, taken-below, under-below}
+use Rattle.plug_stages.specs.declared.filter.PlugFilter as plug_type
+use Rattle.plug_stages.specs.declared.tally.PlugTally as tally_type
 
 not-gathering : (b : Bool) → not b ≡ true → b ≡ false
 not-gathering true e = absurd (true≢false (sym e))
@@ -68,6 +70,7 @@ streams-of (FiltersAssign o) e = refl
 streams-of (FiltersFerry o) e = refl
 streams-of (FiltersMerge o) e = refl
 streams-of (WritersLas o) e = not-gathering (is_gathering (role_of (WritersLas o))) e
+streams-of (WritersTally o) e = refl
 streams-of (WritersText o) e = not-gathering (is_gathering (role_of (WritersText o))) e
 streams-of o e = absurd (true≢false (sym e))
 
@@ -100,20 +103,20 @@ some-size F7 = omega arith
 some-size F8 = omega arith
 
 -- how many records a stage's reader read, of any number
-abbrev read_of : {S K : Type 0} → (S → ℕ) → StageWork S K → ℕ
+abbrev read_of : {S K P Q : Type 0} → (S → ℕ) → StageWork S K P Q → ℕ
 read_of reached (Reader r) = read_at r.header (reached r.source)
 read_of reached w = 0
 
 -- where none gathers all stages are of the last part
-module _ {S K : Type 0} (s : source.Ghosts S) (k : sink.Ghosts K) (stages : List StageSpec) (tree : IsTree (shapes stages)) (old : List (Node (StageWork S K))) (new : AreNewStages s k stages old)
-    (homes : List ℕ) (are : AreHomes (gathers_of stages) (ins_of stages) homes) (besides : Besides S K) (keep : KeepPoints stages) where
+module _ {S K P Q : Type 0} (s : source.Ghosts S) (k : sink.Ghosts K) (fs : plug_type.Ghosts P) (ts : tally_type.Ghosts Q) (stages : List StageSpec) (tree : IsTree (shapes stages)) (old : List (Node (StageWork S K P Q))) (new : AreNewStages s k fs ts stages old)
+    (homes : List ℕ) (are : AreHomes (gathers_of stages) (ins_of stages) homes) (besides : Besides S K P Q) (keep : KeepPoints stages) where
   pub home-is : (j : ℕ) → j < length stages → home_at homes j ≡ length stages
   home-is j l = elim (eqb_tells (home_at homes j) (length stages)) [
     | inl p ↦ p.1
     | inr p ↦ (
         let h = homes-above (gathers_of stages) (ins_of stages) homes (all-forest stages tree) are j (let n = ins-size stages in omega (arith, l, n)) in
         let less : home_at homes j < length stages = (let n = p.1 in let m = h.most in (let q = ins-size stages in omega (arith, n, m, q))) in
-        absurd (true≢false (sym (home-gathers s k stages old new (tree-down stages tree) (all-forest stages tree) (ins-size stages) homes are besides j l (home_at homes j) less refl) ∙ none-gathers stages keep (home_at homes j))))
+        absurd (true≢false (sym (home-gathers s k fs ts stages old new (tree-down stages tree) (all-forest stages tree) (ins-size stages) homes are besides j l (home_at homes j) less refl) ∙ none-gathers stages keep (home_at homes j))))
   ]
 
   pub of-last : (j : ℕ) → j < length stages → is_of homes (length stages) j ≡ true
@@ -122,13 +125,13 @@ module _ {S K : Type 0} (s : source.Ghosts S) (k : sink.Ghosts K) (stages : List
   pub own-last : (j : ℕ) → j < length stages → is_own homes (length stages) (length stages - 1) j ≡ true
   own-last j l = ap (λ b. (j == length stages - 1) || b) (of-last j l) ∙ or-true (j == length stages - 1)
 
-module _ {S K : Type 0} (s : source.Ghosts S) (k : sink.Ghosts K) (stages : List StageSpec) (tree : IsTree (shapes stages)) (old : List (Node (StageWork S K))) (new : AreNewStages s k stages old)
-    (homes : List ℕ) (are : AreHomes (gathers_of stages) (ins_of stages) homes) (besides : Besides S K) (now : List (Node (StageWork S K))) (count : length now ≡ length stages)
-    (done : AreRunBefore s k stages homes old (length stages) now) (queue chunk : ℕ) (after : List (Node (StageWork S K)))
-    (part : IsPartStopped s k queue chunk (part_ins (gathers_of stages) (ins_of stages) homes (length stages) (length stages - 1)) homes (length stages) (length stages - 1) now after)
-    (cuts : (j : ℕ) (n : Node (StageWork S K)) → slice_get old j ≡ Some n → n.chunk ≡ chunk)
-    (keep : KeepPoints stages) (opened : Opened) (tell : ReadersTell s old opened) (plain : HaveNoEvlrs (map work_of old)) (front : AreInFront s.reached (map work_of old))
-    (i : ℕ) (f : StageFault) (over : EndedAtWriter stages (map (λ (n : Node (StageWork S K)). n.fault) after) i f) where
+module _ {S K P Q : Type 0} (s : source.Ghosts S) (k : sink.Ghosts K) (fs : plug_type.Ghosts P) (ts : tally_type.Ghosts Q) (stages : List StageSpec) (tree : IsTree (shapes stages)) (old : List (Node (StageWork S K P Q))) (new : AreNewStages s k fs ts stages old)
+    (homes : List ℕ) (are : AreHomes (gathers_of stages) (ins_of stages) homes) (besides : Besides S K P Q) (now : List (Node (StageWork S K P Q))) (count : length now ≡ length stages)
+    (done : AreRunBefore s k fs ts stages homes old (length stages) now) (queue chunk : ℕ) (after : List (Node (StageWork S K P Q)))
+    (part : IsPartStopped s k fs ts queue chunk (part_ins (gathers_of stages) (ins_of stages) homes (length stages) (length stages - 1)) homes (length stages) (length stages - 1) now after)
+    (cuts : (j : ℕ) (n : Node (StageWork S K P Q)) → slice_get old j ≡ Some n → n.chunk ≡ chunk)
+    (keep : KeepPoints stages) (opened : Opened) (on : RunOn s fs ts stages old opened) (plain : HaveNoEvlrs (map work_of old)) (front : AreInFront s.reached (map work_of old))
+    (i : ℕ) (f : StageFault) (over : EndedAtWriter stages (map (λ (n : Node (StageWork S K P Q)). n.fault) after) i f) where
   abbrev root : ℕ
   root = length stages - 1
 
@@ -151,12 +154,12 @@ module _ {S K : Type 0} (s : source.Ghosts S) (k : sink.Ghosts K) (stages : List
   streams = none-gathers stages keep
 
   all-home : (j : ℕ) → j < length stages → home_at homes j ≡ length stages
-  all-home = home-is s k stages tree old new homes are besides keep
+  all-home = home-is s k fs ts stages tree old new homes are besides keep
 
   all-of : (j : ℕ) → j < length stages → is_of homes (length stages) j ≡ true
-  all-of = of-last s k stages tree old new homes are besides keep
+  all-of = of-last s k fs ts stages tree old new homes are besides keep
 
-  waits : (j : ℕ) (n : Node (StageWork S K)) → j < length stages → slice_get now j ≡ Some n → slice_get old j ≡ Some n
+  waits : (j : ℕ) (n : Node (StageWork S K P Q)) → j < length stages → slice_get now j ≡ Some n → slice_get old j ≡ Some n
   waits j n l e = done.waits j n e (lt-false (home_at homes j) (length stages) (let h = all-home j l in omega (arith, h))) (λ m g. true≢false (sym g ∙ streams j))
 
   net-size : length part.net ≡ length stages
@@ -166,13 +169,13 @@ module _ {S K : Type 0} (s : source.Ghosts S) (k : sink.Ghosts K) (stages : List
   ended-size = part.turned.0.count ∙ net-size
 
   -- a node of the net is made of the work of its stage, which had no turn yet
-  record Begins (j : ℕ) (n : Node (StageWork S K)) : Type 0 where
-    first : Node (StageWork S K)
+  record Begins (j : ℕ) (n : Node (StageWork S K P Q)) : Type 0 where
+    first : Node (StageWork S K P Q)
     at : slice_get old j ≡ Some first
     same : n.work ≡ first.work
     cut : n.chunk ≡ chunk
 
-  begins : (j : ℕ) (n : Node (StageWork S K)) → j < length stages → slice_get part.net j ≡ Some n → Begins j n
+  begins : (j : ℕ) (n : Node (StageWork S K P Q)) → j < length stages → slice_get part.net j ≡ Some n → Begins j n
   begins j n l e = elim (eqb_tells j root) [
     | inl p ↦ (
         let here : slice_get part.net root ≡ Some n = ap (slice_get part.net) (sym p.1) ∙ e in
@@ -189,22 +192,22 @@ module _ {S K : Type 0} (s : source.Ghosts S) (k : sink.Ghosts K) (stages : List
         record { first = n; at = there; same = refl; cut = cuts j n there })
   ]
 
-  starts : (j : ℕ) (n : Node (StageWork S K)) → Begins j n → IsAtStart k.bytes (options_at stages j) (setting_at stages opened j) n.work
-  starts j n b = subst (IsAtStart k.bytes (options_at stages j) (setting_at stages opened j)) (sym b.same) (start-at s k stages old new down opened tell j b.first b.at)
+  starts : (j : ℕ) (n : Node (StageWork S K P Q)) → Begins j n → IsAtStart k.bytes (options_at stages j) (setting_at stages opened j) n.work
+  starts j n b = subst (IsAtStart k.bytes (options_at stages j) (setting_at stages opened j)) (sym b.same) (start-at s k fs ts stages old new down opened on j b.first b.at)
 
   -- ---- what stands under the writer
 
   ends-read : (j : ℕ) → j < length stages → (stage_at stages j).ins ≡ [] → is_reading (role_at stages j) ≡ true
   ends-read j l none = go (is_leaf o.0.work) refl
     where
-      o : (n : Node (StageWork S K)) × (slice_get old j ≡ Some n)
+      o : (n : Node (StageWork S K P Q)) × (slice_get old j ≡ Some n)
       o = some_at old j (let c = new.count in omega (arith, c, l))
 
-      fresh : IsFresh (shown (as_works s k) ((stage_at stages j).ins) o.0)
+      fresh : IsFresh (shown (as_works s k fs ts) ((stage_at stages j).ins) o.0)
       fresh = new.fresh j o.0 o.1
 
       go : (b : Bool) → is_leaf o.0.work ≡ b → is_reading (role_at stages j) ≡ true
-      go true leaf = (leaf-at s k stages old new down opened tell j o.0 o.1 leaf).reads
+      go true leaf = (leaf-at s k fs ts stages old new down opened on j o.0 o.1 leaf).reads
       go false inner = absurd (let a = fresh.inner inner in let b = fresh.inputs in let c = ap length none in omega (arith, a, b, c))
 
   net-child : (c j : ℕ) → In c (children ins j) → (j < length stages) × In c ((stage_at stages j).ins)
@@ -252,34 +255,34 @@ module _ {S K : Type 0} (s : source.Ghosts S) (k : sink.Ghosts K) (stages : List
   -- ---- the end of the turns
 
   back : (j : ℕ) → j < length stages → slice_get after j ≡ slice_get part.ended j
-  back j l = part.back j (omega (arith, l)) (own-last s k stages tree old new homes are besides keep j l)
+  back j l = part.back j (omega (arith, l)) (own-last s k fs ts stages tree old new homes are besides keep j l)
 
-  fault-in : (j : ℕ) (m : Node (StageWork S K)) → j < length stages → slice_get part.ended j ≡ Some m → slice_get (map (λ (n : Node (StageWork S K)). n.fault) after) j ≡ Some m.fault
-  fault-in j m l e = map-at (λ (n : Node (StageWork S K)). n.fault) after j m (back j l ∙ e)
+  fault-in : (j : ℕ) (m : Node (StageWork S K P Q)) → j < length stages → slice_get part.ended j ≡ Some m → slice_get (map (λ (n : Node (StageWork S K P Q)). n.fault) after) j ≡ Some m.fault
+  fault-in j m l e = map-at (λ (n : Node (StageWork S K P Q)). n.fault) after j m (back j l ∙ e)
 
-  net-at : (j : ℕ) → j < length stages → (n : Node (StageWork S K)) × (slice_get part.net j ≡ Some n)
+  net-at : (j : ℕ) → j < length stages → (n : Node (StageWork S K P Q)) × (slice_get part.net j ≡ Some n)
   net-at j l = some_at part.net j (omega (arith, l, net-size))
 
-  ended-at : (j : ℕ) → j < length stages → (n : Node (StageWork S K)) × (slice_get part.ended j ≡ Some n)
+  ended-at : (j : ℕ) → j < length stages → (n : Node (StageWork S K P Q)) × (slice_get part.ended j ≡ Some n)
   ended-at j l = some_at part.ended j (omega (arith, l, ended-size))
 
-  within-net : (j : ℕ) (n : Node (StageWork S K)) → slice_get part.net j ≡ Some n → j < length stages
+  within-net : (j : ℕ) (n : Node (StageWork S K P Q)) → slice_get part.net j ≡ Some n → j < length stages
   within-net j n e = let a = slice_get_within part.net j n e in omega (arith, a, net-size)
 
-  within-ended : (j : ℕ) (n : Node (StageWork S K)) → slice_get part.ended j ≡ Some n → j < length stages
+  within-ended : (j : ℕ) (n : Node (StageWork S K P Q)) → slice_get part.ended j ≡ Some n → j < length stages
   within-ended j n e = let a = slice_get_within part.ended j n e in omega (arith, a, ended-size)
 
   last-number : root ≡ length part.net - 1
   last-number = let n = net-size in omega (arith, n)
 
-  ended-so : EndedAtNode (as_works s k) ins part.net part.ended i under taken_in number_of f
+  ended-so : EndedAtNode (as_works s k fs ts) ins part.net part.ended i under taken_in number_of f
   ended-so =
       let n = net-at i over.inside in
-      let w = writer-first k.bytes (options_at stages i) (setting_at stages opened i) n.0.work (starts i n.0 (begins i n.0 over.inside n.1)) over.writes in
-      let m = mapped-at (λ (n : Node (StageWork S K)). n.fault) after i (Some f) over.fault in
+      let w = writer-first fs ts k.bytes (options_at stages i) (setting_at stages opened i) n.0.work (starts i n.0 (begins i n.0 over.inside n.1)) over.writes in
+      let m = mapped-at (λ (n : Node (StageWork S K P Q)). n.fault) after i (Some f) over.fault in
       record {
         under_it = subst (λ r. AreUnder (children ins) r i under) last-number are-under;
-        keeps = λ j x e u l. keeps-at k.bytes (options_at stages j) (setting_at stages opened j) x.work (keep j) (starts j x (begins j x (within-net j x e) e)) l;
+        keeps = λ j x e u l. keeps-at fs ts k.bytes (options_at stages j) (setting_at stages opened j) x.work (keep j) (starts j x (begins j x (within-net j x e) e)) l;
         first = n.0;
         at = n.1;
         inner = w.inner;
@@ -292,38 +295,38 @@ module _ {S K : Type 0} (s : source.Ghosts S) (k : sink.Ghosts K) (stages : List
         told = over.told;
       }
 
-  near : BeginsNear (as_works s k) part.net
+  near : BeginsNear (as_works s k fs ts) part.net
   near j n e l =
       let b = begins j n (within-net j n e) e in
-      let r = leaf-first k.bytes (options_at stages j) (setting_at stages opened j) n.work (starts j n b) l in
-      let t = tell j b.first r.reader b.at (sym b.same ∙ r.is) in
+      let r = leaf-first fs ts k.bytes (options_at stages j) (setting_at stages opened j) n.work (starts j n b) l in
+      let t = on.tell j b.first r.reader b.at (sym b.same ∙ r.is) in
       let there = map-at work_of old j b.first b.at ∙ ap (λ w. Some w) (sym b.same ∙ r.is) in
-      let none = begins-near K s.bytes s.reached r.reader t.file t.told r.first (front j r.reader there (plain j r.reader there)) in
+      let none = begins-near K P Q s.bytes s.reached r.reader t.file t.told r.first (front j r.reader there (plain j r.reader there)) in
       let same : ahead_of s.bytes s.reached n.work ≡ 0 = ap (ahead_of s.bytes s.reached) r.is ∙ none in
       omega (arith, same)
 
   is_root : IsRoot stages homes (length stages) root
   is_root = inr (streams root, all-home root (omega (arith, some)))
 
-  tells-all : LeavesTell (as_works s k) part.net
-  tells-all = leaves-tell s k stages old new down homes are (length stages) root is_root now part.net part.is_net (λ j n l h g e. waits j n (omega (arith, l)) e) (λ n e. waits root n (omega (arith, some)) e)
-      (λ j n l h g e. absurd (true≢false (sym g ∙ streams j))) (omega (arith, some, count)) (count ∙ sym new.count) opened tell (λ j n l h g e. absurd (true≢false (sym g ∙ streams j)))
+  tells-all : LeavesTell (as_works s k fs ts) part.net
+  tells-all = leaves-tell s k fs ts stages old new down homes are (length stages) root is_root now part.net part.is_net (λ j n l h g e. waits j n (omega (arith, l)) e) (λ n e. waits root n (omega (arith, some)) e)
+      (λ j n l h g e. absurd (true≢false (sym g ∙ streams j))) (omega (arith, some, count)) (count ∙ sym new.count) opened on (λ j n l h g e. absurd (true≢false (sym g ∙ streams j)))
 
-  none-came : NoneCame (as_works s k) part.net part.ended
-  none-came = quiet s k stages old new down homes are (length stages) root is_root now part.net part.is_net (λ j n l h g e. waits j n (omega (arith, l)) e) (λ n e. waits root n (omega (arith, some)) e)
-      (λ j n l h g e. absurd (true≢false (sym g ∙ streams j))) (omega (arith, some, count)) (count ∙ sym new.count) opened tell (λ j n l h g e. absurd (true≢false (sym g ∙ streams j)))
-      part.ended (stopped-turned s k ins part.net part.ended part.turned.0) part.enough (λ j m l h e. over.calm j m.fault (fault-in j m (within-ended j m e) e))
+  none-came : NoneCame (as_works s k fs ts) part.net part.ended
+  none-came = quiet s k fs ts stages old new down homes are (length stages) root is_root now part.net part.is_net (λ j n l h g e. waits j n (omega (arith, l)) e) (λ n e. waits root n (omega (arith, some)) e)
+      (λ j n l h g e. absurd (true≢false (sym g ∙ streams j))) (omega (arith, some, count)) (count ∙ sym new.count) opened on (λ j n l h g e. absurd (true≢false (sym g ∙ streams j)))
+      part.ended (stopped-turned s k fs ts ins part.net part.ended part.turned.0) part.enough (λ j m l h e. over.calm j m.fault (fault-in j m (within-ended j m e) e))
 
-  law : sum_at under (told_by (as_works s k)) part.net + sum_at under (read_beyond (as_works s k)) part.ended
-      ≤ sum_at under (told_by (as_works s k)) part.ended + number_of f + ((length part.net - 1) * queue + (length part.net - 1 + 2)) * chunk
+  law : sum_at under (told_by (as_works s k fs ts)) part.net + sum_at under (read_beyond (as_works s k fs ts)) part.ended
+      ≤ sum_at under (told_by (as_works s k fs ts)) part.ended + number_of f + ((length part.net - 1) * queue + (length part.net - 1 + 2)) * chunk
   law = part.turned.2 none-came tells-all near chunk (λ j n e. let b = (begins j n (within-net j n e) e).cut in omega (arith, b)) i under taken_in number_of f ended-so
 
   -- ---- what each reader read
 
   -- a reader was one at its start, which stands under the writer, and reads the same points
-  record WasReader (j : ℕ) (n : Node (StageWork S K)) (r : LasReader S) : Type 0 where
+  record WasReader (j : ℕ) (n : Node (StageWork S K P Q)) (r : LasReader S) : Type 0 where
     before : LasReader S
-    first : Node (StageWork S K)
+    first : Node (StageWork S K P Q)
     at : slice_get old j ≡ Some first
     was : first.work ≡ Reader before
     is : n.work ≡ Reader before
@@ -331,18 +334,18 @@ module _ {S K : Type 0} (s : source.Ghosts S) (k : sink.Ghosts K) (stages : List
     told : s.bytes before.source ≡ Some file
     start : before.progress ≡ Records 0
     under_it : under j ≡ true
-    extent : extent_of {K = K} s.bytes (Reader r) ≡ extent_of {K = K} s.bytes (Reader before)
+    extent : extent_of {K = K} {P = P} {Q = Q} s.bytes (Reader r) ≡ extent_of {K = K} {P = P} {Q = Q} s.bytes (Reader before)
 
-  was-reader : (j : ℕ) (n m : Node (StageWork S K)) (r : LasReader S) → slice_get part.net j ≡ Some n → slice_get part.ended j ≡ Some m → m.work ≡ Reader r → WasReader j n r
+  was-reader : (j : ℕ) (n m : Node (StageWork S K P Q)) (r : LasReader S) → slice_get part.net j ≡ Some n → slice_get part.ended j ≡ Some m → m.work ≡ Reader r → WasReader j n r
   was-reader j n m r e g is =
       let calm = part.turned.0.calm j n m e g in
       let leaf : is_leaf n.work ≡ true = sym calm.leaf ∙ ap is_leaf is in
       let inside = within-net j n e in
       let b = begins j n inside e in
       let start = starts j n b in
-      let w = leaf-first k.bytes (options_at stages j) (setting_at stages opened j) n.work start leaf in
-      let t = tell j b.first w.reader b.at (sym b.same ∙ w.is) in
-      let reads = reader-reads k.bytes (options_at stages j) (setting_at stages opened j) w.reader (subst (IsAtStart k.bytes (options_at stages j) (setting_at stages opened j)) w.is start) in
+      let w = leaf-first fs ts k.bytes (options_at stages j) (setting_at stages opened j) n.work start leaf in
+      let t = on.tell j b.first w.reader b.at (sym b.same ∙ w.is) in
+      let reads = reader-reads fs ts k.bytes (options_at stages j) (setting_at stages opened j) w.reader (subst (IsAtStart k.bytes (options_at stages j) (setting_at stages opened j)) w.is start) in
       record {
         before = w.reader;
         first = b.first;
@@ -357,31 +360,33 @@ module _ {S K : Type 0} (s : source.Ghosts S) (k : sink.Ghosts K) (stages : List
       }
 
   -- a leaf that gives views would have been one at its start
-  no-views : (j : ℕ) (n m : Node (StageWork S K)) → slice_get part.net j ≡ Some n → slice_get part.ended j ≡ Some m → is_leaf m.work ≡ true → op_of m.work ≡ None → ⊥
+  no-views : (j : ℕ) (n m : Node (StageWork S K P Q)) → slice_get part.net j ≡ Some n → slice_get part.ended j ≡ Some m → is_leaf m.work ≡ true → op_of m.work ≡ None → ⊥
   no-views j n m e g leaf none =
       let calm = part.turned.0.calm j n m e g in
-      let w = leaf-first k.bytes (options_at stages j) (setting_at stages opened j) n.work (starts j n (begins j n (within-net j n e) e)) (sym calm.leaf ∙ leaf) in
+      let w = leaf-first fs ts k.bytes (options_at stages j) (setting_at stages opened j) n.work (starts j n (begins j n (within-net j n e) e)) (sym calm.leaf ∙ leaf) in
       none-some _ (sym none ∙ calm.op ∙ ap op_of w.is)
 
-  each : (j : ℕ) → j < length stages → at_node (λ m. read_of s.reached (work_of m)) (slice_get after j) + cond (under j) (at_node (told_by (as_works s k)) (slice_get part.ended j)) 0
-      ≤ cond (under j) (at_node (told_by (as_works s k)) (slice_get part.net j)) 0 + cond (under j) (at_node (read_beyond (as_works s k)) (slice_get part.ended j)) 0
+  each : (j : ℕ) → j < length stages → at_node (λ m. read_of s.reached (work_of m)) (slice_get after j) + cond (under j) (at_node (told_by (as_works s k fs ts)) (slice_get part.ended j)) 0
+      ≤ cond (under j) (at_node (told_by (as_works s k fs ts)) (slice_get part.net j)) 0 + cond (under j) (at_node (read_beyond (as_works s k fs ts)) (slice_get part.ended j)) 0
   each j l = rw (back j l ∙ m.1, m.1, n.1) (by_work m.0.work refl)
     where
-      m : (x : Node (StageWork S K)) × (slice_get part.ended j ≡ Some x)
+      m : (x : Node (StageWork S K P Q)) × (slice_get part.ended j ≡ Some x)
       m = ended-at j l
 
-      n : (x : Node (StageWork S K)) × (slice_get part.net j ≡ Some x)
+      n : (x : Node (StageWork S K P Q)) × (slice_get part.net j ≡ Some x)
       n = net-at j l
 
-      by_work : (w : StageWork S K) → m.0.work ≡ w → read_of s.reached m.0.work + cond (under j) (told_by (as_works s k) m.0) 0
-          ≤ cond (under j) (told_by (as_works s k) n.0) 0 + cond (under j) (read_beyond (as_works s k) m.0) 0
+      by_work : (w : StageWork S K P Q) → m.0.work ≡ w → read_of s.reached m.0.work + cond (under j) (told_by (as_works s k fs ts) m.0) 0
+          ≤ cond (under j) (told_by (as_works s k fs ts) n.0) 0 + cond (under j) (read_beyond (as_works s k fs ts) m.0) 0
       by_work (Reader r) e =
           let x = was-reader j n.0 m.0 r n.1 m.1 e in
-          let y = reads-most K s.bytes s.reached x.before r x.file x.told x.start x.extent in
+          let y = reads-most K P Q s.bytes s.reached x.before r x.file x.told x.start x.extent in
           rw (x.under_it, e, x.is) y
       by_work (Views h) e = absurd (no-views j n.0 m.0 n.1 m.1 (ap is_leaf e) (ap op_of e))
       by_work (ViewFiles t) e = absurd (no-views j n.0 m.0 n.1 m.1 (ap is_leaf e) (ap op_of e))
       by_work (Filter x) e = rw e (let z = cond-zero (under j) in omega (arith, z))
+      by_work (Plug x) e = rw e (let z = cond-zero (under j) in omega (arith, z))
+      by_work (Tally x) e = rw e (let z = cond-zero (under j) in omega (arith, z))
       by_work (Collector c) e = rw e (let z = cond-zero (under j) in omega (arith, z))
       by_work (Writer x) e = rw e (let z = cond-zero (under j) in omega (arith, z))
 
@@ -398,11 +403,11 @@ module _ {S K : Type 0} (s : source.Ghosts S) (k : sink.Ghosts K) (stages : List
 
   all-read : total read_in (length stages) ≤ most
   all-read =
-      let a = total-le read_in (λ j. cond (under j) (at_node (told_by (as_works s k)) (slice_get part.ended j)) 0) (λ j. cond (under j) (at_node (told_by (as_works s k)) (slice_get part.net j)) 0)
-      (λ j. cond (under j) (at_node (read_beyond (as_works s k)) (slice_get part.ended j)) 0) (length stages) each in
-      let b = ap (total (λ j. cond (under j) (at_node (told_by (as_works s k)) (slice_get part.net j)) 0)) net-size in
-      let c = ap (total (λ j. cond (under j) (at_node (told_by (as_works s k)) (slice_get part.ended j)) 0)) ended-size in
-      let d = ap (total (λ j. cond (under j) (at_node (read_beyond (as_works s k)) (slice_get part.ended j)) 0)) ended-size in
+      let a = total-le read_in (λ j. cond (under j) (at_node (told_by (as_works s k fs ts)) (slice_get part.ended j)) 0) (λ j. cond (under j) (at_node (told_by (as_works s k fs ts)) (slice_get part.net j)) 0)
+      (λ j. cond (under j) (at_node (read_beyond (as_works s k fs ts)) (slice_get part.ended j)) 0) (length stages) each in
+      let b = ap (total (λ j. cond (under j) (at_node (told_by (as_works s k fs ts)) (slice_get part.net j)) 0)) net-size in
+      let c = ap (total (λ j. cond (under j) (at_node (told_by (as_works s k fs ts)) (slice_get part.ended j)) 0)) ended-size in
+      let d = ap (total (λ j. cond (under j) (at_node (read_beyond (as_works s k fs ts)) (slice_get part.ended j)) 0)) ended-size in
       let e : ((length part.net - 1) * queue + (length part.net - 1 + 2)) * chunk ≡ ((length stages - 1) * queue + length stages + 1) * chunk = ap (λ x. x * chunk)
       (let p : (length part.net - 1) * queue ≡ (length stages - 1) * queue = ap (λ x. (x - 1) * queue) net-size in let q = net-size in omega (arith, p, q, some)) in
       let h = law in
@@ -419,15 +424,17 @@ module _ {S K : Type 0} (s : source.Ghosts S) (k : sink.Ghosts K) (stages : List
       let d = all-read in
       omega (arith, a, b, c, d)
     where
-      by_work : (w : StageWork S K) → lead_of s.reached w ≤ read_of s.reached w
+      by_work : (w : StageWork S K P Q) → lead_of s.reached w ≤ read_of s.reached w
       by_work (Reader r) = lead-read r.header (s.reached r.source) (some-bytes r)
       by_work (Filter x) = omega arith
+      by_work (Plug x) = omega arith
+      by_work (Tally x) = omega arith
       by_work (Collector c) = omega arith
       by_work (Views h) = omega arith
       by_work (ViewFiles t) = omega arith
       by_work (Writer x) = omega arith
 
-      by_node : (o : Option (Node (StageWork S K))) → at_node (λ m. lead_of s.reached (work_of m)) o ≤ at_node (λ m. read_of s.reached (work_of m)) o
+      by_node : (o : Option (Node (StageWork S K P Q))) → at_node (λ m. lead_of s.reached (work_of m)) o ≤ at_node (λ m. read_of s.reached (work_of m)) o
       by_node None = omega arith
       by_node (Some m) = by_work m.work
 
@@ -444,18 +451,18 @@ module _ {S K : Type 0} (s : source.Ghosts S) (k : sink.Ghosts K) (stages : List
       one : (j : ℕ) → j < length stages → at_node (λ m. reached_of s.reached (work_of m)) (slice_get after j) ≤ at_node (λ m. begins_at (work_of m)) (slice_get old j) + read_in j * wide
       one j l = rw (back j l ∙ m.1) (by_work m.0.work refl)
         where
-          m : (x : Node (StageWork S K)) × (slice_get part.ended j ≡ Some x)
+          m : (x : Node (StageWork S K P Q)) × (slice_get part.ended j ≡ Some x)
           m = ended-at j l
 
-          n : (x : Node (StageWork S K)) × (slice_get part.net j ≡ Some x)
+          n : (x : Node (StageWork S K P Q)) × (slice_get part.net j ≡ Some x)
           n = net-at j l
 
-          by_work : (w : StageWork S K) → m.0.work ≡ w → reached_of s.reached m.0.work ≤ at_node (λ m. begins_at (work_of m)) (slice_get old j) + read_of s.reached m.0.work * wide
+          by_work : (w : StageWork S K P Q) → m.0.work ≡ w → reached_of s.reached m.0.work ≤ at_node (λ m. begins_at (work_of m)) (slice_get old j) + read_of s.reached m.0.work * wide
           by_work (Reader r) e =
               let x = was-reader j n.0 m.0 r n.1 m.1 e in
               rw (e, x.at, x.was) (reader-bytes r x.before x.file x.told x.extent (fit j x.before (map-at work_of old j x.first x.at ∙ ap (λ w. Some w) x.was)))
             where
-              reader-bytes : (r before : LasReader S) (file : List ℕ) → s.bytes before.source ≡ Some file → extent_of {K = K} s.bytes (Reader r) ≡ extent_of {K = K} s.bytes (Reader before) → before.header.record_length ≤ wide
+              reader-bytes : (r before : LasReader S) (file : List ℕ) → s.bytes before.source ≡ Some file → extent_of {K = K} {P = P} {Q = Q} s.bytes (Reader r) ≡ extent_of {K = K} {P = P} {Q = Q} s.bytes (Reader before) → before.header.record_length ≤ wide
                   → s.reached r.source ≤ before.header.points_at + read_at r.header (s.reached r.source) * wide
               reader-bytes r before file told same few = by_bytes (s.bytes r.source) (same ∙ ap (option_map (extent_in before.header before.fields)) told)
                 where
@@ -470,6 +477,8 @@ module _ {S K : Type 0} (s : source.Ghosts S) (k : sink.Ghosts K) (stages : List
                       let turned = mul_comm wide (read_at r.header (s.reached r.source)) in
                       omega (arith, at, up, wider, turned)
           by_work (Filter x) e = rw e (omega arith)
+          by_work (Plug x) e = rw e (omega arith)
+          by_work (Tally x) e = rw e (omega arith)
           by_work (Collector c) e = rw e (omega arith)
           by_work (Views h) e = rw e (omega arith)
           by_work (ViewFiles t) e = rw e (omega arith)

@@ -35,33 +35,35 @@ use Rattle.stage_runs.proofs.Halted.{part-stopped, part-known}
 use Rattle.stage_runs.proofs.Part.{IsRoot, gathers-are}
 use Rattle.stage_runs.proofs.Short.{short-gathers}
 use Rattle.stage_runs.proofs.Turns.{some-stages, few-stages, ins-size, homes-size, all-forest, planned-part}
+use Rattle.plug_stages.specs.declared.filter.PlugFilter as plug_type
+use Rattle.plug_stages.specs.declared.tally.PlugTally as tally_type
 
-module _ {S K E : Type 0} (s : source.Ghosts S) (k : sink.Ghosts K) (fits : ℕ → ℕ → E → Type 0) (part : List (List ℕ)) (root queue : ℕ) where
-  without : (gathers : Bool) → IsLastRoom s k fits part root queue gathers None → gathers ≡ true
+module _ {S K P Q E : Type 0} (s : source.Ghosts S) (k : sink.Ghosts K) (fs : plug_type.Ghosts P) (ts : tally_type.Ghosts Q) (fits : ℕ → ℕ → E → Type 0) (part : List (List ℕ)) (root queue : ℕ) where
+  without : (gathers : Bool) → IsLastRoom s k fs ts fits part root queue gathers None → gathers ≡ true
   without true is = refl
   without false is = absurd is
 
-  within : (gathers : Bool) (room : PartRoom S K E) → IsLastRoom s k fits part root queue gathers (Some room) → (gathers ≡ false) × IsRoom s k fits part root queue room
+  within : (gathers : Bool) (room : PartRoom S K P Q E) → IsLastRoom s k fs ts fits part root queue gathers (Some room) → (gathers ≡ false) × IsRoom s k fs ts fits part root queue room
   within true room is = absurd is
   within false room is = (refl, is)
 
-module _ {S K E : Type 0} (s : source.Ghosts S) (k : sink.Ghosts K) (fits : ℕ → ℕ → E → Type 0) (stages : List StageSpec) (room : StageRoom S K E) (is : IsStageRoom s k fits stages room) where
+module _ {S K P Q E : Type 0} (s : source.Ghosts S) (k : sink.Ghosts K) (fs : plug_type.Ghosts P) (ts : tally_type.Ghosts Q) (fits : ℕ → ℕ → E → Type 0) (stages : List StageSpec) (room : StageRoom S K P Q E) (is : IsStageRoom s k fs ts fits stages room) where
   abbrev root : ℕ
   root = length stages - 1
 
   -- a last stage without a room gathers
   roomless : room.last ≡ None → is_gathering (role_at stages root) ≡ true
-  roomless none = sym (gathers-are stages root) ∙ without s k fits _ _ _ _ (subst (IsLastRoom s k fits _ _ _ _) none is.last)
+  roomless none = sym (gathers-are stages root) ∙ without s k fs ts fits _ _ _ _ (subst (IsLastRoom s k fs ts fits _ _ _ _) none is.last)
 
-  roomy : (held : PartRoom S K E) → room.last ≡ Some held
-      → (gathers_at (gathers_of stages) root ≡ false) × IsRoom s k fits (part_ins (gathers_of stages) (ins_of stages) room.plan.homes.items (length stages) root) root room.sizes.queue held
-  roomy held e = within s k fits _ _ _ _ held (subst (IsLastRoom s k fits _ _ _ _) e is.last)
+  roomy : (held : PartRoom S K P Q E) → room.last ≡ Some held
+      → (gathers_at (gathers_of stages) root ≡ false) × IsRoom s k fs ts fits (part_ins (gathers_of stages) (ins_of stages) room.plan.homes.items (length stages) root) root room.sizes.queue held
+  roomy held e = within s k fs ts fits _ _ _ _ held (subst (IsLastRoom s k fs ts fits _ _ _ _) e is.last)
 
-  pub last-room : {held : PartRoom S K E} → room.last ≡ Some held → (part : List (List ℕ)) × (root : ℕ) × (queue : ℕ) × IsRoom s k fits part root queue held
+  pub last-room : {held : PartRoom S K P Q E} → room.last ≡ Some held → (part : List (List ℕ)) × (root : ℕ) × (queue : ℕ) × IsRoom s k fs ts fits part root queue held
   last-room {held} e = (_, _, _, (roomy held e).1)
 
-  module _ (tree : IsTree (shapes stages)) {old now : List (Node (StageWork S K))} (new : AreNewStages s k stages old) (later : AreLaterNodes s k old now)
-      (done : AreRunBefore s k stages room.plan.homes.items old (length stages) now) (besides : Besides S K) where
+  module _ (tree : IsTree (shapes stages)) {old now : List (Node (StageWork S K P Q))} (new : AreNewStages s k fs ts stages old) (later : AreLaterNodes s k fs ts old now)
+      (done : AreRunBefore s k fs ts stages room.plan.homes.items old (length stages) now) (besides : Besides S K P Q) where
     abbrev homes : List ℕ
     homes = room.plan.homes.items
 
@@ -97,8 +99,8 @@ module _ {S K E : Type 0} (s : source.Ghosts S) (k : sink.Ghosts K) (fits : ℕ 
     homes-nodes = homes-size stages homes is.homes ∙ sym count
 
     -- where memory is wanting, a stage gathers
-    pub wanting : {after : List (Node (StageWork S K))} → RanShort now after → SomeGathers stages
-    wanting {after} short = short-gathers s k stages old new down forest (ins-size stages) homes is.homes besides now after count done short
+    pub wanting : {after : List (Node (StageWork S K P Q))} → RanShort now after → SomeGathers stages
+    wanting {after} short = short-gathers s k fs ts stages old new down forest (ins-size stages) homes is.homes besides now after count done short
 
     -- ---- where the last stage gathers
 
@@ -109,17 +111,17 @@ module _ {S K E : Type 0} (s : source.Ghosts S) (k : sink.Ghosts K) (fits : ℕ 
       pub last-one : SomeGathers stages
       last-one = (root, (let a = some in omega (arith, a)), gathers)
 
-      pub last-waits : (n : Node (StageWork S K)) → slice_get now root ≡ Some n → IsNewLeaf s k n
-      last-waits n e = last-leaf s k stages old new down forest (ins-size stages) homes is.homes besides now some gathers done n e
+      pub last-waits : (n : Node (StageWork S K P Q)) → slice_get now root ≡ Some n → IsNewLeaf s k fs ts n
+      last-waits n e = last-leaf s k fs ts stages old new down forest (ins-size stages) homes is.homes besides now some gathers done n e
 
-      pub leaf-stopped : {after : List (Node (StageWork S K))} → IsLeafStopped s k queue root now after → AreStoppedStages s k stages old after
-      leaf-stopped {after} run = last-leaf-stopped s k stages old new down forest (ins-size stages) homes is.homes besides queue now after count some gathers done run
+      pub leaf-stopped : {after : List (Node (StageWork S K P Q))} → IsLeafStopped s k fs ts queue root now after → AreStoppedStages s k fs ts stages old after
+      leaf-stopped {after} run = last-leaf-stopped s k fs ts stages old new down forest (ins-size stages) homes is.homes besides queue now after count some gathers done run
 
-      module _ {after : List (Node (StageWork S K))} (run : IsLeafRun s k besides root now after) where
-        pub leaf-ran : AreRanStages s k stages old after
-        leaf-ran = last-gathers s k stages old new down forest (ins-size stages) homes is.homes besides now after count some gathers done run
+      module _ {after : List (Node (StageWork S K P Q))} (run : IsLeafRun s k fs ts besides root now after) where
+        pub leaf-ran : AreRanStages s k fs ts stages old after
+        leaf-ran = last-gathers s k fs ts stages old new down forest (ins-size stages) homes is.homes besides now after count some gathers done run
 
-        pub by-leaf : AreTurned s k stages homes old besides (length stages) now → ByParts s k stages besides old after
+        pub by-leaf : AreTurned s k fs ts stages homes old besides (length stages) now → ByParts s k fs ts stages besides old after
         by-leaf turned = record {
           homes = homes;
           are = is.homes;
@@ -128,12 +130,12 @@ module _ {S K E : Type 0} (s : source.Ghosts S) (k : sink.Ghosts K) (fits : ℕ 
 
     -- ---- where it doesn't
 
-    module _ {held : PartRoom S K E} (e : room.last ≡ Some held) where
+    module _ {held : PartRoom S K P Q E} (e : room.last ≡ Some held) where
       streams : is_gathering (role_at stages root) ≡ false
       streams = sym (gathers-are stages root) ∙ (roomy held e).0
 
-      pub its-room : IsRoom s k fits part root queue held
-      its-room = subst (λ xss. IsRoom s k fits xss root queue held) (sym same-part) (roomy held e).1
+      pub its-room : IsRoom s k fs ts fits part root queue held
+      its-room = subst (λ xss. IsRoom s k fs ts fits xss root queue held) (sym same-part) (roomy held e).1
 
       inside : root < length stages
       inside = let m = some in omega (arith, m)
@@ -152,43 +154,43 @@ module _ {S K E : Type 0} (s : source.Ghosts S) (k : sink.Ghosts K) (fits : ℕ 
           (subst (λ n. IsForest (part_ins (gathers_of stages) (ins_of stages) homes n (n - 1)) (n - 1)) (ins-size stages)
           (last-forest (gathers_of stages) (ins_of stages) homes forest is.homes (ap (gathers_at (gathers_of stages)) (sym last-number) ∙ gathers-are stages root ∙ streams)))
 
-      pub last-fresh : (i : ℕ) (n : Node (StageWork S K)) → i < root → is_of homes (length stages) i ≡ true → slice_get now i ≡ Some n → IsFresh (shown (as_works s k) (children part i) n)
-      last-fresh i n l h f = subst (λ xss. IsFresh (shown (as_works s k) (children xss i) n)) (sym same-part)
-          (fresh-before s k stages old new down forest (ins-size stages) homes is.homes besides (length stages) root at-last now count inside lower done i n l h f)
+      pub last-fresh : (i : ℕ) (n : Node (StageWork S K P Q)) → i < root → is_of homes (length stages) i ≡ true → slice_get now i ≡ Some n → IsFresh (shown (as_works s k fs ts) (children part i) n)
+      last-fresh i n l h f = subst (λ xss. IsFresh (shown (as_works s k fs ts) (children xss i) n)) (sym same-part)
+          (fresh-before s k fs ts stages old new down forest (ins-size stages) homes is.homes besides (length stages) root at-last now count inside lower done i n l h f)
 
-      pub last-inputs : (n : Node (StageWork S K)) → slice_get now root ≡ Some n → (is_leaf n.work ≡ true) ↔ (length (children part root) ≡ 0)
+      pub last-inputs : (n : Node (StageWork S K P Q)) → slice_get now root ≡ Some n → (is_leaf n.work ≡ true) ↔ (length (children part root) ≡ 0)
       last-inputs n f = subst (λ xss. (is_leaf n.work ≡ true) ↔ (length (children xss root) ≡ 0)) (sym same-part)
-          (root-inputs s k stages old new down forest (ins-size stages) homes is.homes besides (length stages) root at-last now count inside lower done
+          (root-inputs s k fs ts stages old new down forest (ins-size stages) homes is.homes besides (length stages) root at-last now count inside lower done
           (λ q. let m = some in omega (arith, m)) n f)
 
       -- the last part ended at a fault
-      pub last-stopped : (chunk : ℕ) {after : List (Node (StageWork S K))} → IsPartStopped s k queue chunk part homes (length stages) root now after → AreStoppedStages s k stages old after
-      last-stopped chunk {after} stopped = part-stopped s k stages old new down forest (ins-size stages) homes is.homes besides (length stages) root at-last now count inside lower
-          (λ i l h n. omega (arith, l, n)) done queue chunk after (subst (λ xss. IsPartStopped s k queue chunk xss homes (length stages) root now after) same-part stopped)
+      pub last-stopped : (chunk : ℕ) {after : List (Node (StageWork S K P Q))} → IsPartStopped s k fs ts queue chunk part homes (length stages) root now after → AreStoppedStages s k fs ts stages old after
+      last-stopped chunk {after} stopped = part-stopped s k fs ts stages old new down forest (ins-size stages) homes is.homes besides (length stages) root at-last now count inside lower
+          (λ i l h n. omega (arith, l, n)) done queue chunk after (subst (λ xss. IsPartStopped s k fs ts queue chunk xss homes (length stages) root now after) same-part stopped)
 
-      pub last-known : (chunk : ℕ) {after : List (Node (StageWork S K))} → IsPartStopped s k queue chunk part homes (length stages) root now after → SomeFault (as_works s k) after ⊎ SomeGathers stages
-      last-known chunk {after} stopped = part-known s k stages old new down forest (ins-size stages) homes is.homes besides (length stages) root at-last now count inside lower
-          (λ i l h n. omega (arith, l, n)) done queue chunk after (subst (λ xss. IsPartStopped s k queue chunk xss homes (length stages) root now after) same-part stopped) refl
+      pub last-known : (chunk : ℕ) {after : List (Node (StageWork S K P Q))} → IsPartStopped s k fs ts queue chunk part homes (length stages) root now after → SomeFault (as_works s k fs ts) after ⊎ SomeGathers stages
+      last-known chunk {after} stopped = part-known s k fs ts stages old new down forest (ins-size stages) homes is.homes besides (length stages) root at-last now count inside lower
+          (λ i l h n. omega (arith, l, n)) done queue chunk after (subst (λ xss. IsPartStopped s k fs ts queue chunk xss homes (length stages) root now after) same-part stopped) refl
 
       -- or came to its end, where turns end at a fault
-      pub last-sound : (stops : Type 0) (after : List (Node (StageWork S K))) → length after ≡ length now → (stops → AreSoundOwn homes (length stages) root after) → stops → KeepPoints stages → NoneFaulty (as_works s k) after
+      pub last-sound : (stops : Type 0) (after : List (Node (StageWork S K P Q))) → length after ≡ length now → (stops → AreSoundOwn homes (length stages) root after) → stops → KeepPoints stages → NoneFaulty (as_works s k fs ts) after
       last-sound stops after size sound first keep j m e =
           let l : j < length stages = (let a = slice_get_within after j m e in let b = count in omega (arith, a, size, b)) in
-          sound first j m (omega (arith, l)) (own-last s k stages tree old new homes is.homes besides keep j l) e
+          sound first j m (omega (arith, l)) (own-last s k fs ts stages tree old new homes is.homes besides keep j l) e
 
       -- and its readers have read no further than so
-      pub last-read : (chunk : ℕ) {after : List (Node (StageWork S K))} → IsPartStopped s k queue chunk part homes (length stages) root now after → HaveReadAhead s stages queue chunk old after
-      last-read chunk {after} stopped cuts keep opened tell plain front i f over = last-ahead s k stages tree old new homes is.homes besides now count done queue chunk after
-          (subst (λ xss. IsPartStopped s k queue chunk xss homes (length stages) root now after) same-part stopped) cuts keep opened (λ j n r e w. tell j (work_of n) r (map-at work_of old j n e) w) plain front i f over
+      pub last-read : (chunk : ℕ) {after : List (Node (StageWork S K P Q))} → IsPartStopped s k fs ts queue chunk part homes (length stages) root now after → HaveReadAhead s fs ts stages queue chunk old after
+      last-read chunk {after} stopped cuts keep opened given plain front i f over = last-ahead s k fs ts stages tree old new homes is.homes besides now count done queue chunk after
+          (subst (λ xss. IsPartStopped s k fs ts queue chunk xss homes (length stages) root now after) same-part stopped) cuts keep opened (record { tell = λ j n r e w. given.told j (work_of n) r (map-at work_of old j n e) w; handed = given.handed }) plain front i f over
 
-      module _ {after : List (Node (StageWork S K))} (run : IsPartRun s k besides part homes (length stages) root now after) where
-        ran : IsPartRun s k besides (part_ins (gathers_of stages) (ins_of stages) homes (length stages) root) homes (length stages) root now after
-        ran = subst (λ xss. IsPartRun s k besides xss homes (length stages) root now after) same-part run
+      module _ {after : List (Node (StageWork S K P Q))} (run : IsPartRun s k fs ts besides part homes (length stages) root now after) where
+        ran : IsPartRun s k fs ts besides (part_ins (gathers_of stages) (ins_of stages) homes (length stages) root) homes (length stages) root now after
+        ran = subst (λ xss. IsPartRun s k fs ts besides xss homes (length stages) root now after) same-part run
 
-        pub part-ran : AreRanStages s k stages old after
-        part-ran = last-streams s k stages old new down forest (ins-size stages) homes is.homes besides now after count some streams done ran
+        pub part-ran : AreRanStages s k fs ts stages old after
+        part-ran = last-streams s k fs ts stages old new down forest (ins-size stages) homes is.homes besides now after count some streams done ran
 
-        pub by-part : AreTurned s k stages homes old besides (length stages) now → ByParts s k stages besides old after
+        pub by-part : AreTurned s k fs ts stages homes old besides (length stages) now → ByParts s k fs ts stages besides old after
         by-part turned = record {
           homes = homes;
           are = is.homes;

@@ -1,5 +1,5 @@
 -- The nodes of a part are lent to its net, and come back.
-use Rattle.std.proofs.Common.{◌≡◌, ◌≢◌, ◌⊎◌, ℕ, ◌+◌, ◌-◌, ◌<◌, ◌≤◌, ◌↔◌, ◌==◌, ◌||◌, Bool, true, false, true≢false, List, [], ◌++◌, take, drop, length, slice_get, Some, None, refl, ap, sym, subst, ◌∙◌, inl, inr, arith, zero, suc, ◌∷◌}
+use Rattle.std.proofs.Common.{◌≡◌, ◌≢◌, ◌⊎◌, ℕ, ◌+◌, ◌-◌, ◌<◌, ◌≤◌, ◌↔◌, ◌==◌, ◌||◌, Bool, true, false, true≢false, List, [], ◌++◌, take, drop, length, slice_get, Some, refl, ap, sym, subst, ◌∙◌, inl, inr, arith, zero, suc, ◌∷◌}
 use Rattle.std.proofs.lemmas.Bool.Decides.{eqb_tells, leb_tells}
 use Rattle.std.proofs.lemmas.Option.{same_Some, slice_get_within}
 use Rattle.file_devices.specs.declared.devices.Source as source
@@ -11,7 +11,8 @@ use Rattle.network_core.specs.Shown.{shown}
 use Rattle.network_core.proofs.Opened.{some_at}
 use Rattle.stage_kinds.specs.declared.stage_work.StageWork.{StageWork}
 use Rattle.stage_kinds.specs.declared.stage_work.StageWork.TheVariants.{Collector}
-use Rattle.stage_kinds.specs.Held.{op_of, faults_of}
+use Rattle.stage_kinds.specs.declared.held.Held.TheVariants.{Nothing}
+use Rattle.stage_kinds.specs.Held.{HoldsSame, held_by, op_of, faults_of}
 use Rattle.stage_kinds.specs.Stages.{is_leaf}
 use Rattle.file_devices.specs.Counts.{Rose}
 use Rattle.cloud_points.specs.Events.{IsOf}
@@ -27,7 +28,10 @@ use Rattle.network_solo.specs.Stopping.{CameToEnd}
 use Rattle.stage_runs.specs.Parts.{AreSoundOwn, IsExchanged, IsRenewed, IsNewLeaf, IsLaterNode, AreLaterNodes, AreSameOrLater, is_own, IsNet, IsPart}
 use Rattle.stage_runs.specs.Rooms.{IsRoom}
 use Rattle.stage_runs.specs.Short.{RanShort, NoneShort}
+use Rattle.stage_runs.proofs.Later.{leaf-empty, later-empty}
 use Rattle.stage_runs.proofs.Part.{same-number, other-number}
+use Rattle.plug_stages.specs.declared.filter.PlugFilter as plug_type
+use Rattle.plug_stages.specs.declared.tally.PlugTally as tally_type
 
 -- what a slice holds, its list does
 pub slice-back : {A : Type 0} (xs ys : List A) (n : ℕ) → length ys ≡ length xs → n ≡ length xs → take n (ys ++ drop (length ys) xs) ≡ ys
@@ -46,22 +50,23 @@ lent-over given homes home root size one other one_after other_after many same l
     (subst (λ n. IsExchanged (is_own homes home n) size one other one_after other_after) last
     (subst (λ hs. IsExchanged (is_own hs home (size - 1)) size one other one_after other_after) same lent))
 
-module _ {S K : Type 0} (s : source.Ghosts S) (k : sink.Ghosts K) where
+module _ {S K P Q : Type 0} (s : source.Ghosts S) (k : sink.Ghosts K) (fs : plug_type.Ghosts P) (ts : tally_type.Ghosts Q) where
   -- what is later than a node is later than another one over the same work
-  later-work : (x n m : Node (StageWork S K)) → x.work ≡ n.work → IsLaterNode s k x m → IsLaterNode s k n m
+  later-work : (x n m : Node (StageWork S K P Q)) → x.work ≡ n.work → IsLaterNode s k fs ts x m → IsLaterNode s k fs ts n m
   later-work x n m e later = record {
     op = later.op ∙ ap op_of e;
     faults = subst (λ w. faults_of s.faults k.faults w ≤ faults_of s.faults k.faults m.work) e later.faults;
     cause = λ d. subst (λ w. Rose (faults_of s.faults k.faults w) (faults_of s.faults k.faults m.work)) e (later.cause d);
     named = subst (λ w. IsOf (op_of w) m.fault) e later.named;
+    holds = subst (λ w. HoldsSame fs ts w m.work) e later.holds;
   }
 
   -- the nodes of a part are lent to the net of its memory, and its root is made new
-  module _ {E : Type 0} (fits : ℕ → ℕ → E → Type 0) (plan : Plan) (room : PartRoom S K E) (home root queue : ℕ) (nodes : List (Node (StageWork S K)))
-      (is : IsRoom s k fits (part_ins plan.gathers.items plan.ins plan.homes.items home root) root queue room) (inside : root < length nodes)
-      (fresh : (i : ℕ) (n : Node (StageWork S K)) → i < root → is_of plan.homes.items home i ≡ true → slice_get nodes i ≡ Some n
-      → IsFresh (shown (as_works s k) (children (part_ins plan.gathers.items plan.ins plan.homes.items home root) i) n))
-      {given : List ℕ} (same : given ≡ plan.homes.items) {left net : List (Node (StageWork S K))}
+  module _ {E : Type 0} (fits : ℕ → ℕ → E → Type 0) (plan : Plan) (room : PartRoom S K P Q E) (home root queue : ℕ) (nodes : List (Node (StageWork S K P Q)))
+      (is : IsRoom s k fs ts fits (part_ins plan.gathers.items plan.ins plan.homes.items home root) root queue room) (inside : root < length nodes)
+      (fresh : (i : ℕ) (n : Node (StageWork S K P Q)) → i < root → is_of plan.homes.items home i ≡ true → slice_get nodes i ≡ Some n
+      → IsFresh (shown (as_works s k fs ts) (children (part_ins plan.gathers.items plan.ins plan.homes.items home root) i) n))
+      {given : List ℕ} (same : given ≡ plan.homes.items) {left net : List (Node (StageWork S K P Q))}
       (lent : IsExchanged (is_own given home (length room.net.items - 1)) (length room.net.items) nodes room.net.items left net)
       {takes : List ℕ} (takes_is : takes ≡ children room.ins root) where
     abbrev homes : List ℕ
@@ -83,13 +88,13 @@ module _ {S K : Type 0} (s : source.Ghosts S) (k : sink.Ghosts K) where
     count = ap length (ap (λ xss. children xss root) (sym is.ins) ∙ sym takes_is)
 
     -- it has inputs exactly where its work is no leaf
-    pub root-leaf : ((n : Node (StageWork S K)) → slice_get nodes root ≡ Some n → (is_leaf n.work ≡ true) ↔ (length (children part root) ≡ 0))
-        → (n : Node (StageWork S K)) → slice_get net (length net - 1) ≡ Some n → (is_leaf n.work ≡ true) ↔ (length takes ≡ 0)
+    pub root-leaf : ((n : Node (StageWork S K P Q)) → slice_get nodes root ≡ Some n → (is_leaf n.work ≡ true) ↔ (length (children part root) ≡ 0))
+        → (n : Node (StageWork S K P Q)) → slice_get net (length net - 1) ≡ Some n → (is_leaf n.work ≡ true) ↔ (length takes ≡ 0)
     root-leaf inputs n e = subst (λ m. (is_leaf n.work ≡ true) ↔ (m ≡ 0)) count (inputs n
         (let last : root ≡ length net - 1 = (let a = net-size in omega (arith, a)) in
         sym (first.taken root (omega arith) (ap (λ b. b || is_of homes home root) (same-number root))).1 ∙ ap (slice_get net) last ∙ e))
 
-    module _ {renewed : List (Node (StageWork S K))} (new : IsRenewed (as_works s k) (length takes) net renewed) where
+    module _ {renewed : List (Node (StageWork S K P Q))} (new : IsRenewed (as_works s k fs ts) (length takes) net renewed) where
       pub renewed-size : length renewed ≡ root + 1
       renewed-size = new.count ∙ net-size
 
@@ -124,10 +129,10 @@ module _ {S K : Type 0} (s : source.Ghosts S) (k : sink.Ghosts K) where
       root-lent : slice_get net root ≡ slice_get nodes root
       root-lent = (first.taken root (omega arith) root-own).1
 
-      at-last : (xs : List (Node (StageWork S K))) (n : Node (StageWork S K)) → slice_get xs root ≡ Some n → slice_get xs (length net - 1) ≡ Some n
+      at-last : (xs : List (Node (StageWork S K P Q))) (n : Node (StageWork S K P Q)) → slice_get xs root ≡ Some n → slice_get xs (length net - 1) ≡ Some n
       at-last xs n e = ap (slice_get xs) last-is ∙ e
 
-      pub is-net : IsNet s k part homes home root nodes renewed
+      pub is-net : IsNet s k fs ts part homes home root nodes renewed
       is-net = record {
         count = renewed-size;
         work = λ n m e f. new.work m n (at-last net m (root-lent ∙ f)) (at-last renewed n e);
@@ -136,18 +141,18 @@ module _ {S K : Type 0} (s : source.Ghosts S) (k : sink.Ghosts K) where
         strange = λ i n l h e. is.net.each i n (sym (stood i l h) ∙ e);
       }
 
-      all-fresh : (i : ℕ) (n : Node (StageWork S K)) → slice_get renewed i ≡ Some n → IsFresh (shown (as_works s k) (children part i) n)
+      all-fresh : (i : ℕ) (n : Node (StageWork S K P Q)) → slice_get renewed i ≡ Some n → IsFresh (shown (as_works s k fs ts) (children part i) n)
       all-fresh i n e = elim (eqb_tells i root) [
-        | inl p ↦ subst (λ j. IsFresh (shown (as_works s k) (children part j) n)) (sym p.1) (is-net.root_fresh n (ap (slice_get renewed) (sym p.1) ∙ e))
+        | inl p ↦ subst (λ j. IsFresh (shown (as_works s k fs ts) (children part j) n)) (sym p.1) (is-net.root_fresh n (ap (slice_get renewed) (sym p.1) ∙ e))
         | inr p ↦ (let no = p.1 in let a = slice_get_within renewed i n e in let b = renewed-size in by_home (omega (arith, no, a, b)) (is_of homes home i) refl)
       ]
         where
-          by_home : i < root → (b : Bool) → is_of homes home i ≡ b → IsFresh (shown (as_works s k) (children part i) n)
+          by_home : i < root → (b : Bool) → is_of homes home i ≡ b → IsFresh (shown (as_works s k fs ts) (children part i) n)
           by_home l true h = fresh i n l h (is-net.own i n l h e)
-          by_home l false h = subst (λ js. IsFresh (shown (as_works s k) js n)) (sym (at_stranger plan.gathers.items plan.ins homes home root i l h)) (is-net.strange i n l h e).0.fresh
+          by_home l false h = subst (λ js. IsFresh (shown (as_works s k fs ts) js n)) (sym (at_stranger plan.gathers.items plan.ins homes home root i l h)) (is-net.strange i n l h e).0.fresh
 
-      pub net-fresh : (i : ℕ) (n : Node (StageWork S K)) → slice_get renewed i ≡ Some n → IsFresh (shown (as_works s k) (children room.ins i) n)
-      net-fresh i n e = subst (λ xss. IsFresh (shown (as_works s k) (children xss i) n)) (sym is.ins) (all-fresh i n e)
+      pub net-fresh : (i : ℕ) (n : Node (StageWork S K P Q)) → slice_get renewed i ≡ Some n → IsFresh (shown (as_works s k fs ts) (children room.ins i) n)
+      net-fresh i n e = subst (λ xss. IsFresh (shown (as_works s k fs ts) (children xss i) n)) (sym is.ins) (all-fresh i n e)
 
       pub net-forest : IsForest part root → IsForest room.ins (length renewed - 1)
       net-forest forest =
@@ -156,7 +161,7 @@ module _ {S K : Type 0} (s : source.Ghosts S) (k : sink.Ghosts K) where
 
       -- ---- back again
 
-      module _ {ended : List (Node (StageWork S K))} (later : AreLaterNodes s k renewed ended) {after rest : List (Node (StageWork S K))}
+      module _ {ended : List (Node (StageWork S K P Q))} (later : AreLaterNodes s k fs ts renewed ended) {after rest : List (Node (StageWork S K P Q))}
           (returned : IsExchanged (is_own given home (length ended - 1)) (length ended) left ended after rest) where
         second : IsExchanged (is_own homes home root) (root + 1) left ended after rest
         second = lent-over given homes home root (length ended) left ended after rest (later.count ∙ renewed-size) same returned
@@ -173,36 +178,36 @@ module _ {S K : Type 0} (s : source.Ghosts S) (k : sink.Ghosts K) where
         beyond : (i : ℕ) → root < i → slice_get after i ≡ slice_get nodes i
         beyond i l = (second.left i (λ m p. absurd (omega (arith, l, m)))).0 ∙ (first.left i (λ m p. absurd (omega (arith, l, m)))).0
 
-        before : (i : ℕ) (m : Node (StageWork S K)) → slice_get ended i ≡ Some m → (x : Node (StageWork S K)) × (slice_get renewed i ≡ Some x)
+        before : (i : ℕ) (m : Node (StageWork S K P Q)) → slice_get ended i ≡ Some m → (x : Node (StageWork S K P Q)) × (slice_get renewed i ≡ Some x)
         before i m e = some_at renewed i (let a = slice_get_within ended i m e in let b = later.count in omega (arith, a, b))
 
         less-home : (i : ℕ) → i < root → is_own homes home root i ≡ true → is_of homes home i ≡ true
         less-home i less o = sym (ap (λ b. b || is_of homes home i) (other-number i root (λ e. omega (arith, e, less)))) ∙ o
 
         -- a node of this part has its work in the net
-        own-work : (i : ℕ) (x n : Node (StageWork S K)) → i ≤ root → is_own homes home root i ≡ true → slice_get renewed i ≡ Some x → slice_get nodes i ≡ Some n → x.work ≡ n.work
+        own-work : (i : ℕ) (x n : Node (StageWork S K P Q)) → i ≤ root → is_own homes home root i ≡ true → slice_get renewed i ≡ Some x → slice_get nodes i ≡ Some n → x.work ≡ n.work
         own-work i x n l o d e = elim (eqb_tells i root) [
           | inl p ↦ is-net.work x n (ap (slice_get renewed) (sym p.1) ∙ d) (ap (slice_get nodes) (sym p.1) ∙ e)
           | inr p ↦ (
               let no = p.1 in
               let less : i < root = omega (arith, no, l) in
-              ap (λ (y : Node (StageWork S K)). y.work) (same_Some x n (sym d ∙ own-net i less (less-home i less o) ∙ e)))
+              ap (λ (y : Node (StageWork S K P Q)). y.work) (same_Some x n (sym d ∙ own-net i less (less-home i less o) ∙ e)))
         ]
 
-        own-later : (i : ℕ) (n m : Node (StageWork S K)) → i ≤ root → is_own homes home root i ≡ true → slice_get nodes i ≡ Some n → slice_get after i ≡ Some m → IsLaterNode s k n m
+        own-later : (i : ℕ) (n m : Node (StageWork S K P Q)) → i ≤ root → is_own homes home root i ≡ true → slice_get nodes i ≡ Some n → slice_get after i ≡ Some m → IsLaterNode s k fs ts n m
         own-later i n m l o e f =
             let g = sym (back i l o) ∙ f in
             let x = before i m g in
             later-work x.0 n m (own-work i x.0 n l o x.1 e) (later.each i x.0 m x.1 g)
 
         -- a node outside of this part is a leaf in the net
-        stranger : (i : ℕ) (x : Node (StageWork S K)) → i < root + 1 → is_own homes home root i ≡ false → slice_get renewed i ≡ Some x → IsNewLeaf s k x
+        stranger : (i : ℕ) (x : Node (StageWork S K P Q)) → i < root + 1 → is_own homes home root i ≡ false → slice_get renewed i ≡ Some x → IsNewLeaf s k fs ts x
         stranger i x less o e =
             let other : i ≢ root = λ q. true≢false (sym root-own ∙ ap (is_own homes home root) (sym q) ∙ o) in
             let h : is_of homes home i ≡ false = sym (ap (λ b. b || is_of homes home i) (other-number i root other)) ∙ o in
             (is-net.strange i x (omega (arith, other, less)) h e).0
 
-        pub part-later : AreSameOrLater s k nodes after
+        pub part-later : AreSameOrLater s k fs ts nodes after
         part-later = record {
           count = after-count;
           each = λ i n m e f. elim (leb_tells i root) [
@@ -211,23 +216,23 @@ module _ {S K : Type 0} (s : source.Ghosts S) (k : sink.Ghosts K) where
           ];
         }
           where
-            by_own : (i : ℕ) (n m : Node (StageWork S K)) → i ≤ root → slice_get nodes i ≡ Some n → slice_get after i ≡ Some m → (b : Bool) → is_own homes home root i ≡ b → (m ≡ n) ⊎ IsLaterNode s k n m
+            by_own : (i : ℕ) (n m : Node (StageWork S K P Q)) → i ≤ root → slice_get nodes i ≡ Some n → slice_get after i ≡ Some m → (b : Bool) → is_own homes home root i ≡ b → (m ≡ n) ⊎ IsLaterNode s k fs ts n m
             by_own i n m l e f true o = inr (own-later i n m l o e f)
             by_own i n m l e f false o = inl (same_Some m n (sym f ∙ other i o ∙ e))
 
-        -- what stood in has no device
-        pub rest-op : (i : ℕ) (n : Node (StageWork S K)) → slice_get rest i ≡ Some n → op_of n.work ≡ None
-        rest-op i n e = by_own (is_own homes home root i) refl
+        -- what stood in holds nothing
+        pub rest-held : (i : ℕ) (n : Node (StageWork S K P Q)) → slice_get rest i ≡ Some n → held_by n.work ≡ Nothing
+        rest-held i n e = by_own (is_own homes home root i) refl
           where
             less : i < root + 1
             less = let a = slice_get_within rest i n e in let b = second.other_count in let c = later.count in let d = renewed-size in omega (arith, a, b, c, d)
 
-            by_own : (b : Bool) → is_own homes home root i ≡ b → op_of n.work ≡ None
-            by_own true o = ((is.net.each i n (sym (first.taken i less o).0 ∙ sym (second.taken i less o).1 ∙ e)).0).op
+            by_own : (b : Bool) → is_own homes home root i ≡ b → held_by n.work ≡ Nothing
+            by_own true o = leaf-empty s k fs ts n (is.net.each i n (sym (first.taken i less o).0 ∙ sym (second.taken i less o).1 ∙ e)).0
             by_own false o =
                 let f = sym (second.left i (not-own i o)).1 ∙ e in
                 let x = before i n f in
-                (later.each i x.0 n x.1 f).op ∙ (stranger i x.0 less o x.1).op
+                later-empty s k fs ts x.0 n (later.each i x.0 n x.1 f) (leaf-empty s k fs ts x.0 (stranger i x.0 less o x.1))
 
         -- memory that was wanting in the net was wanting at a node of this part
         pub part-short : RanShort renewed ended → RanShort nodes after
@@ -236,7 +241,7 @@ module _ {S K : Type 0} (s : source.Ghosts S) (k : sink.Ghosts K) where
             less : short.place < root + 1
             less = let a = slice_get_within renewed short.place short.before short.was in let b = renewed-size in omega (arith, a, b)
 
-            no-leaf : (w : StageWork S K) → IsCollecting w → is_leaf w ≡ true → ⊥
+            no-leaf : (w : StageWork S K P Q) → IsCollecting w → is_leaf w ≡ true → ⊥
             no-leaf (Collector c) is leaf = true≢false (sym leaf)
             no-leaf w is leaf = absurd is
 
@@ -256,11 +261,11 @@ module _ {S K : Type 0} (s : source.Ghosts S) (k : sink.Ghosts K) where
             by_own false o = absurd (no-leaf short.before.work short.collects (stranger short.place short.before less o short.was).leaf)
 
         -- where turns end at a fault, those that came to their end have none
-        pub part-sound : (stop : Stop) → CameToEnd (as_works s k) stop ended → stop ≡ First → AreSoundOwn homes home root after
-        part-sound stop came first i m l o e = subst (λ x. CameToEnd (as_works s k) x ended) first came i m (sym (back i l o) ∙ e)
+        pub part-sound : (stop : Stop) → CameToEnd (as_works s k fs ts) stop ended → stop ≡ First → AreSoundOwn homes home root after
+        part-sound stop came first i m l o e = subst (λ x. CameToEnd (as_works s k fs ts) x ended) first came i m (sym (back i l o) ∙ e)
 
-        pub part-became : (became : List (List ℕ) → List (Node (StageWork S K)) → List (Node (StageWork S K)) → Type 0) → became room.ins renewed ended → NoneShort ended
-            → IsPart s k (became part) part homes home root nodes after
+        pub part-became : (became : List (List ℕ) → List (Node (StageWork S K P Q)) → List (Node (StageWork S K P Q)) → Type 0) → became room.ins renewed ended → NoneShort ended
+            → IsPart s k fs ts (became part) part homes home root nodes after
         part-became became turned enough = record {
           net = renewed;
           ended = ended;

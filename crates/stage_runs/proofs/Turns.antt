@@ -28,6 +28,8 @@ use Rattle.stage_runs.proofs.Forests.{mapped, stages-forest}
 use Rattle.stage_runs.proofs.Part.{IsRoot, gathers-are}
 use Rattle.stage_runs.proofs.Halted.{part-stopped}
 use Rattle.stage_runs.proofs.Steps.{above, none-run, none-here, gathered-here}
+use Rattle.plug_stages.specs.declared.filter.PlugFilter as plug_type
+use Rattle.plug_stages.specs.declared.tally.PlugTally as tally_type
 
 -- a tree has at least one stage, and at most 64
 pub some-stages : (stages : List StageSpec) → IsTree (shapes stages) → 0 < length stages
@@ -69,9 +71,9 @@ pub planned-part : (stages : List StageSpec) (plan : Plan) → plan.gathers.item
 planned-part stages plan gathers_is ins_is home root =
     ap (λ gs. part_ins gs plan.ins plan.homes.items home root) gathers_is ∙ ap (λ xss. part_ins (gathers_of stages) xss plan.homes.items home root) ins_is
 
-module _ {S K : Type 0} (s : source.Ghosts S) (k : sink.Ghosts K) (stages : List StageSpec) (tree : IsTree (shapes stages)) {old : List (Node (StageWork S K))} (new : AreNewStages s k stages old)
+module _ {S K P Q : Type 0} (s : source.Ghosts S) (k : sink.Ghosts K) (fs : plug_type.Ghosts P) (ts : tally_type.Ghosts Q) (stages : List StageSpec) (tree : IsTree (shapes stages)) {old : List (Node (StageWork S K P Q))} (new : AreNewStages s k fs ts stages old)
     (plan : Plan) (gathers_is : plan.gathers.items ≡ gathers_of stages) (ins_is : plan.ins ≡ ins_of stages)
-    (are : AreHomes (gathers_of stages) (ins_of stages) plan.homes.items) (besides : Besides S K) where
+    (are : AreHomes (gathers_of stages) (ins_of stages) plan.homes.items) (besides : Besides S K P Q) where
   abbrev homes : List ℕ
   homes = plan.homes.items
 
@@ -81,8 +83,8 @@ module _ {S K : Type 0} (s : source.Ghosts S) (k : sink.Ghosts K) (stages : List
   forest : IsForest (ins_of stages) (length (ins_of stages) - 1)
   forest = all-forest stages tree
 
-  abbrev Done : ℕ → List (Node (StageWork S K)) → Type 0
-  Done done now = AreRunBefore s k stages homes old done now
+  abbrev Done : ℕ → List (Node (StageWork S K P Q)) → Type 0
+  Done done now = AreRunBefore s k fs ts stages homes old done now
 
   abbrev part : ℕ → ℕ → List (List ℕ)
   part home root = part_ins plan.gathers.items plan.ins homes home root
@@ -91,19 +93,19 @@ module _ {S K : Type 0} (s : source.Ghosts S) (k : sink.Ghosts K) (stages : List
   same-part home root = planned-part stages plan gathers_is ins_is home root
 
   pub at-first : Done 0 old
-  at-first = none-run s k stages old new down forest (ins-size stages) homes are besides
+  at-first = none-run s k fs ts stages old new down forest (ins-size stages) homes are besides
 
   -- ---- all turns
 
-  abbrev Turned : ℕ → List (Node (StageWork S K)) → Type 0
-  Turned done now = AreTurned s k stages homes old besides done now
+  abbrev Turned : ℕ → List (Node (StageWork S K P Q)) → Type 0
+  Turned done now = AreTurned s k fs ts stages homes old besides done now
 
-  one-more : (w : ℕ) (now : List (Node (StageWork S K))) → Turned (suc w) now → Turned (w + 1) now
+  one-more : (w : ℕ) (now : List (Node (StageWork S K P Q))) → Turned (suc w) now → Turned (w + 1) now
   one-more w now t = subst (λ n. Turned n now) (let same : suc w ≡ w + 1 = omega arith in same) t
 
   -- ---- one stage more
 
-  module _ (w : ℕ) {now : List (Node (StageWork S K))} (later : AreLaterNodes s k old now) (done : Done w now) (inside : w < length stages)
+  module _ (w : ℕ) {now : List (Node (StageWork S K P Q))} (later : AreLaterNodes s k fs ts old now) (done : Done w now) (inside : w < length stages)
       {read : Bool} (reads : read ≡ slice_index_or plan.gathers.items w read) where
     count : length now ≡ length stages
     count = later.count ∙ new.count
@@ -114,7 +116,7 @@ module _ {S K : Type 0} (s : source.Ghosts S) (k : sink.Ghosts K) (stages : List
       streams_w = gathers-read stages plan.gathers.items gathers_is w read false inside reads no
 
       pub skipped : Done (w + 1) now
-      skipped = none-here s k stages old new down forest (ins-size stages) homes are besides w now count inside streams_w done
+      skipped = none-here s k fs ts stages old new down forest (ins-size stages) homes are besides w now count inside streams_w done
 
       pub turned-over : Turned w now → Turned (w + 1) now
       turned-over before = one-more w now (now, before, inr (streams_w, refl))
@@ -134,33 +136,33 @@ module _ {S K : Type 0} (s : source.Ghosts S) (k : sink.Ghosts K) (stages : List
       part-forest = subst (λ xss. IsForest xss w) (sym (same-part w w))
           (gathered-forest (gathers_of stages) (ins_of stages) homes w forest are (let n = ins-size stages in omega (arith, inside, n)) (gathers-are stages w ∙ gathers_w))
 
-      pub part-fresh : (i : ℕ) (n : Node (StageWork S K)) → i < w → is_of homes w i ≡ true → slice_get now i ≡ Some n → IsFresh (shown (as_works s k) (children (part w w) i) n)
-      part-fresh i n l h e = subst (λ xss. IsFresh (shown (as_works s k) (children xss i) n)) (sym (same-part w w))
-          (fresh-before s k stages old new down forest (ins-size stages) homes are besides w w at-w now count inside (λ j m. m) done i n l h e)
+      pub part-fresh : (i : ℕ) (n : Node (StageWork S K P Q)) → i < w → is_of homes w i ≡ true → slice_get now i ≡ Some n → IsFresh (shown (as_works s k fs ts) (children (part w w) i) n)
+      part-fresh i n l h e = subst (λ xss. IsFresh (shown (as_works s k fs ts) (children xss i) n)) (sym (same-part w w))
+          (fresh-before s k fs ts stages old new down forest (ins-size stages) homes are besides w w at-w now count inside (λ j m. m) done i n l h e)
 
-      pub part-inputs : (n : Node (StageWork S K)) → slice_get now w ≡ Some n → (is_leaf n.work ≡ true) ↔ (length (children (part w w) w) ≡ 0)
+      pub part-inputs : (n : Node (StageWork S K P Q)) → slice_get now w ≡ Some n → (is_leaf n.work ≡ true) ↔ (length (children (part w w) w) ≡ 0)
       part-inputs n e = subst (λ xss. (is_leaf n.work ≡ true) ↔ (length (children xss w) ≡ 0)) (sym (same-part w w))
-          (root-inputs s k stages old new down forest (ins-size stages) homes are besides w w at-w now count inside (λ j m. m) done
+          (root-inputs s k fs ts stages old new down forest (ins-size stages) homes are besides w w at-w now count inside (λ j m. m) done
           (λ streams. absurd (true≢false (sym gathers_w ∙ streams))) n e)
 
       under : (i : ℕ) → i < length stages → home_at homes i ≡ w → i ≢ w → i < w
-      under i l h n = let a = above s k stages old new down forest (ins-size stages) homes are besides i l in omega (arith, a, h)
+      under i l h n = let a = above s k fs ts stages old new down forest (ins-size stages) homes are besides i l in omega (arith, a, h)
 
       -- its part ended at a fault
-      pub turn-stopped : (queue chunk : ℕ) {after : List (Node (StageWork S K))} → IsPartStopped s k queue chunk (part w w) homes w w now after → AreStoppedStages s k stages old after
-      turn-stopped queue chunk {after} stopped = part-stopped s k stages old new down forest (ins-size stages) homes are besides w w at-w now count inside (λ j m. m) under done queue chunk after
-          (subst (λ xss. IsPartStopped s k queue chunk xss homes w w now after) (same-part w w) stopped)
+      pub turn-stopped : (queue chunk : ℕ) {after : List (Node (StageWork S K P Q))} → IsPartStopped s k fs ts queue chunk (part w w) homes w w now after → AreStoppedStages s k fs ts stages old after
+      turn-stopped queue chunk {after} stopped = part-stopped s k fs ts stages old new down forest (ins-size stages) homes are besides w w at-w now count inside (λ j m. m) under done queue chunk after
+          (subst (λ xss. IsPartStopped s k fs ts queue chunk xss homes w w now after) (same-part w w) stopped)
 
-      module _ {after : List (Node (StageWork S K))} (run : IsPartRun s k besides (part w w) homes w w now after) where
-        ran : IsPartRun s k besides (part_ins (gathers_of stages) (ins_of stages) homes w w) homes w w now after
-        ran = subst (λ xss. IsPartRun s k besides xss homes w w now after) (same-part w w) run
+      module _ {after : List (Node (StageWork S K P Q))} (run : IsPartRun s k fs ts besides (part w w) homes w w now after) where
+        ran : IsPartRun s k fs ts besides (part_ins (gathers_of stages) (ins_of stages) homes w w) homes w w now after
+        ran = subst (λ xss. IsPartRun s k fs ts besides xss homes w w now after) (same-part w w) run
 
-        pub collects : (m : Node (StageWork S K)) → slice_get after w ≡ Some m → IsCollecting m.work
-        collects = root-collects s k stages old new down forest (ins-size stages) homes are besides w w at-w now count inside (λ j m. m) done after ran gathers_w
+        pub collects : (m : Node (StageWork S K P Q)) → slice_get after w ≡ Some m → IsCollecting m.work
+        collects = root-collects s k fs ts stages old new down forest (ins-size stages) homes are besides w w at-w now count inside (λ j m. m) done after ran gathers_w
 
-        module _ {last : List (Node (StageWork S K))} (made : IsGatheredAt s k w after last) where
+        module _ {last : List (Node (StageWork S K P Q))} (made : IsGatheredAt s k fs ts w after last) where
           pub taken-turn : Done (w + 1) last
-          taken-turn = gathered-here s k stages old new down forest (ins-size stages) homes are besides w now after last count inside gathers_w done ran made
+          taken-turn = gathered-here s k fs ts stages old new down forest (ins-size stages) homes are besides w now after last count inside gathers_w done ran made
 
           pub turned-on : Turned w now → Turned (w + 1) last
           turned-on before = one-more w last (now, before, inl (record { gathers = gathers_w; after = after; ran = ran; made = made }))

@@ -9,28 +9,30 @@ use Rattle.stage_runs.specs.declared.rooms.PartRoom.{PartRoom}
 use Rattle.stage_runs.specs.declared.rooms.StageRoom.{StageRoom}
 use Rattle.stage_runs.specs.Works.{ins_of}
 use Rattle.stage_runs.specs.Parts.{gathers_of, AreStandIns}
+use Rattle.plug_stages.specs.declared.filter.PlugFilter as plug_type
+use Rattle.plug_stages.specs.declared.tally.PlugTally as tally_type
 
 -- the children of the nodes of a part, as it is planned
 abbrev pub part_of : Plan → ℕ → ℕ → List (List ℕ)
 part_of plan home root = part_ins plan.gathers.items plan.ins plan.homes.items home root
 
 -- what fits so many nodes, over queues of this capacity
-module _ {S K E : Type 0} (s : source.Ghosts S) (k : sink.Ghosts K) (fits : ℕ → ℕ → E → Type 0) where
+module _ {S K P Q E : Type 0} (s : source.Ghosts S) (k : sink.Ghosts K) (fs : plug_type.Ghosts P) (ts : tally_type.Ghosts Q) (fits : ℕ → ℕ → E → Type 0) where
   -- the memory of a part with this root: the children of its nodes, leaves that give nothing in the places of all, and what lies between
   -- them
-  pub record IsRoom (part : List (List ℕ)) (root queue : ℕ) (room : PartRoom S K E) : Type 0 where
+  pub record IsRoom (part : List (List ℕ)) (root queue : ℕ) (room : PartRoom S K P Q E) : Type 0 where
     pub ins : room.ins ≡ part
-    pub net : AreStandIns s k (root + 1) room.net.items
+    pub net : AreStandIns s k fs ts (root + 1) room.net.items
     pub edges : fits (root + 1) queue room.edges
 
   -- the last part has its memory, unless its root needs whole views
-  abbrev pub IsLastRoom : List (List ℕ) → ℕ → ℕ → Bool → Option (PartRoom S K E) → Type 0
+  abbrev pub IsLastRoom : List (List ℕ) → ℕ → ℕ → Bool → Option (PartRoom S K P Q E) → Type 0
   IsLastRoom part root queue true None = ⊤
   IsLastRoom part root queue false (Some room) = IsRoom part root queue room
   IsLastRoom part root queue _ _ = ⊥
 
   -- the memory of the stages of a tree: how they fall into parts, and that of the last one
-  pub record IsStageRoom (stages : List StageSpec) (room : StageRoom S K E) : Type 0 where
+  pub record IsStageRoom (stages : List StageSpec) (room : StageRoom S K P Q E) : Type 0 where
     pub ins : room.plan.ins ≡ ins_of stages
     pub gathers : room.plan.gathers.items ≡ gathers_of stages
     pub homes : AreHomes (gathers_of stages) (ins_of stages) room.plan.homes.items

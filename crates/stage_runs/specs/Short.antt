@@ -9,17 +9,17 @@ use Rattle.answer_model.specs.Values.{role_at}
 use Rattle.stage_forms.specs.Starts.{IsCollecting}
 
 -- memory was wanting at one of these nodes, and at none
-abbrev pub SomeShort : {S K : Type 0} → List (Node (StageWork S K)) → Type 0
-SomeShort {S} {K} nodes = (i : ℕ) × (n : Node (StageWork S K)) × (slice_get nodes i ≡ Some n) × (is_short n.work ≡ true)
+abbrev pub SomeShort : {S K P Q : Type 0} → List (Node (StageWork S K P Q)) → Type 0
+SomeShort {S} {K} {P} {Q} nodes = (i : ℕ) × (n : Node (StageWork S K P Q)) × (slice_get nodes i ≡ Some n) × (is_short n.work ≡ true)
 
-abbrev pub NoneShort : {S K : Type 0} → List (Node (StageWork S K)) → Type 0
-NoneShort {S} {K} nodes = (i : ℕ) (n : Node (StageWork S K)) → slice_get nodes i ≡ Some n → is_short n.work ≡ false
+abbrev pub NoneShort : {S K P Q : Type 0} → List (Node (StageWork S K P Q)) → Type 0
+NoneShort {S} {K} {P} {Q} nodes = (i : ℕ) (n : Node (StageWork S K P Q)) → slice_get nodes i ≡ Some n → is_short n.work ≡ false
 
 -- memory was wanting at one of these nodes, which takes whole views
-pub record RanShort {S K : Type 0} (old new : List (Node (StageWork S K))) : Type 0 where
+pub record RanShort {S K P Q : Type 0} (old new : List (Node (StageWork S K P Q))) : Type 0 where
   pub place : ℕ
-  pub before : Node (StageWork S K)
-  pub after : Node (StageWork S K)
+  pub before : Node (StageWork S K P Q)
+  pub after : Node (StageWork S K P Q)
   pub was : slice_get old place ≡ Some before
   pub is : slice_get new place ≡ Some after
   pub collects : IsCollecting before.work

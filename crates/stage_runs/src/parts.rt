@@ -19,6 +19,7 @@ use cloud_points::Work;
 use file_devices::{FileSink, Source};
 use network_core::Node;
 use network_solo::Scheduler;
+use plug_stages::{PlugFilter, PlugTally};
 use stage_kinds::StageWork;
 use std::alloc::{AllocError, Global};
 use std::mem;
@@ -65,11 +66,17 @@ fn renew_root<W: Work>(net: &mut Vec<Node<W>>, inputs: u32, chunk: usize)
 
 /// Lets the nodes of the part of a home take turns until all are done, in its memory. Each node stays at its place. Refuses only where
 /// memory is wanting at a node that takes whole views, or as the scheduler has it one has a fault.
-pub(crate) fn run_part<S: Source, K: FileSink, T: Scheduler<StageWork<S, K>>>(
+pub(crate) fn run_part<
+    S: Source,
+    K: FileSink,
+    P: PlugFilter,
+    Q: PlugTally,
+    T: Scheduler<StageWork<S, K, P, Q>>,
+>(
     scheduler: &T,
-    nodes: &mut [Node<StageWork<S, K>>],
+    nodes: &mut [Node<StageWork<S, K, P, Q>>],
     plan: &Plan,
-    room: PartRoom<S, K, T::Edges>,
+    room: PartRoom<S, K, P, Q, T::Edges>,
     home: u32,
     root: usize,
     sizes: Sizes,
@@ -78,17 +85,19 @@ pub(crate) fn run_part<S: Source, K: FileSink, T: Scheduler<StageWork<S, K>>>(
     requires root { root < length nodes.old }
     requires few { length nodes.old ≤ 64 }
     requires homes { length plan.now.homes.items ≡ length nodes.old }
-    requires room { IsRoom S.Source K.Sink T.fits (part_of plan.now home root) root sizes.queue room }
+    requires room { IsRoom S.Source K.Sink P.PlugFilter Q.PlugTally T.fits
+        (part_of plan.now home root) root sizes.queue room }
     requires forest { IsForest (part_of plan.now home root) root }
-    requires fresh { AreFreshBefore S.Source K.Sink (part_of plan.now home root) plan.now.homes.items
-        home root nodes.old }
-    requires inputs { HasInputs S.Source K.Sink (part_of plan.now home root) root nodes.old }
-    ensures later { AreSameOrLater S.Source K.Sink nodes.old nodes.new }
-    ensures run { OnOk result (IsPartRun S.Source K.Sink (T.besides sizes.queue) (part_of plan.now home root)
-        plan.now.homes.items home root nodes.old nodes.new) }
+    requires fresh { AreFreshBefore S.Source K.Sink P.PlugFilter Q.PlugTally
+        (part_of plan.now home root) plan.now.homes.items home root nodes.old }
+    requires inputs { HasInputs S.Source K.Sink P.PlugFilter Q.PlugTally
+        (part_of plan.now home root) root nodes.old }
+    ensures later { AreSameOrLater S.Source K.Sink P.PlugFilter Q.PlugTally nodes.old nodes.new }
+    ensures run { OnOk result (IsPartRun S.Source K.Sink P.PlugFilter Q.PlugTally (T.besides sizes.queue)
+        (part_of plan.now home root) plan.now.homes.items home root nodes.old nodes.new) }
     ensures short { result ≡ Err Halt.Memory → RanShort nodes.old nodes.new }
-    ensures stopped { result ≡ Err Halt.Fault → IsPartStopped S.Source K.Sink sizes.queue sizes.chunk
-        (part_of plan.now home root) plan.now.homes.items home root nodes.old nodes.new }
+    ensures stopped { result ≡ Err Halt.Fault → IsPartStopped S.Source K.Sink P.PlugFilter Q.PlugTally
+        sizes.queue sizes.chunk (part_of plan.now home root) plan.now.homes.items home root nodes.old nodes.new }
     ensures stops { result ≡ Err Halt.Fault → T.stop scheduler.now ≡ First }
     ensures sound { OnOk result (T.stop scheduler.now ≡ First
         → AreSoundOwn plan.now.homes.items home root nodes.new) }
@@ -111,20 +120,27 @@ pub(crate) fn run_part<S: Source, K: FileSink, T: Scheduler<StageWork<S, K>>>(
 }
 
 /// Lets a leaf give all that it has, to no one. Refuses only where memory is wanting, or as the scheduler has it the leaf has a fault.
-pub(crate) fn run_leaf<S: Source, K: FileSink, T: Scheduler<StageWork<S, K>>>(
+pub(crate) fn run_leaf<
+    S: Source,
+    K: FileSink,
+    P: PlugFilter,
+    Q: PlugTally,
+    T: Scheduler<StageWork<S, K, P, Q>>,
+>(
     alloc: Global,
     scheduler: &T,
-    nodes: &mut [Node<StageWork<S, K>>],
+    nodes: &mut [Node<StageWork<S, K, P, Q>>],
     at: usize,
     sizes: Sizes,
 ) -> Result<(), Halt>
     requires sound { T.sound scheduler.now }
     requires inside { at < length nodes.old }
-    requires leaf { IsNewLeafAt S.Source K.Sink at nodes.old }
-    ensures later { AreSameOrLater S.Source K.Sink nodes.old nodes.new }
-    ensures run { OnOk result (IsLeafRun S.Source K.Sink (T.besides sizes.queue) at nodes.old nodes.new) }
+    requires leaf { IsNewLeafAt S.Source K.Sink P.PlugFilter Q.PlugTally at nodes.old }
+    ensures later { AreSameOrLater S.Source K.Sink P.PlugFilter Q.PlugTally nodes.old nodes.new }
+    ensures run { OnOk result
+        (IsLeafRun S.Source K.Sink P.PlugFilter Q.PlugTally (T.besides sizes.queue) at nodes.old nodes.new) }
     ensures stopped { result ≡ Err Halt.Fault
-        → IsLeafStopped S.Source K.Sink sizes.queue at nodes.old nodes.new }
+        → IsLeafStopped S.Source K.Sink P.PlugFilter Q.PlugTally sizes.queue at nodes.old nodes.new }
     ensures stops { result ≡ Err Halt.Fault → T.stop scheduler.now ≡ First }
 {
     let empty = stand_in(alloc, sizes.chunk);
@@ -136,16 +152,17 @@ pub(crate) fn run_leaf<S: Source, K: FileSink, T: Scheduler<StageWork<S, K>>>(
 
 /// Has the stage at a place make of the views that it took what it is to make: it is a leaf then that gives that. Refuses where memory
 /// is wanting.
-pub(crate) fn gather_at<S: Source, K: FileSink>(
+pub(crate) fn gather_at<S: Source, K: FileSink, P: PlugFilter, Q: PlugTally>(
     alloc: Global,
-    nodes: &mut [Node<StageWork<S, K>>],
+    nodes: &mut [Node<StageWork<S, K, P, Q>>],
     at: usize,
     sizes: Sizes,
 ) -> Result<(), AllocError>
     requires inside { at < length nodes.old }
-    requires collects { CollectsAt S.Source K.Sink at nodes.old }
-    ensures later { AreSameOrLater S.Source K.Sink nodes.old nodes.new }
-    ensures gathered { OnOk result (IsGatheredAt S.Source K.Sink at nodes.old nodes.new) }
+    requires collects { CollectsAt S.Source K.Sink P.PlugFilter Q.PlugTally at nodes.old }
+    ensures later { AreSameOrLater S.Source K.Sink P.PlugFilter Q.PlugTally nodes.old nodes.new }
+    ensures gathered { OnOk result
+        (IsGatheredAt S.Source K.Sink P.PlugFilter Q.PlugTally at nodes.old nodes.new) }
 {
     let empty = stand_in(alloc, sizes.chunk);
     let work = mem::replace(&mut nodes[at], empty).into_work();

@@ -12,38 +12,40 @@ use crate::sizes::Sizes;
 use file_devices::{FileSink, Source};
 use network_core::{InsList, Node};
 use network_solo::Scheduler;
+use plug_stages::{PlugFilter, PlugTally};
 use stage_kinds::StageWork;
 use stage_options::StageSpec;
 use stage_parts::part_ins;
 use std::alloc::{AllocError, Global};
 
 /// The memory in which a part takes turns, with what lies between its nodes.
-pub(crate) struct PartRoom<S, K: FileSink, E> {
+pub(crate) struct PartRoom<S, K: FileSink, P: PlugFilter, Q: PlugTally, E> {
     /// The children of its nodes.
     pub(crate) ins: InsList,
 
     /// Leaves that give nothing, in the places of its nodes.
-    pub(crate) net: Vec<Node<StageWork<S, K>>>,
+    pub(crate) net: Vec<Node<StageWork<S, K, P, Q>>>,
 
     /// The queues between its nodes.
     pub(crate) edges: E,
 }
 
-impl<S: Source, K: FileSink, E> PartRoom<S, K, E> {
+impl<S: Source, K: FileSink, P: PlugFilter, Q: PlugTally, E> PartRoom<S, K, P, Q, E> {
     /// The memory of the part of a home with this root. Refuses where memory is wanting.
-    pub(crate) fn new<T: Scheduler<StageWork<S, K>, Edges = E>>(
+    pub(crate) fn new<T: Scheduler<StageWork<S, K, P, Q>, Edges = E>>(
         alloc: Global,
         scheduler: &T,
         plan: &Plan,
         home: u32,
         root: usize,
         sizes: Sizes,
-    ) -> Result<PartRoom<S, K, E>, AllocError>
+    ) -> Result<PartRoom<S, K, P, Q, E>, AllocError>
         requires root { root < length plan.now.gathers.items }
         requires few { length plan.now.gathers.items ≤ 64 }
         requires ins { length plan.now.ins ≡ length plan.now.gathers.items }
         requires homes { length plan.now.homes.items ≡ length plan.now.gathers.items }
-        ensures { IfOk result (IsRoom S.Source K.Sink T.fits (part_of plan.now home root) root sizes.queue) }
+        ensures { IfOk result (IsRoom S.Source K.Sink P.PlugFilter Q.PlugTally T.fits
+            (part_of plan.now home root) root sizes.queue) }
     {
         let gathers = plan.gathers.as_slice();
         let homes = plan.homes.as_slice();
@@ -59,9 +61,9 @@ impl<S: Source, K: FileSink, E> PartRoom<S, K, E> {
     }
 
     /// Gives it back.
-    pub(crate) fn let_go<T: Scheduler<StageWork<S, K>, Edges = E>>(self)
+    pub(crate) fn let_go<T: Scheduler<StageWork<S, K, P, Q>, Edges = E>>(self)
         requires { (part : List (List ℕ)) × (root : ℕ) × (queue : ℕ)
-            × IsRoom S.Source K.Sink T.fits part root queue self }
+            × IsRoom S.Source K.Sink P.PlugFilter Q.PlugTally T.fits part root queue self }
     {
         let PartRoom {
             net,
@@ -74,20 +76,27 @@ impl<S: Source, K: FileSink, E> PartRoom<S, K, E> {
 }
 
 /// The memory of the last part of a tree of so many stages, unless its root needs whole views. Refuses where memory is wanting.
-fn last_room<S: Source, K: FileSink, T: Scheduler<StageWork<S, K>>>(
+fn last_room<
+    S: Source,
+    K: FileSink,
+    P: PlugFilter,
+    Q: PlugTally,
+    T: Scheduler<StageWork<S, K, P, Q>>,
+>(
     alloc: Global,
     scheduler: &T,
     plan: &Plan,
     count: usize,
     sizes: Sizes,
-) -> Result<Option<PartRoom<S, K, T::Edges>>, AllocError>
+) -> Result<Option<PartRoom<S, K, P, Q, T::Edges>>, AllocError>
     requires some { 0 < count }
     requires few { count ≤ 64 }
     requires gathers { length plan.now.gathers.items ≡ count }
     requires ins { length plan.now.ins ≡ count }
     requires homes { length plan.now.homes.items ≡ count }
-    ensures { IfOk result (IsLastRoom S.Source K.Sink T.fits (part_of plan.now count (count - 1)) (count - 1)
-        sizes.queue (gathers_at plan.now.gathers.items (count - 1))) }
+    ensures { IfOk result (IsLastRoom S.Source K.Sink P.PlugFilter Q.PlugTally T.fits
+        (part_of plan.now count (count - 1)) (count - 1) sizes.queue
+        (gathers_at plan.now.gathers.items (count - 1))) }
 {
     let last = count - 1;
     if plan.gathers[last] {
@@ -100,28 +109,28 @@ fn last_room<S: Source, K: FileSink, T: Scheduler<StageWork<S, K>>>(
 
 /// The memory in which the stages of a tree take turns. Where none of them needs whole views that is all that their turns take;
 /// else it is that of the last stage and of what stands below it up to those that need whole views.
-pub struct StageRoom<S, K: FileSink, E> {
+pub struct StageRoom<S, K: FileSink, P: PlugFilter, Q: PlugTally, E> {
     pub(crate) plan: Plan,
     pub(crate) sizes: Sizes,
-    pub(crate) last: Option<PartRoom<S, K, E>>,
+    pub(crate) last: Option<PartRoom<S, K, P, Q, E>>,
 }
 
-impl<S: Source, K: FileSink, E> StageRoom<S, K, E> {
+impl<S: Source, K: FileSink, P: PlugFilter, Q: PlugTally, E> StageRoom<S, K, P, Q, E> {
     /// The memory of these stages, over queues of `queue` items; leaves make at most `chunk` points at once. Refuses where memory is
     /// wanting.
-    pub fn new<T: Scheduler<StageWork<S, K>, Edges = E>>(
+    pub fn new<T: Scheduler<StageWork<S, K, P, Q>, Edges = E>>(
         alloc: Global,
         scheduler: &T,
         stages: &[StageSpec],
         chunk: usize,
         queue: usize,
-    ) -> Result<StageRoom<S, K, E>, AllocError>
+    ) -> Result<StageRoom<S, K, P, Q, E>, AllocError>
         requires tree { IsTree (shapes stages.now) }
         requires some { 0 < chunk }
         requires most { chunk ≤ 64 }
         requires room { 0 < queue }
         requires small { queue ≤ 64 }
-        ensures room { IfOk result (IsStageRoom S.Source K.Sink T.fits stages.now) }
+        ensures room { IfOk result (IsStageRoom S.Source K.Sink P.PlugFilter Q.PlugTally T.fits stages.now) }
         ensures chunk { IfOk result (λ room. room.sizes.chunk ≡ chunk) }
         ensures queue { IfOk result (λ room. room.sizes.queue ≡ queue) }
     {

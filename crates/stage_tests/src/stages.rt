@@ -7,13 +7,14 @@ ghost use Rattle.stage_kinds.specs.Stages.{is_leaf};
 use cloud_points::{Dim, Make, Point, PointFault, Spread, StageFault, Work, put_points};
 use file_devices::{MemIn, MemOut, Name, Op};
 use las_reader::LasReader;
+use plug_stages::{Bounds, Spike};
 use recorded_files::two_points;
 use stage_kinds::{FileForm, Held, StageWork, Writing, begin_file};
 use std::alloc::{AllocError, Global};
 use text_writer::{Column, ColumnList, Separator, TextForm};
 
 /// A stage over devices in memory.
-pub(crate) type Stage = StageWork<MemIn, MemOut>;
+pub(crate) type Stage = StageWork<MemIn, MemOut, Spike, Bounds>;
 
 /// What a leaf makes, and how many points it puts into the spread.
 pub(crate) type Made = (Make, usize);
@@ -61,7 +62,7 @@ pub(crate) fn drop_stage(stage: Stage) {
     match stage.release() {
         Held::Source(source) => drop(source),
         Held::Sink(sink) => drop(sink),
-        Held::Nothing => {}
+        Held::Filter(_, _) | Held::Tally(_, _) | Held::Nothing => {}
     }
 }
 

@@ -19,6 +19,7 @@ own_kind kind.FiltersExpression filename ms = refl
 own_kind kind.FiltersDecimation filename ms = refl
 own_kind kind.FiltersHead filename ms = refl
 own_kind kind.FiltersReturns filename ms = refl
+own_kind kind.FiltersPlug filename ms = refl
 own_kind kind.FiltersMerge filename ms = refl
 own_kind kind.FiltersSort filename ms = refl
 own_kind kind.FiltersTail filename ms = refl
@@ -27,6 +28,7 @@ own_kind kind.FiltersSplitter filename ms = refl
 own_kind kind.FiltersVoxeldownsize filename ms = refl
 own_kind kind.WritersLas filename ms = refl
 own_kind kind.WritersText filename ms = refl
+own_kind kind.WritersTally filename ms = refl
 
 pub have_own : (stages : List Stage) → HaveOwnOptions (specs_of stages)
 have_own [] i t e = absurd (none-some t e)

@@ -26,7 +26,7 @@ use Rattle.option_texts.specs.declared.groups.Groups.{Groups}
 use Rattle.stage_names.specs.declared.kinds.KindName.{KindName}
 use Rattle.stage_names.specs.declared.kinds.KindName.TheVariants as kind
 use Rattle.stage_options.specs.declared.options.Options.{Options}
-use Rattle.stage_options.specs.declared.options.Options.TheVariants.{ReadersLas, FiltersRange, FiltersCrop, FiltersAssign, FiltersFerry, FiltersExpression, FiltersDecimation, FiltersHead, FiltersReturns, FiltersMerge, FiltersSort, FiltersTail, FiltersGroupby, FiltersSplitter, FiltersVoxeldownsize, WritersLas, WritersText}
+use Rattle.stage_options.specs.declared.options.Options.TheVariants.{ReadersLas, FiltersRange, FiltersCrop, FiltersAssign, FiltersFerry, FiltersExpression, FiltersDecimation, FiltersHead, FiltersReturns, FiltersPlug, FiltersMerge, FiltersSort, FiltersTail, FiltersGroupby, FiltersSplitter, FiltersVoxeldownsize, WritersLas, WritersText, WritersTally}
 use Rattle.stage_options.specs.declared.options.RangeOptions.{RangeOptions}
 use Rattle.stage_options.specs.declared.options.CropOptions.{CropOptions}
 use Rattle.stage_options.specs.declared.options.AssignOptions.{AssignOptions}
@@ -35,6 +35,7 @@ use Rattle.stage_options.specs.declared.options.ExpressionOptions.{ExpressionOpt
 use Rattle.stage_options.specs.declared.options.DecimationOptions.{DecimationOptions}
 use Rattle.stage_options.specs.declared.options.HeadOptions.{HeadOptions}
 use Rattle.stage_options.specs.declared.options.ReturnsOptions.{ReturnsOptions}
+use Rattle.stage_options.specs.declared.options.PlugOptions.{PlugOptions}
 use Rattle.stage_options.specs.declared.options.SortOptions.{SortOptions}
 use Rattle.stage_options.specs.declared.options.TailOptions.{TailOptions}
 use Rattle.stage_options.specs.declared.options.GroupbyOptions.{GroupbyOptions}
@@ -43,6 +44,7 @@ use Rattle.stage_options.specs.declared.options.VoxeldownsizeOptions.{Voxeldowns
 use Rattle.stage_options.specs.declared.options.LasReaderOptions.{LasReaderOptions}
 use Rattle.stage_options.specs.declared.options.LasWriterOptions.{LasWriterOptions}
 use Rattle.stage_options.specs.declared.options.TextOptions.{TextOptions}
+use Rattle.stage_options.specs.declared.options.TallyOptions.{TallyOptions}
 use Rattle.stage_options.specs.Expressions.{condition_with, assignments_with}
 use Rattle.stage_options.specs.Values.{whole_of, format_with, decimal_of, truth_of, is_source, is_target}
 use Rattle.stage_options.specs.Rules.{is_within, is_between, has_size}
@@ -71,7 +73,7 @@ offset_in name ms = option_and_then (where_it (is_between (neg_ℤ (pos 99999999
 abbrev pub decimal_or : ℤ → List ℕ → Members → ℤ
 decimal_or default name ms = unwrap_or (option_in decimal_of name ms) default
 
--- which points a filter judges or a writer writes
+-- which points a stage judges, writes or shows
 abbrev pub where_in : Members → Option (Formula (List ℕ))
 where_in ms = option_in condition_with (codes "where") ms
 
@@ -164,7 +166,7 @@ text_options_in filename ms = record {
   only = where_in ms;
 }
 
--- the name of a dimension that an option is
+-- the name that an option is
 abbrev pub name_in : List ℕ → Members → List ℕ
 name_in name ms = unwrap_or (option_in as_str name ms) []
 
@@ -208,6 +210,9 @@ head_options ms = record { count = unwrap_or (option_in whole_of (codes "count")
 abbrev pub returns_options : Members → ReturnsOptions
 returns_options ms = record { groups = groups_in ms; only = where_in ms }
 
+abbrev pub plug_options : Members → PlugOptions
+plug_options ms = record { plug = name_in (codes "plug") ms; only = where_in ms }
+
 abbrev pub sort_options : Members → SortOptions
 sort_options ms = record { dimension = name_in (codes "dimension") ms; down = is_down (option_in as_str (codes "order") ms) }
 
@@ -233,6 +238,9 @@ las_reader_options filename ms = record { filename = filename; extra = unwrap_or
 abbrev pub las_writer_options : List ℕ → Members → LasWriterOptions
 las_writer_options filename ms = record { filename = filename; fields = las_fields_in ms; extra = extra_dims_in ms; only = where_in ms }
 
+abbrev pub tally_options : Members → TallyOptions
+tally_options ms = record { tally = name_in (codes "tally") ms; only = where_in ms }
+
 -- by the type
 abbrev pub typed_of : KindName → Option (List ℕ) → Members → Options
 typed_of kind.ReadersLas filename ms = ReadersLas (las_reader_options (unwrap_or filename []) ms)
@@ -244,6 +252,7 @@ typed_of kind.FiltersExpression filename ms = FiltersExpression (expression_opti
 typed_of kind.FiltersDecimation filename ms = FiltersDecimation (decimation_options ms)
 typed_of kind.FiltersHead filename ms = FiltersHead (head_options ms)
 typed_of kind.FiltersReturns filename ms = FiltersReturns (returns_options ms)
+typed_of kind.FiltersPlug filename ms = FiltersPlug (plug_options ms)
 typed_of kind.FiltersMerge filename ms = FiltersMerge (record {})
 typed_of kind.FiltersSort filename ms = FiltersSort (sort_options ms)
 typed_of kind.FiltersTail filename ms = FiltersTail (tail_options ms)
@@ -252,6 +261,7 @@ typed_of kind.FiltersSplitter filename ms = FiltersSplitter (splitter_options ms
 typed_of kind.FiltersVoxeldownsize filename ms = FiltersVoxeldownsize (voxeldownsize_options ms)
 typed_of kind.WritersLas filename ms = WritersLas (las_writer_options (unwrap_or filename []) ms)
 typed_of kind.WritersText filename ms = WritersText (text_options_in (unwrap_or filename []) ms)
+typed_of kind.WritersTally filename ms = WritersTally (tally_options ms)
 
 -- whether a file name is one that the type may have
 abbrev pub is_named : KindName → Option (List ℕ) → Bool

@@ -281,7 +281,7 @@ fn condition_in(
     }
 }
 
-/// Which points a filter judges or a writer writes.
+/// Which points a stage judges, writes or shows.
 pub(crate) fn where_in(
     alloc: Global,
     options: &Map<String, Value>,
@@ -365,13 +365,13 @@ pub(crate) fn groups_in(options: &Map<String, Value>) -> Groups
         .unwrap_or(LAST_RETURNS)
 }
 
-/// The name of a dimension that an option is.
+/// The name that an option is.
 pub(crate) fn name_in(
     alloc: Global,
     options: &Map<String, Value>,
     name: &str,
 ) -> Result<Name, AllocError>
-    ensures { IfOk result (λ dimension. dimension ≡ name_in name.now (members_view options.now.entries)) }
+    ensures { IfOk result (λ found. found ≡ name_in name.now (members_view options.now.entries)) }
 {
     name_from(alloc, text_of(options, name).unwrap_or(""))
 }

@@ -3,7 +3,7 @@
 ghost use Rattle.std.specs.Prelude.{◌≡◌, [], option_map, None, IfOk, IfErr, OnOk, IsTrue};
 ghost use Rattle.std.specs.Option.{unwrap_or};
 ghost use Rattle.serde_json.specs.View.{members_view};
-ghost use Rattle.stage_typing.specs.Typed.{typed_of, is_named, range_options, crop_options, assign_options, ferry_options, expression_options, decimation_options, head_options, returns_options, sort_options, tail_options, groupby_options, splitter_options, voxeldownsize_options, las_reader_options, las_writer_options, text_options_in};
+ghost use Rattle.stage_typing.specs.Typed.{typed_of, is_named, range_options, crop_options, assign_options, ferry_options, expression_options, decimation_options, head_options, returns_options, plug_options, sort_options, tail_options, groupby_options, splitter_options, voxeldownsize_options, las_reader_options, las_writer_options, text_options_in, tally_options};
 ghost use Rattle.stage_typing.specs.OptionFaults.{first_fault};
 ghost use Rattle.stage_names.specs.Faults.{IsFaultOf};
 ghost use Rattle.stage_options.specs.Values.{is_source, is_target};
@@ -19,9 +19,9 @@ use serde_json::{Map, Value};
 use stage_names::{KindName, PipeErr};
 use stage_options::{
     AssignOptions, CropOptions, DecimationOptions, ExpressionOptions, FerryOptions, GroupbyOptions,
-    HeadOptions, LasReaderOptions, LasWriterOptions, MergeOptions, Options, RangeOptions,
-    ReturnsOptions, SortOptions, SourceName, SplitterOptions, TailOptions, TargetName,
-    VoxeldownsizeOptions, name_from, rules_of,
+    HeadOptions, LasReaderOptions, LasWriterOptions, MergeOptions, Options, PlugOptions,
+    RangeOptions, ReturnsOptions, SortOptions, SourceName, SplitterOptions, TailOptions,
+    TallyOptions, TargetName, VoxeldownsizeOptions, name_from, rules_of,
 };
 use std::alloc::{AllocError, Global};
 
@@ -120,6 +120,14 @@ fn filters_returns(alloc: Global, options: &Map<String, Value>) -> Result<Option
     Ok(Options::FiltersReturns(ReturnsOptions { groups, only }))
 }
 
+fn filters_plug(alloc: Global, options: &Map<String, Value>) -> Result<Options, AllocError>
+    ensures { IfOk result (λ o. o ≡ typed_as.FiltersPlug (plug_options (members_view options.now.entries))) }
+{
+    let plug = name_in(alloc, options, "plug")?;
+    let only = where_in(alloc, options)?;
+    Ok(Options::FiltersPlug(PlugOptions { plug, only }))
+}
+
 fn filters_sort(alloc: Global, options: &Map<String, Value>) -> Result<Options, AllocError>
     ensures { IfOk result (λ o. o ≡ typed_as.FiltersSort (sort_options (members_view options.now.entries))) }
 {
@@ -210,6 +218,14 @@ fn writers_text(
     Ok(Options::WritersText(text_options(alloc, filename, options)?))
 }
 
+fn writers_tally(alloc: Global, options: &Map<String, Value>) -> Result<Options, AllocError>
+    ensures { IfOk result (λ o. o ≡ typed_as.WritersTally (tally_options (members_view options.now.entries))) }
+{
+    let tally = name_in(alloc, options, "tally")?;
+    let only = where_in(alloc, options)?;
+    Ok(Options::WritersTally(TallyOptions { tally, only }))
+}
+
 /// The options of a stage of this type, with this file name and these other members.
 fn typed(
     alloc: Global,
@@ -231,6 +247,7 @@ fn typed(
         KindName::FiltersDecimation => filters_decimation(alloc, options),
         KindName::FiltersHead => filters_head(alloc, options),
         KindName::FiltersReturns => filters_returns(alloc, options),
+        KindName::FiltersPlug => filters_plug(alloc, options),
         KindName::FiltersMerge => Ok(Options::FiltersMerge(MergeOptions {})),
         KindName::FiltersSort => filters_sort(alloc, options),
         KindName::FiltersTail => Ok(filters_tail(options)),
@@ -239,6 +256,7 @@ fn typed(
         KindName::FiltersVoxeldownsize => Ok(filters_voxeldownsize(options)),
         KindName::WritersLas => writers_las(alloc, filename, options),
         KindName::WritersText => writers_text(alloc, filename, options),
+        KindName::WritersTally => writers_tally(alloc, options),
     }
 }
 

@@ -28,6 +28,7 @@ use Rattle.cloud_points.specs.declared.extra.ExtraField.{ExtraField}
 use Rattle.forward_rules.specs.Forwarded.{ReadFile}
 use Rattle.file_devices.specs.Named.{Names}
 use Rattle.file_devices.specs.declared.devices.Op.TheVariants.{Open}
+use Rattle.plug_stages.specs.Handed.{none_handed}
 use Rattle.run_report.specs.declared.refusal.Place.TheVariants.{Stage}
 use Rattle.run_report.specs.declared.refusal.Refusal.{Refusal}
 use Rattle.run_report.specs.declared.refusal.Refusal.TheVariants.{Device, Pipeline}
@@ -47,7 +48,7 @@ use Rattle.command_words.specs.Options.{usual}
 use Rattle.stage_planner.specs.Plans.{end_of, plan_of}
 use Rattle.lasline_top.specs.Texts.{plan_text}
 use Rattle.lasline_top.specs.Words.{Run_file, Plan_file, Make_file, engine_of, task_of}
-use Rattle.lasline_top.specs.Answer.{stages_in, ran, printed, made, trial_text, done, answer}
+use Rattle.lasline_top.specs.Answer.{named, stages_in, ran, printed, made, trial_text, done, answer}
 use Rattle.worked_examples.specs.Rows.{run_p, files, files_with, pipeline_alone, pipeline_text, head_of_1, head_of_0, tagged_head, reader_alone, writer_between, file_a, file_of_1_1, file_of_1_2, file_of_1_2_in_format_6, file_of_format_6, file_of_a_vlr, file_of_many_vlrs, file_of_a_far_evlr, file_compressed, file_of_neighbour, file_far, file_with_x, file_without_points, first_point, none_pass, only_read, all_and_first, twice, second_absent, two_points_twice}
 
 -- a reader, and stages behind the reader of the LAS file
@@ -76,7 +77,7 @@ holds_by file i (Reads name) = file_or (las_read i file)
 holds_by file i role = no_file
 
 abbrev pub run_by : Result LasFile LasFault → List StageSpec → Result Run Refusal
-run_by file stages = unless_unread (least_from (λ i. unread_by file i (role_at stages i)) (length stages) 0) (runs.run_over stages (λ i. holds_by file i (role_at stages i)))
+run_by file stages = unless_unread (least_from (λ i. unread_by file i (role_at stages i)) (length stages) 0) (runs.run_over stages (record { file = λ i. holds_by file i (role_at stages i); handed = none_handed }))
 
 -- what a file holds, with the values of given fields
 abbrev held_by : List ℕ → List ExtraField → Las
@@ -260,70 +261,71 @@ asked : task_of run_p ≡ Ok (Run_file (codes "p.json") (engine_of usual))
 unfolding command_of
 asked = refl
 
-pub run_is : (m : Names) → answer run_p m ≡ ran m (codes "p.json")
-run_is m = ap (λ task. and_then task (done m)) asked
+pub run_is : (m : Names) → answer none_handed run_p m ≡ ran none_handed m (codes "p.json")
+run_is m = ap (λ task. and_then task (done none_handed m)) asked
 
 -- the run of a pipeline over a LAS file
-pub run_over : (pipeline las : List ℕ) {later : List StageSpec} {file : Result LasFile LasFault} → stages_in pipeline ≡ Ok (from_las later) → las_file_of las ≡ file
-    → run_of (files_with pipeline las) (from_las later) ≡ run_by (las_file_of las) (from_las later) → answer run_p (files_with pipeline las) ≡ run_by file (from_las later)
-run_over pipeline las {later} plan is same = run_is (files_with pipeline las) ∙ ap (λ stages. and_then stages (run_of (files_with pipeline las))) plan
+pub run_over : (pipeline las : List ℕ) {later : List StageSpec} {file : Result LasFile LasFault} → stages_in pipeline ≡ Ok (from_las later) → named none_handed (from_las later) ≡ Ok (from_las later) → las_file_of las ≡ file
+    → run_of none_handed (files_with pipeline las) (from_las later) ≡ run_by (las_file_of las) (from_las later) → answer none_handed run_p (files_with pipeline las) ≡ run_by file (from_las later)
+run_over pipeline las {later} plan names is same = run_is (files_with pipeline las) ∙ ap (λ stages. and_then (and_then stages (named none_handed)) (run_of none_handed (files_with pipeline las))) plan
+    ∙ ap (λ stages. and_then stages (run_of none_handed (files_with pipeline las))) names
     ∙ same ∙ ap (λ r. run_by r (from_las later)) is
 
 -- the run over a file that says this of itself, and holds these points
 abbrev pub plain_run : ReadFile → Las → List StageSpec → Result Run Refusal
 plain_run said las stages = run_by (Ok (record { read = said; las = λ fields. las })) stages
 
-pub run_read : (pipeline las : List ℕ) {later : List StageSpec} {said : ReadFile} {points : Las} → stages_in pipeline ≡ Ok (from_las later) → IsRead las said points
-    → run_of (files_with pipeline las) (from_las later) ≡ run_by (las_file_of las) (from_las later)
+pub run_read : (pipeline las : List ℕ) {later : List StageSpec} {said : ReadFile} {points : Las} → stages_in pipeline ≡ Ok (from_las later) → named none_handed (from_las later) ≡ Ok (from_las later) → IsRead las said points
+    → run_of none_handed (files_with pipeline las) (from_las later) ≡ run_by (las_file_of las) (from_las later)
     → ((held : List ExtraField → Las) → run_by (Ok (record { read = said; las = held })) (from_las later) ≡ plain_run said (held []) (from_las later))
-    → answer run_p (files_with pipeline las) ≡ plain_run said points (from_las later)
-run_read pipeline las {later} {said} plan known same plainly = run_over pipeline las plan known.is same ∙ plainly (held_by las) ∙ ap (λ l. plain_run said l (from_las later)) known.plain
+    → answer none_handed run_p (files_with pipeline las) ≡ plain_run said points (from_las later)
+run_read pipeline las {later} {said} plan names known same plainly = run_over pipeline las plan names known.is same ∙ plainly (held_by las) ∙ ap (λ l. plain_run said l (from_las later)) known.plain
 
 -- the run of the example's pipeline
-pub run_whole : (las : List ℕ) {file : Result LasFile LasFault} → las_file_of las ≡ file → answer run_p (files las) ≡ run_by file (from_las (writer_after 0 (codes "o.txt") ∷ []))
+pub run_whole : (las : List ℕ) {file : Result LasFile LasFault} → las_file_of las ≡ file → answer none_handed run_p (files las) ≡ run_by file (from_las (writer_after 0 (codes "o.txt") ∷ []))
 unfolding evaluated
-run_whole las is = run_over _ las chain_is is refl
+run_whole las is = run_over _ las chain_is refl is refl
 
-pub read_whole : (las : List ℕ) {said : ReadFile} {points : Las} → IsRead las said points → answer run_p (files las) ≡ plain_run said points (from_las (writer_after 0 (codes "o.txt") ∷ []))
+pub read_whole : (las : List ℕ) {said : ReadFile} {points : Las} → IsRead las said points → answer none_handed run_p (files las) ≡ plain_run said points (from_las (writer_after 0 (codes "o.txt") ∷ []))
 unfolding evaluated
-read_whole las known = run_read _ las chain_is known refl (λ held. refl)
+read_whole las known = run_read _ las chain_is refl known refl (λ held. refl)
 
 -- a pipeline that is refused
-pub refused : (pipeline : List ℕ) {refusal : Refusal} → stages_in pipeline ≡ Err refusal → answer run_p (files_with pipeline file_a) ≡ Err refusal
-refused pipeline plan = run_is (files_with pipeline file_a) ∙ ap (λ stages. and_then stages (run_of (files_with pipeline file_a))) plan
+pub refused : (pipeline : List ℕ) {refusal : Refusal} → stages_in pipeline ≡ Err refusal → answer none_handed run_p (files_with pipeline file_a) ≡ Err refusal
+refused pipeline plan = run_is (files_with pipeline file_a) ∙ ap (λ stages. and_then (and_then stages (named none_handed)) (run_of none_handed (files_with pipeline file_a))) plan
 
-pub one_passes : answer run_p (files_with head_of_1 file_a) ≡ Ok first_point
+pub one_passes : answer none_handed run_p (files_with head_of_1 file_a) ≡ Ok first_point
 unfolding digits text_form evaluated
-one_passes = run_read _ _ one_is two_read refl (λ held. refl)
+one_passes = run_read _ _ one_is refl two_read refl (λ held. refl)
 
-pub no_point_passes : answer run_p (files_with head_of_0 file_a) ≡ Ok none_pass
+pub no_point_passes : answer none_handed run_p (files_with head_of_0 file_a) ≡ Ok none_pass
 unfolding digits text_form evaluated
-no_point_passes = run_read _ _ zero_is two_read refl (λ held. refl)
+no_point_passes = run_read _ _ zero_is refl two_read refl (λ held. refl)
 
-pub tagged_passes : answer run_p (files_with tagged_head file_a) ≡ Ok first_point
+pub tagged_passes : answer none_handed run_p (files_with tagged_head file_a) ≡ Ok first_point
 unfolding digits text_form evaluated
-tagged_passes = run_read _ _ tagged_is two_read refl (λ held. refl)
+tagged_passes = run_read _ _ tagged_is refl two_read refl (λ held. refl)
 
-pub reader_reads : answer run_p (files_with reader_alone file_a) ≡ Ok only_read
+pub reader_reads : answer none_handed run_p (files_with reader_alone file_a) ≡ Ok only_read
 unfolding digits text_form evaluated
-reader_reads = run_read _ _ reader_is two_read refl (λ held. refl)
+reader_reads = run_read _ _ reader_is refl two_read refl (λ held. refl)
 
-pub both_write : answer run_p (files_with writer_between file_a) ≡ Ok all_and_first
+pub both_write : answer none_handed run_p (files_with writer_between file_a) ≡ Ok all_and_first
 unfolding digits text_form evaluated
-both_write = run_read _ _ between_is two_read refl (λ held. refl)
+both_write = run_read _ _ between_is refl two_read refl (λ held. refl)
 
 -- the pipeline's file is there, and its LAS file isn't
-pub absent_las : answer run_p pipeline_alone ≡ Err (Device (Stage 0) Open)
-absent_las = run_is pipeline_alone ∙ ap (λ stages. and_then stages (run_of pipeline_alone)) chain_is
+pub absent_las : answer none_handed run_p pipeline_alone ≡ Err (Device (Stage 0) Open)
+absent_las = run_is pipeline_alone ∙ ap (λ stages. and_then (and_then stages (named none_handed)) (run_of none_handed pipeline_alone)) chain_is
 
-pub twice_read : answer run_p (files_with twice file_a) ≡ Ok two_points_twice
+pub twice_read : answer none_handed run_p (files_with twice file_a) ≡ Ok two_points_twice
 unfolding digits text_form evaluated
-twice_read = run_read _ _ twice_is two_read refl (λ held. refl)
+twice_read = run_read _ _ twice_is refl two_read refl (λ held. refl)
 
 -- the first file can be read, and the second isn't there
-pub second_unread : answer run_p (files_with second_absent file_a) ≡ Err (Device (Stage 1) Open)
-second_unread = run_is (files_with second_absent file_a) ∙ ap (λ stages. and_then stages (run_of (files_with second_absent file_a))) absent_is
-    ∙ ap (λ r. unless_unread (or_later 0 (why (las_read 0 r)) (Some (1, Device (Stage 1) Open))) (runs.run_over (joining (codes "b.las")) (opened_in (files_with second_absent file_a) (joining (codes "b.las"))))) two_read.is
+pub second_unread : answer none_handed run_p (files_with second_absent file_a) ≡ Err (Device (Stage 1) Open)
+second_unread = run_is (files_with second_absent file_a) ∙ ap (λ stages. and_then (and_then stages (named none_handed)) (run_of none_handed (files_with second_absent file_a))) absent_is
+    ∙ ap (λ r. unless_unread (or_later 0 (why (las_read 0 r)) (Some (1, Device (Stage 1) Open))) (runs.run_over (joining (codes "b.las")) (opened_in none_handed (files_with second_absent file_a) (joining (codes "b.las"))))) two_read.is
 
 -- ---- the other commands
 
@@ -335,15 +337,15 @@ plan_is : plan_text (plan_of (from_las (writer_after 0 (codes "o.txt") ∷ [])))
 unfolding end_of digits
 plan_is = refl
 
-pub chain_planned : answer (codes "plan" ∷ codes "p.json" ∷ []) (files file_a) ≡ Ok (printed (codes "run 0 1\nsteps 1\n"))
-chain_planned = ap (λ task. and_then task (done (files file_a))) plan_asked ∙ ap (λ stages. and_then stages (λ ss. Ok (printed (plan_text (plan_of ss))))) chain_is ∙ ap (λ text. Ok (printed text)) plan_is
+pub chain_planned : answer none_handed (codes "plan" ∷ codes "p.json" ∷ []) (files file_a) ≡ Ok (printed (codes "run 0 1\nsteps 1\n"))
+chain_planned = ap (λ task. and_then task (done none_handed (files file_a))) plan_asked ∙ ap (λ stages. and_then stages (λ ss. Ok (printed (plan_text (plan_of ss))))) chain_is ∙ ap (λ text. Ok (printed text)) plan_is
 
 gen_asked : task_of (codes "gen" ∷ codes "1" ∷ codes "g.las" ∷ []) ≡ Ok (Make_file 1 (codes "g.las"))
 unfolding command_of
 gen_asked = refl
 
-pub one_made : (m : Names) → answer (codes "gen" ∷ codes "1" ∷ codes "g.las" ∷ []) m ≡ Ok (made 1 (codes "g.las"))
-one_made m = ap (λ task. and_then task (done m)) gen_asked
+pub one_made : (m : Names) → answer none_handed (codes "gen" ∷ codes "1" ∷ codes "g.las" ∷ []) m ≡ Ok (made 1 (codes "g.las"))
+one_made m = ap (λ task. and_then task (done none_handed m)) gen_asked
 
 pub trial_typed : IsOk (stages_in trial_text)
 unfolding trial_text ranges_of ranges_in decimal_of_text is_utf8 chars encode value punctuate lex content word after_number number_of scan_numeral kind_named

@@ -1,5 +1,6 @@
 use Rattle.std.proofs.Common.{◌≡◌, ◌+◌, refl, ap, ◌∙◌, arith}
 use Rattle.stage_kinds.specs.Held.{op_of}
+use Rattle.held_devices.proofs.Handing.{filter-back, filters-done, tallies-done, tally-back}
 use Rattle.held_devices.specs.Holding.{there, all_held}
 use Rattle.held_devices.proofs.Sums.{sum-pop, none-there}
 use Rattle.stage_kinds.specs.Leads.{reached_of}
@@ -12,6 +13,8 @@ loop-work-init g c = record {
   lent = λ others e. e;
   later = omega arith;
   read = λ x e. (x, e, refl);
+  filters = λ used before are. are;
+  tallies = λ used before are. are;
   released = none-released g.F.In.Source.faults g.F.Out.Sink.faults c.args.works.items (g.F.Files.faults c.args.files.now) (g.F.Files.faults c.args.files.now);
 }
 
@@ -26,6 +29,10 @@ loop-work-preserved g c =
       later = (let a = now.later in let b = done.later in omega (arith, a, b));
       read = λ x e. read-one (g.F.Files.read_to c.args.files.now) (g.F.Files.read_to c.loop-work.files) (g.F.Files.read_to c.release_work.new.files) (reached_of g.F.In.Source.reached) c.args.works.items
           c.loop-work.works.items c.pop.new.self.items c.in-Some.work c.in-Some.ensures.items now.read done.read x e;
+      filters = λ used before are. filter-back c.loop-work.works.items c.pop.new.self.items c.in-Some.work c.in-Some.ensures.items used g.P.PlugFilter before c.loop-work.places.filters.items
+          c.release_work.new.places.filters.items done.filters (now.filters used before are);
+      tallies = λ used before are. tally-back c.loop-work.works.items c.pop.new.self.items c.in-Some.work c.in-Some.ensures.items used g.Q.PlugTally before c.loop-work.places.tallies.items
+          c.release_work.new.places.tallies.items done.tallies (now.tallies used before are);
       released = one-released g.F.In.Source.faults g.F.Out.Sink.faults c.args.works.items (g.F.Files.faults c.args.files.now) c.loop-work.works.items c.pop.new.self.items c.in-Some.work
           (g.F.Files.faults c.loop-work.files) (g.F.Files.faults c.release_work.new.files) c.in-Some.ensures.items now.later done.later done.counted now.released;
     }
@@ -44,3 +51,13 @@ returns-clause-counted g c = all-released g.F.In.Source.faults g.F.Out.Sink.faul
 pub returns-clause-read : goal.returns-clause-read
 returns-clause-read g c = read-all (g.F.Files.read_to c.args.files.now) (g.F.Files.read_to c.loop-work.files) (reached_of g.F.In.Source.reached) c.args.works.items c.loop-work.works.items
     (none-there c.loop-work.works.items (let z = c.in_default.ensures.cases.0 in let k = c.loop-work.works.ok in omega (arith, z, k))) c.loop-work.invariant.read
+
+pub returns-clause-filters : goal.returns-clause-filters
+returns-clause-filters g c = λ used before are. filters-done c.args.works.items c.loop-work.works.items
+    (none-there c.loop-work.works.items (let z = c.in_default.ensures.cases.0 in let k = c.loop-work.works.ok in omega (arith, z, k))) used g.P.PlugFilter
+    c.args.places.now.filters.items c.loop-work.places.filters.items before c.loop-work.invariant.filters are
+
+pub returns-clause-tallies : goal.returns-clause-tallies
+returns-clause-tallies g c = λ used before are. tallies-done c.args.works.items c.loop-work.works.items
+    (none-there c.loop-work.works.items (let z = c.in_default.ensures.cases.0 in let k = c.loop-work.works.ok in omega (arith, z, k))) used g.Q.PlugTally
+    c.args.places.now.tallies.items c.loop-work.places.tallies.items before c.loop-work.invariant.tallies are

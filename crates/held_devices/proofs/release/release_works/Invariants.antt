@@ -1,6 +1,7 @@
 use Rattle.std.proofs.Common.{◌≡◌, ◌≤◌, ◌+◌, ℕ, Some, vec_len}
 use Rattle.std.specs.Prelude.{sum_by}
 use Rattle.stage_kinds.specs.Leads.{reached_of}
+use Rattle.held_devices.proofs.Handing.{StillFilters, StillTallies}
 use Rattle.held_devices.specs.Holding.{all_held}
 use Rattle.held_devices.proofs.Releasing.{Released}
 use Rattle.held_devices.proofs.release.release_works.Given as goal
@@ -14,6 +15,8 @@ invariant-loop-work g l =
       later : files.faults l.fn.files ≤ files.faults l.files;
       read : (x : ℕ) → files.read_to l.files ≡ Some x
           → (y : ℕ) × (files.read_to l.fn.files ≡ Some y) × (x + sum_by (reached_of g.F.In.Source.reached) l.works.items ≡ y + sum_by (reached_of g.F.In.Source.reached) l.fn.works.items);
+      filters : StillFilters g.P.PlugFilter l.fn.works.items l.fn.places.filters.items l.works.items l.places.filters.items;
+      tallies : StillTallies g.Q.PlugTally l.fn.works.items l.fn.places.tallies.items l.works.items l.places.tallies.items;
       released : Released g.F.In.Source.faults g.F.Out.Sink.faults l.fn.works.items l.works.items (files.faults l.fn.files) (files.faults l.files);
     }
 

@@ -5,6 +5,7 @@ use Rattle.lasline_top.specs.Tasks.{engine_view}
 use Rattle.lasline_top.specs.Words.{stop_in}
 use Rattle.lasline_top.proofs.Ran.{if-stopped, ends-so}
 use Rattle.lasline_top.proofs.Reading.{text-ahead}
+use Rattle.plug_stages.specs.Handed.{handed_by}
 use Rattle.lasline_top.proofs.running.run_text.Goals as goal
 
 pub returns-clause-err : goal.returns-clause-err
@@ -13,13 +14,13 @@ returns-clause-err g c =
     let stop = g.T.Scheduler.stop c.args.scheduler.now in
     let rose = Rose (files.faults c.args.files.now) (files.faults c.run_pipeline.new.files) in
     let stages = c.as_slice.result.now in
-    if-stopped (stop_in (engine_view stop c.args.engine)) rose (files.map c.args.files.now) (files.map c.run_pipeline.new.files) c.args.text.now stages
+    if-stopped (handed_by g.P.PlugFilter g.Q.PlugTally c.args.places.now) (stop_in (engine_view stop c.args.engine)) rose (files.map c.args.files.now) (files.map c.run_pipeline.new.files) c.args.text.now stages
     (c.in_ok-tree.ensures.ok ∙ ap (λ tree. Ok tree) (sym c.as_slice.ensures.stages)) c.run_pipeline.result
-    (subst (λ ends. IfErr c.run_pipeline.result (IsCauseBy ends rose (files.map c.args.files.now) stages)) (ends-so c.args.engine stop) c.run_pipeline.ensures.err)
+    (subst (λ ends. IfErr c.run_pipeline.result (IsCauseBy ends rose (handed_by g.P.PlugFilter g.Q.PlugTally c.args.places.now) (files.map c.args.files.now) stages)) (ends-so c.args.engine stop) c.run_pipeline.ensures.err)
     c.run_pipeline.ensures.left
 
 pub returns-clause-ahead : goal.returns-clause-ahead
 returns-clause-ahead g c =
     let files = g.F.Files in
     text-ahead c.args.engine (g.T.Scheduler.stop c.args.scheduler.now) (files.map c.args.files.now) c.args.text.now c.as_slice.result.now (files.read_to c.args.files.now) (files.read_to c.run_pipeline.new.files) c.run_pipeline.result
-    (c.in_ok-tree.ensures.ok ∙ ap (λ tree. Ok tree) (sym c.as_slice.ensures.stages)) c.run_pipeline.ensures.ahead
+    (c.in_ok-tree.ensures.read ∙ ap (λ tree. Ok tree) (sym c.as_slice.ensures.stages)) c.run_pipeline.ensures.ahead

@@ -6,6 +6,7 @@ use Rattle.run_report.proofs.Lines.{OnOk-more}
 use Rattle.lasline_top.specs.Tasks.{engine_view}
 use Rattle.lasline_top.proofs.Printed.{if-unprinted}
 use Rattle.lasline_top.proofs.Tried.{trial-stopped, trial-ran, trial-done, trial-unprinted, line-part, report-part}
+use Rattle.plug_stages.specs.Handed.{handed_by}
 use Rattle.lasline_top.proofs.running.run_trial.Goals as goal
 
 pub returns-in_err-report-clause-err : goal.returns-in_err-report-clause-err
@@ -13,7 +14,7 @@ returns-in_err-report-clause-err g c =
     let files = g.F.Files in
     let put-in = subst (λ name. IsPut (files.map c.args.files.now) name (generated_file c.args.count.points) (files.map c.make.new.files)) c.trial_name.ensures c.in_ok-make.ensures.ok in
     let refused : c.from_residual-in_err-report.result ≡ Err c.in_err-report.field-0.0 = search rules in
-    rw refused (trial-stopped c.args.count.points (engine_view (g.T.Scheduler.stop c.args.scheduler.now) c.args.engine) _ _ _ c.as_bytes.result.now (files.map c.args.files.now) (files.map c.make.new.files) (files.map c.run_text.new.files) _ _ c.in_err-report.field-0.0 refl put-in
+    rw refused (trial-stopped (handed_by g.P.PlugFilter g.Q.PlugTally c.args.places.now) c.args.count.points (engine_view (g.T.Scheduler.stop c.args.scheduler.now) c.args.engine) _ _ _ c.as_bytes.result.now (files.map c.args.files.now) (files.map c.make.new.files) (files.map c.run_text.new.files) _ _ c.in_err-report.field-0.0 refl put-in
     (c.as_bytes.ensures.value ∙ c.trial_text.ensures)
     (rose-within (files.faults c.args.files.now) (files.faults c.make.new.files) (files.faults c.run_text.new.files) (files.faults c.run_text.new.files) c.in_ok-make.ensures.later (omega arith))
     c.in_err-report.ensures.untold c.in_err-report.ensures.err)
@@ -23,8 +24,8 @@ returns-in_err-print_text-clause-err g c =
     let files = g.F.Files in
     let put-in = subst (λ name. IsPut (files.map c.args.files.now) name (generated_file c.args.count.points) (files.map c.make.new.files)) c.trial_name.ensures c.in_ok-make.ensures.ok in
     let refused : c.from_residual-in_err-print_text.result ≡ Err c.in_err-print_text.field-0.0 = search rules in
-    rw refused (trial-unprinted c.args.count.points (engine_view (g.T.Scheduler.stop c.args.scheduler.now) c.args.engine) _ _ (files.map c.args.files.now) (files.map c.run_text.new.files) c.in_ok-report.report.items _ _ c.in_err-print_text.field-0.0 c.in_err-print_text.ensures.err c.in_err-print_text.ensures.rose
-    (trial-ran c.args.count.points c.as_bytes.result.now c.in_ok-report.report.items (files.map c.args.files.now) (files.map c.make.new.files) (files.map c.run_text.new.files) put-in (c.as_bytes.ensures.value ∙ c.trial_text.ensures) c.in_ok-report.ensures.untold c.in_ok-report.ensures.ok)
+    rw refused (trial-unprinted (handed_by g.P.PlugFilter g.Q.PlugTally c.args.places.now) c.args.count.points (engine_view (g.T.Scheduler.stop c.args.scheduler.now) c.args.engine) _ _ (files.map c.args.files.now) (files.map c.run_text.new.files) c.in_ok-report.report.items _ _ c.in_err-print_text.field-0.0 c.in_err-print_text.ensures.err c.in_err-print_text.ensures.rose
+    (trial-ran (handed_by g.P.PlugFilter g.Q.PlugTally c.args.places.now) c.args.count.points c.as_bytes.result.now c.in_ok-report.report.items (files.map c.args.files.now) (files.map c.make.new.files) (files.map c.run_text.new.files) put-in (c.as_bytes.ensures.value ∙ c.trial_text.ensures) c.in_ok-report.ensures.untold c.in_ok-report.ensures.ok)
     (line-part c.args.count.points c.in_ok-report.report.items _ _
     (subst (λ text. AppendsPart (g.K.Sink.bytes c.args.out.now) text (g.K.Sink.bytes c.print_text.new.out)) (c.as_str.ensures.value ∙ c.in-Ok.ensures) c.in_err-print_text.ensures.part)))
 
@@ -34,8 +35,8 @@ returns-clause-ok g c =
     let put-in = subst (λ name. IsPut (files.map c.args.files.now) name (generated_file c.args.count.points) (files.map c.make.new.files)) c.trial_name.ensures c.in_ok-make.ensures.ok in
     let line = subst (λ text. Appends (g.K.Sink.bytes c.args.out.now) text (g.K.Sink.bytes c.print_text.new.out)) (c.as_str.ensures.value ∙ c.in-Ok.ensures) c.in_ok-print_text.ensures.ok in
     OnOk-more c.print_report.result _ _ (λ report.
-    trial-done c.args.count.points (engine_view (g.T.Scheduler.stop c.args.scheduler.now) c.args.engine) (files.map c.args.files.now) (files.map c.run_text.new.files) c.in_ok-report.report.items c.as_slice.result.now _ _ _ c.as_slice.ensures.value
-    (trial-ran c.args.count.points c.as_bytes.result.now c.in_ok-report.report.items (files.map c.args.files.now) (files.map c.make.new.files) (files.map c.run_text.new.files) put-in (c.as_bytes.ensures.value ∙ c.trial_text.ensures) c.in_ok-report.ensures.untold c.in_ok-report.ensures.ok)
+    trial-done (handed_by g.P.PlugFilter g.Q.PlugTally c.args.places.now) c.args.count.points (engine_view (g.T.Scheduler.stop c.args.scheduler.now) c.args.engine) (files.map c.args.files.now) (files.map c.run_text.new.files) c.in_ok-report.report.items c.as_slice.result.now _ _ _ c.as_slice.ensures.value
+    (trial-ran (handed_by g.P.PlugFilter g.Q.PlugTally c.args.places.now) c.args.count.points c.as_bytes.result.now c.in_ok-report.report.items (files.map c.args.files.now) (files.map c.make.new.files) (files.map c.run_text.new.files) put-in (c.as_bytes.ensures.value ∙ c.trial_text.ensures) c.in_ok-report.ensures.untold c.in_ok-report.ensures.ok)
     line report) c.print_report.ensures.ok
 
 pub returns-clause-err : goal.returns-clause-err
@@ -45,7 +46,7 @@ returns-clause-err g c =
     let line = subst (λ text. Appends (g.K.Sink.bytes c.args.out.now) text (g.K.Sink.bytes c.print_text.new.out)) (c.as_str.ensures.value ∙ c.in-Ok.ensures) c.in_ok-print_text.ensures.ok in
     let low = c.in_ok-print_text.ensures.later in
     if-unprinted c.print_report.result _ _ _ c.print_report.ensures.err c.print_report.ensures.part c.print_report.ensures.rose (λ r is part rose.
-    trial-unprinted c.args.count.points (engine_view (g.T.Scheduler.stop c.args.scheduler.now) c.args.engine) _ _ (files.map c.args.files.now) (files.map c.run_text.new.files) c.in_ok-report.report.items _ _ r is
+    trial-unprinted (handed_by g.P.PlugFilter g.Q.PlugTally c.args.places.now) c.args.count.points (engine_view (g.T.Scheduler.stop c.args.scheduler.now) c.args.engine) _ _ (files.map c.args.files.now) (files.map c.run_text.new.files) c.in_ok-report.report.items _ _ r is
     (rose-within (g.K.Sink.faults c.args.out.now) (g.K.Sink.faults c.print_text.new.out) (g.K.Sink.faults c.print_report.new.out) (g.K.Sink.faults c.print_report.new.out) low (omega arith) rose)
-    (trial-ran c.args.count.points c.as_bytes.result.now c.in_ok-report.report.items (files.map c.args.files.now) (files.map c.make.new.files) (files.map c.run_text.new.files) put-in (c.as_bytes.ensures.value ∙ c.trial_text.ensures) c.in_ok-report.ensures.untold c.in_ok-report.ensures.ok)
+    (trial-ran (handed_by g.P.PlugFilter g.Q.PlugTally c.args.places.now) c.args.count.points c.as_bytes.result.now c.in_ok-report.report.items (files.map c.args.files.now) (files.map c.make.new.files) (files.map c.run_text.new.files) put-in (c.as_bytes.ensures.value ∙ c.trial_text.ensures) c.in_ok-report.ensures.untold c.in_ok-report.ensures.ok)
     (report-part c.args.count.points c.in_ok-report.report.items c.as_slice.result.now _ _ _ c.as_slice.ensures.value line part))

@@ -1,16 +1,19 @@
 use Rattle.std.proofs.Common.{Err, refl, ap}
 use Rattle.lasline_top.proofs.Called.{done_answered, refused_answered}
+use Rattle.plug_stages.specs.Handed.{handed_by}
 use Rattle.lasline_top.proofs.solo.do_command.Goals as goal
 
 pub returns-in-Ok : goal.returns-in-Ok
 returns-in-Ok g c = record {
-  answered = done_answered _ _ _ c.in-Ok.ensures.lent c.in-Ok.ensures.later c.in-Ok.ensures.opened
+  answered = done_answered (handed_by g.P.PlugFilter g.Q.PlugTally c.args.places.now) _ _ _ c.in-Ok.ensures.lent c.in-Ok.ensures.later c.in-Ok.ensures.opened
       c.in-Ok.ensures.ok c.in-Ok.ensures.page (λ r e. let wrong = c.in-Ok.ensures.words_first r e in cc) refl;
+  back = c.in-Ok.ensures.back;
 }
 
 pub returns-in-Err : goal.returns-in-Err
 returns-in-Err g c = record {
-  answered = refused_answered _ _ _ c.in-Err.ensures.lent c.in-Err.ensures.later c.in-Err.ensures.opened
+  answered = refused_answered (handed_by g.P.PlugFilter g.Q.PlugTally c.args.places.now) _ _ _ c.in-Err.ensures.lent c.in-Err.ensures.later c.in-Err.ensures.opened
       c.in-Err.refusal c.refused.result c.refused.ensures.status c.in-Err.ensures.err c.in-Err.ensures.page_part
       (λ r e. let is = c.in-Err.ensures.words_first r e in cc) (λ k e. c.in-Err.ensures.of_words k (ap (λ r. Err r) e)) c.refused.ensures.line c.in-Err.ensures.ahead;
+  back = c.in-Err.ensures.back;
 }

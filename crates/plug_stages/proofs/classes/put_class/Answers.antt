@@ -1,6 +1,6 @@
-use Rattle.std.proofs.Common.{◌≡◌, ◌<◌, ◌++◌, length, refl, ap, ◌∙◌, arith}
+use Rattle.std.proofs.Common.{◌<◌, ◌++◌, refl, ap, ◌∙◌, arith}
 use Rattle.std.specs.Prelude.{codes}
-use Rattle.plug_stages.specs.Classes.{class_text, spaced}
+use Rattle.plug_stages.specs.Classes.{class_text}
 use Rattle.plug_stages.specs.Printing.{are_printable}
 use Rattle.plug_stages.proofs.Coming.{told_first, told_next}
 use Rattle.plug_stages.proofs.Printable.{printable_behind}

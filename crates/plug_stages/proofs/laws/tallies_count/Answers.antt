@@ -3,6 +3,7 @@ use Rattle.stage_meanings.proofs.StepsCut.{steps_keep}
 use Rattle.plug_stages.specs.Keeps.{named_keeps}
 use Rattle.plug_stages.specs.TallySteps.{tally_steps}
 use Rattle.plug_stages.proofs.TallyStreams.{tally_gives, tally_faults, tally_remembers}
+use Rattle.plug_stages.proofs.Told.{same_behind}
 use Rattle.plug_stages.proofs.laws.tallies_count.Goals as goal
 
 pub returns-clause-cuts : goal.returns-clause-cuts
@@ -16,3 +17,6 @@ returns-clause-faults c nature step only s f = tally_faults nature step only s f
 
 pub returns-clause-remembers : goal.returns-clause-remembers
 returns-clause-remembers c nature step only s f e = tally_remembers nature step only s f e
+
+pub returns-clause-same : goal.returns-clause-same
+returns-clause-same c step s points = same_behind step s points

@@ -15,12 +15,12 @@ loop-i-preserved g c =
     let bytes = g.K.Sink.bytes in
     let faults = faults_of g.S.Source.faults g.K.Sink.faults in
     record {
-      later = later-more bytes faults c.args.works.items c.loop-i.works.items c.loop-i.i v c.finish.new.self now.later here c.finish.ensures.op c.finish.ensures.cause.later;
-      kept = kept-more bytes faults c.args.works.items c.loop-i.works.items c.loop-i.i v c.finish.new.self now.later here c.finish.ensures.op c.finish.ensures.cause.later c.finish.ensures.keeps now.kept;
-      finished = finished-more bytes faults c.args.works.items c.loop-i.works.items c.loop-i.i v c.finish.new.self now.later here c.finish.ensures.op c.finish.ensures.cause.later
+      later = later-more g.P.PlugFilter g.Q.PlugTally faults c.args.works.items c.loop-i.works.items c.loop-i.i v c.finish.new.self now.later here c.finish.ensures.op c.finish.ensures.cause.later c.finish.ensures.handed;
+      kept = kept-more g.P.PlugFilter g.Q.PlugTally faults c.args.works.items c.loop-i.works.items c.loop-i.i v c.finish.new.self now.later here c.finish.ensures.op c.finish.ensures.cause.later c.finish.ensures.handed c.finish.ensures.keeps now.kept;
+      finished = finished-more g.P.PlugFilter g.Q.PlugTally faults c.args.works.items c.loop-i.works.items c.loop-i.i v c.finish.new.self now.later here c.finish.ensures.op c.finish.ensures.cause.later c.finish.ensures.handed
           (IsFinished bytes) 0 now.finished (λ a e. subst (λ x. IsFinished bytes x c.finish.new.self) (same_Some v a (sym was ∙ e))
           (λ form ps h. c.in-Ok.ensures.file form ps h.is h.holds h.nowhere));
-      left = left-more bytes faults c.args.works.items c.loop-i.works.items c.loop-i.i v c.finish.new.self now.later here c.finish.ensures.op c.finish.ensures.cause.later
+      left = left-more g.P.PlugFilter g.Q.PlugTally faults c.args.works.items c.loop-i.works.items c.loop-i.i v c.finish.new.self now.later here c.finish.ensures.op c.finish.ensures.cause.later c.finish.ensures.handed
           (c.loop-i.i + 1) (omega arith) now.left;
     }
 
@@ -29,14 +29,14 @@ returns-in-Err-clause-later g c =
     let now = c.loop-i.invariant in
     let lt : c.loop-i.i < length c.loop-i.works.items = (let a = c.len-i-end.ensures in let b = now.later.count in omega (arith, a, b)) in
     let here = slice_get_read c.loop-i.works.items (length c.loop-i.works.items) c.loop-i.i c.index_mut.result.now refl lt c.index_mut.ensures.value in
-    later-more g.K.Sink.bytes (faults_of g.S.Source.faults g.K.Sink.faults) c.args.works.items c.loop-i.works.items c.loop-i.i c.index_mut.result.now c.finish.new.self now.later here c.finish.ensures.op c.finish.ensures.cause.later
+    later-more g.P.PlugFilter g.Q.PlugTally (faults_of g.S.Source.faults g.K.Sink.faults) c.args.works.items c.loop-i.works.items c.loop-i.i c.index_mut.result.now c.finish.new.self now.later here c.finish.ensures.op c.finish.ensures.cause.later c.finish.ensures.handed
 
 pub returns-in-Err-clause-kept : goal.returns-in-Err-clause-kept
 returns-in-Err-clause-kept g c =
     let now = c.loop-i.invariant in
     let lt : c.loop-i.i < length c.loop-i.works.items = (let a = c.len-i-end.ensures in let b = now.later.count in omega (arith, a, b)) in
     let here = slice_get_read c.loop-i.works.items (length c.loop-i.works.items) c.loop-i.i c.index_mut.result.now refl lt c.index_mut.ensures.value in
-    kept-more g.K.Sink.bytes (faults_of g.S.Source.faults g.K.Sink.faults) c.args.works.items c.loop-i.works.items c.loop-i.i c.index_mut.result.now c.finish.new.self now.later here c.finish.ensures.op c.finish.ensures.cause.later
+    kept-more g.P.PlugFilter g.Q.PlugTally (faults_of g.S.Source.faults g.K.Sink.faults) c.args.works.items c.loop-i.works.items c.loop-i.i c.index_mut.result.now c.finish.new.self now.later here c.finish.ensures.op c.finish.ensures.cause.later c.finish.ensures.handed
     c.finish.ensures.keeps now.kept
 
 pub returns-in-Err-clause-err : goal.returns-in-Err-clause-err
@@ -46,7 +46,7 @@ returns-in-Err-clause-err g c =
     let v = c.index_mut.result.now in
     let here = slice_get_read c.loop-i.works.items (length c.loop-i.works.items) c.loop-i.i v refl lt c.index_mut.ensures.value in
     let was = sym (now.left c.loop-i.i (omega arith)) ∙ here in
-    unfinished-here g.K.Sink.bytes (faults_of g.S.Source.faults g.K.Sink.faults) c.args.works.items c.loop-i.works.items c.loop-i.i v c.finish.new.self now.later here c.finish.ensures.op c.finish.ensures.cause.later
+    unfinished-here g.P.PlugFilter g.Q.PlugTally (faults_of g.S.Source.faults g.K.Sink.faults) c.args.works.items c.loop-i.works.items c.loop-i.i v c.finish.new.self now.later here c.finish.ensures.op c.finish.ensures.cause.later c.finish.ensures.handed
     c.in-Err.op was c.in-Err.ensures.named c.in-Err.ensures.cause.failed
 
 pub returns-clause-finished : goal.returns-clause-finished

@@ -9,7 +9,9 @@ use Rattle.run_ending.specs.Keeping.{kept_first}
 use Rattle.held_devices.proofs.Lists.{popped, one_less, none_left}
 use Rattle.held_devices.proofs.Sums.{sum-pop, sum-reverse, none-there}
 use Rattle.run_outcome.proofs.Stages.{role-is}
+use Rattle.held_devices.proofs.Handing.{filter-back, filters-done, tallies-done, tally-back}
 use Rattle.run_ending.proofs.Keeping.{kept-next, broke-off}
+use Rattle.run_ending.proofs.Placed.{filters-turned, tallies-turned}
 use Rattle.run_ending.proofs.keep.keep_works.Goals as goal
 
 pub loop-work-init : goal.loop-work-init
@@ -19,6 +21,8 @@ loop-work-init g c = record {
   kept = refl;
   lent = λ others e. (let a = ap all_held c.reverse.ensures.items ∙ sum-reverse (λ w. there (op_of w)) c.args.works.items in omega (arith, a, e));
   later = omega arith;
+  filters = λ used before are. filters-turned c.args.works.items c.reverse.new.self.items c.reverse.ensures.items used g.P.PlugFilter before c.args.places.now.filters.items are;
+  tallies = λ used before are. tallies-turned c.args.works.items c.reverse.new.self.items c.reverse.ensures.items used g.Q.PlugTally before c.args.places.now.tallies.items are;
 }
 
 pub keep_work-requires : goal.keep_work-requires
@@ -63,7 +67,31 @@ loop-work-preserved g c =
           (role_of c.index-stages-at.result.options) (role-is c.args.stages.now c.loop-work.at c.index-stages-at.result at) p.0 now.kept c.in-Ok.ensures.ok;
       lent = λ others e. (let a = now.lent others e in c.keep_work.ensures.lent (others + all_held c.pop.new.self.items) (omega (arith, a, sum)));
       later = (let a = now.later in let b = c.keep_work.ensures.later in omega (arith, a, b));
+      filters = λ used before are. filter-back c.loop-work.works.items c.pop.new.self.items c.in-Some.work c.in-Some.ensures.items used g.P.PlugFilter before c.loop-work.places.filters.items
+          c.keep_work.new.places.filters.items c.keep_work.ensures.filters (now.filters used before are);
+      tallies = λ used before are. tally-back c.loop-work.works.items c.pop.new.self.items c.in-Some.work c.in-Some.ensures.items used g.Q.PlugTally before c.loop-work.places.tallies.items
+          c.keep_work.new.places.tallies.items c.keep_work.ensures.tallies (now.tallies used before are);
     }
+
+pub returns-in-Err-clause-filters : goal.returns-in-Err-clause-filters
+returns-in-Err-clause-filters g c = λ used before are. c.release_works.ensures.filters used before
+    (filter-back c.loop-work.works.items c.pop.new.self.items c.in-Some.work c.in-Some.ensures.items used g.P.PlugFilter before c.loop-work.places.filters.items
+    c.keep_work.new.places.filters.items c.keep_work.ensures.filters (c.loop-work.invariant.filters used before are))
+
+pub returns-in-Err-clause-tallies : goal.returns-in-Err-clause-tallies
+returns-in-Err-clause-tallies g c = λ used before are. c.release_works.ensures.tallies used before
+    (tally-back c.loop-work.works.items c.pop.new.self.items c.in-Some.work c.in-Some.ensures.items used g.Q.PlugTally before c.loop-work.places.tallies.items
+    c.keep_work.new.places.tallies.items c.keep_work.ensures.tallies (c.loop-work.invariant.tallies used before are))
+
+pub returns-clause-filters : goal.returns-clause-filters
+returns-clause-filters g c = λ used before are. filters-done c.args.works.items c.loop-work.works.items
+    (none-there c.loop-work.works.items (let z = c.in_default.ensures.cases.0 in let k = c.loop-work.works.ok in omega (arith, z, k))) used g.P.PlugFilter
+    c.args.places.now.filters.items c.loop-work.places.filters.items before c.loop-work.invariant.filters are
+
+pub returns-clause-tallies : goal.returns-clause-tallies
+returns-clause-tallies g c = λ used before are. tallies-done c.args.works.items c.loop-work.works.items
+    (none-there c.loop-work.works.items (let z = c.in_default.ensures.cases.0 in let k = c.loop-work.works.ok in omega (arith, z, k))) used g.Q.PlugTally
+    c.args.places.now.tallies.items c.loop-work.places.tallies.items before c.loop-work.invariant.tallies are
 
 pub returns-clause-lent : goal.returns-clause-lent
 returns-clause-lent g c = λ others e.

@@ -1,4 +1,5 @@
 use Rattle.std.proofs.Common.{◌≡◌, ◌≤◌, ◌+◌, ℕ, length, drop, reverse, vec_len}
+use Rattle.held_devices.proofs.Handing.{StillFilters, StillTallies}
 use Rattle.held_devices.specs.Holding.{all_held}
 use Rattle.run_ending.specs.Keeping.{kept_first}
 use Rattle.run_ending.proofs.keep.keep_works.Given as goal
@@ -12,6 +13,8 @@ invariant-loop-work g l =
       kept : files.map l.files ≡ kept_first g.F.Out.Sink.bytes l.at (files.map l.fn.files) l.stages l.fn.works.items;
       lent : (others : ℕ) → files.lent l.fn.files ≡ others + all_held l.fn.works.items → files.lent l.files ≡ others + all_held l.works.items;
       later : files.faults l.fn.files ≤ files.faults l.files;
+      filters : StillFilters g.P.PlugFilter l.fn.works.items l.fn.places.filters.items l.works.items l.places.filters.items;
+      tallies : StillTallies g.Q.PlugTally l.fn.works.items l.fn.places.tallies.items l.works.items l.places.tallies.items;
     }
 
 abbrev pub decreases-loop-work : goal.decreases-loop-work

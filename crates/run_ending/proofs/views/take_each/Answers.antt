@@ -23,8 +23,8 @@ loop-i-preserved-in_default g c =
       kept = none-taken old c.loop-i.i v was c.loop-i.each.items now.kept c.take_files.result c.take_files.ensures.kept c.in_default.is;
       inside = now.inside;
       others = others-more old c.loop-i.works.items c.loop-i.i v w was here c.take_files.result c.take_files.ensures.kept c.take_files.ensures.same now.others;
-      later = later-more g.K.Sink.bytes faults old c.loop-i.works.items c.loop-i.i v w now.later here c.take_files.ensures.op (omega (arith, same));
-      left = left-more g.K.Sink.bytes faults old c.loop-i.works.items c.loop-i.i v w now.later here c.take_files.ensures.op (omega (arith, same)) (c.loop-i.i + 1) (omega arith) now.left;
+      later = later-more g.P.PlugFilter g.Q.PlugTally faults old c.loop-i.works.items c.loop-i.i v w now.later here c.take_files.ensures.op (omega (arith, same)) c.take_files.ensures.holds;
+      left = left-more g.P.PlugFilter g.Q.PlugTally faults old c.loop-i.works.items c.loop-i.i v w now.later here c.take_files.ensures.op (omega (arith, same)) c.take_files.ensures.holds (c.loop-i.i + 1) (omega arith) now.left;
     }
 
 pub loop-i-preserved : goal.loop-i-preserved
@@ -45,8 +45,8 @@ loop-i-preserved g c =
           ∙ one-taken old c.loop-i.i v was c.loop-i.each.items now.kept c.take_files.result c.take_files.ensures.kept one refl c.in-Some.is;
       inside = λ k e at. each-push (λ j d. d.stage < length old) c.loop-i.each.items one (length c.loop-i.each.items) refl now.inside (let d = now.later.count in omega (arith, lt, d)) k e (ap (λ es. slice_get es k) (sym pushed) ∙ at);
       others = others-more old c.loop-i.works.items c.loop-i.i v w was here c.take_files.result c.take_files.ensures.kept c.take_files.ensures.same now.others;
-      later = later-more g.K.Sink.bytes faults old c.loop-i.works.items c.loop-i.i v w now.later here c.take_files.ensures.op (omega (arith, same));
-      left = left-more g.K.Sink.bytes faults old c.loop-i.works.items c.loop-i.i v w now.later here c.take_files.ensures.op (omega (arith, same)) (c.loop-i.i + 1) (omega arith) now.left;
+      later = later-more g.P.PlugFilter g.Q.PlugTally faults old c.loop-i.works.items c.loop-i.i v w now.later here c.take_files.ensures.op (omega (arith, same)) c.take_files.ensures.holds;
+      left = left-more g.P.PlugFilter g.Q.PlugTally faults old c.loop-i.works.items c.loop-i.i v w now.later here c.take_files.ensures.op (omega (arith, same)) c.take_files.ensures.holds (c.loop-i.i + 1) (omega arith) now.left;
     }
 
 pub returns-in_err-push-clause-others : goal.returns-in_err-push-clause-others
@@ -63,8 +63,8 @@ returns-in_err-push-clause-later g c =
     let lt : c.loop-i.i < length c.loop-i.works.items = (let a = c.len-i-end.ensures in let b = c.loop-i-test.true in let d = now.later.count in omega (arith, a, b, d)) in
     let here = slice_get_read c.loop-i.works.items (length c.loop-i.works.items) c.loop-i.i c.index_mut.result.now refl lt c.index_mut.ensures.value in
     let same = c.take_files.ensures.faults in
-    later-more g.K.Sink.bytes (faults_of g.S.Source.faults g.K.Sink.faults) c.args.works.now.items c.loop-i.works.items c.loop-i.i c.index_mut.result.now c.take_files.new.work now.later here
-    c.take_files.ensures.op (omega (arith, same))
+    later-more g.P.PlugFilter g.Q.PlugTally (faults_of g.S.Source.faults g.K.Sink.faults) c.args.works.now.items c.loop-i.works.items c.loop-i.i c.index_mut.result.now c.take_files.new.work now.later here
+    c.take_files.ensures.op (omega (arith, same)) c.take_files.ensures.holds
 
 pub returns-clause-kept : goal.returns-clause-kept
 returns-clause-kept g c =

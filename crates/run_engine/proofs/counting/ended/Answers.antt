@@ -1,4 +1,4 @@
-use Rattle.std.proofs.Common.{rules, ◌<◌, ◌∷◌, ◌++◌, [], length, map, take, refl, ap, sym, subst, ◌∙◌, arith}
+use Rattle.std.proofs.Common.{rules, ◌≡◌, ◌<◌, ◌∷◌, ◌++◌, [], length, map, take, refl, ap, sym, subst, ◌∙◌, arith}
 use Rattle.std.proofs.lemmas.List.{length-take-le, map-append, take_all}
 use Rattle.std.proofs.lemmas.Option.{slice_get_read}
 use Rattle.network_core.specs.declared.node.Node.{Node}
@@ -6,6 +6,13 @@ use Rattle.run_engine.specs.Counted.{AreCounted}
 use Rattle.run_engine.proofs.Counted.{counted-more}
 use Rattle.held_devices.proofs.Lists.{length-mapped, take-more}
 use Rattle.run_engine.proofs.counting.ended.Goals as goal
+
+pub loop-i-init : goal.loop-i-init
+loop-i-init g c = record {
+  counted = λ i s n lt at node. absurd (let none : length c.new-report.result.items ≡ 0 = ap length c.new-report.ensures in omega (arith, lt, none));
+  count = search rules;
+  faults = c.new-faults.ensures;
+}
 
 pub loop-i-preserved : goal.loop-i-preserved
 loop-i-preserved g c =
@@ -16,8 +23,8 @@ loop-i-preserved g c =
     let there = slice_get_read nodes (length nodes) i c.index-nodes-i-in-loop-i.result refl lt c.index-nodes-i-in-loop-i.is in
     let of = λ (n : Node _). n.fault in
     record {
-      counted = subst (AreCounted c.args.stages.now nodes) (ap (λ x. c.loop-i.report.items ++ x ∷ []) (sym c.node_count.ensures) ∙ sym c.push.ensures.items)
-          (counted-more c.args.stages.now nodes c.loop-i.report.items i c.index-stages-i.result c.index-nodes-i.result (sym l.count)
+      counted = subst (AreCounted g.Q.PlugTally c.args.stages.now nodes) (ap (λ x. c.loop-i.report.items ++ x ∷ []) (sym c.node_count.ensures) ∙ sym c.push.ensures.items)
+          (counted-more g.Q.PlugTally c.args.stages.now nodes c.loop-i.report.items i c.index-stages-i.result c.index-nodes-i.result (sym l.count)
           (slice_get_read c.args.stages.now (length c.args.stages.now) i c.index-stages-i.result refl (let fit = c.requires.fit in omega (arith, lt, fit)) c.index-stages-i.is)
           (slice_get_read nodes (length nodes) i c.index-nodes-i.result refl lt c.index-nodes-i.is) l.counted);
       count = search rules;

@@ -48,7 +48,7 @@ loop-work-preserved g c =
     let n = one_less c.loop-work.at (vec_len c.loop-work.works) (vec_len c.pop.new.self) (length c.args.works.items) now.count c.in-Some.ensures.cases in
     let pushed = c.push_reserved.ensures.items in
     let size : c.loop-work.at ≡ length c.loop-work.nodes.items = (let a = now.nodes in let k = c.loop-work.nodes.ok in omega (arith, a, k)) in
-    let one : IsNew g.S.Source g.K.Sink c.args.stages.now c.args.chunk c.loop-work.at c.new.result = record {
+    let one : IsNew g.S.Source g.K.Sink g.P.PlugFilter g.Q.PlugTally c.args.stages.now c.args.chunk c.loop-work.at c.new.result = record {
       fresh = c.new.ensures.fresh ((stage_at c.args.stages.now c.loop-work.at).ins) (sym c.inputs_of.ensures);
       chunk_is = ap (λ x. x.chunk) (c.new.ensures.shown []);
     } in
@@ -59,7 +59,7 @@ loop-work-preserved g c =
           ∙ ap (λ w. take c.loop-work.at c.args.works.items ++ w ∷ []) c.new.ensures.work ∙ sym (take-more c.args.works.items c.loop-work.at c.in-Some.work p.0);
       nodes = (let a = c.push_reserved.ensures.len in let b = now.nodes in omega (arith, a, b));
       room = (let a = c.push_reserved.ensures.capacity in let b = now.room in omega (arith, a, b));
-      new = λ i m e. each-push (λ j x. IsNew g.S.Source g.K.Sink c.args.stages.now c.args.chunk j x) c.loop-work.nodes.items c.new.result c.loop-work.at size now.new one i m (ap (λ xs. slice_get xs i) (sym pushed) ∙ e);
+      new = λ i m e. each-push (λ j x. IsNew g.S.Source g.K.Sink g.P.PlugFilter g.Q.PlugTally c.args.stages.now c.args.chunk j x) c.loop-work.nodes.items c.new.result c.loop-work.at size now.new one i m (ap (λ xs. slice_get xs i) (sym pushed) ∙ e);
     }
 
 pub returns-clause-new : goal.returns-clause-new

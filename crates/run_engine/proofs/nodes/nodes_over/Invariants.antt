@@ -11,7 +11,7 @@ invariant-loop-work g l = record {
   moved : map work_of l.nodes.items ≡ take l.at l.fn.works.items;
   nodes : vec_len l.nodes ≡ l.at;
   room : length l.stages ≤ vec_capacity l.nodes;
-  new : AreNew g.S.Source g.K.Sink l.stages l.chunk l.nodes.items;
+  new : AreNew g.S.Source g.K.Sink g.P.PlugFilter g.Q.PlugTally l.stages l.chunk l.nodes.items;
 }
 
 abbrev pub decreases-loop-work : goal.decreases-loop-work

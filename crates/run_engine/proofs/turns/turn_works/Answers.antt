@@ -23,51 +23,55 @@ pub returns-clause-later : goal.returns-clause-later
 returns-clause-later g c =
     let s = g.S.Source in
     let k = g.K.Sink in
+    let fs = g.P.PlugFilter in
+    let ts = g.Q.PlugTally in
     let stages = c.args.stages.now in
     let works = c.args.works.items in
     let made = c.nodes_over-nodes.ensures in
     let old = c.nodes_over-nodes.result.items in
     let new = c.run_stages-ran.new.nodes in
-    let lasted = subst (λ xs. AreLaterNodes s k xs new) c.as_mut_slice.ensures.value c.run_stages-ran.ensures.later in
+    let lasted = subst (λ xs. AreLaterNodes s k fs ts xs new) c.as_mut_slice.ensures.value c.run_stages-ran.ensures.later in
     let back = slice-back old new c.nodes_over-nodes.result.len lasted.count c.nodes_over-nodes.result.ok.0 in
     let is-works = c.works_in-works.ensures ∙ ap (map work_of) back in
-    subst (AreLater (faults_of s.faults k.faults) works) (sym is-works) (later s k stages old new works made.works made.new lasted)
+    subst (AreLater fs ts (faults_of s.faults k.faults) works) (sym is-works) (later s k fs ts stages old new works made.works made.new lasted)
 
 pub returns-clause-ended : goal.returns-clause-ended
 returns-clause-ended g c =
     let s = g.S.Source in
     let k = g.K.Sink in
+    let fs = g.P.PlugFilter in
+    let ts = g.Q.PlugTally in
     let stages = c.args.stages.now in
     let works = c.args.works.items in
     let made = c.nodes_over-nodes.ensures in
     let old = c.nodes_over-nodes.result.items in
     let new = c.run_stages-ran.new.nodes in
-    let lasted = subst (λ xs. AreLaterNodes s k xs new) c.as_mut_slice.ensures.value c.run_stages-ran.ensures.later in
+    let lasted = subst (λ xs. AreLaterNodes s k fs ts xs new) c.as_mut_slice.ensures.value c.run_stages-ran.ensures.later in
     let back = slice-back old new c.nodes_over-nodes.result.len lasted.count c.nodes_over-nodes.result.ok.0 in
     let is-works = c.works_in-works.ensures ∙ ap (map work_of) back in
     let stop = g.T.Scheduler.stop c.args.scheduler.now in
     elim c.match-ran.branch [
       | in-Ok w ↦ (
-          let ran = subst (λ xs. AreRanStages s k stages xs new) c.as_mut_slice.ensures.value w.in-Ok.ensures.ran in
+          let ran = subst (λ xs. AreRanStages s k fs ts stages xs new) c.as_mut_slice.ensures.value w.in-Ok.ensures.ran in
           let nodes = w.deref.ensures.value ∙ back in
           let out = w.ended.ensures in
           let report = w.ended.result in
           ok-same _ c.match-ran.outcome (Ok report) w.outcome-is
-          (subst (λ ws. HaveEndedBy s k stop stages works ws report.faults.items report.report.items) (sym is-works)
-          (ended-by s k stop stages works (map work_of new) report.faults.items report.report.items
-          (have-ended s k stages old new works made.works made.new lasted ran report.faults.items report.report.items
+          (subst (λ ws. HaveEndedBy s k fs ts stop stages works ws report.faults.items report.report.items) (sym is-works)
+          (ended-by s k fs ts stop stages works (map work_of new) report.faults.items report.report.items
+          (have-ended s k fs ts stages old new works made.works made.new lasted ran report.faults.items report.report.items
           (subst (λ (ns : List (Node _)). AreFaultsOf ns report.faults.items) nodes out.faults) out.count
-          (subst (λ (ns : List (Node _)). AreCounted stages ns report.report.items) nodes out.counted)))))
+          (subst (λ (ns : List (Node _)). AreCounted ts stages ns report.report.items) nodes out.counted)))))
       | in-Err w ↦ (
           let nodes = w.deref-in-Err.ensures.value ∙ back in
           let result = w.halted-outcome.result in
           let ensures = w.halted-outcome.ensures in
           ok-same _ c.match-ran.outcome result w.outcome-is
           (three-if-ok result _ _ _ _ ensures.fault ensures.faults ensures.faulty (λ report fault faults faulty.
-          let stopped = subst (λ xs. AreStoppedStages s k stages xs new) c.as_mut_slice.ensures.value (w.in-Err.ensures.stopped (ap Err fault)) in
-          subst (λ ws. HaveEndedBy s k stop stages works ws report.faults.items report.report.items) (sym is-works)
-          (subst (λ end. HaveEndedBy s k end stages works (map work_of new) report.faults.items report.report.items) (sym (w.in-Err.ensures.stops (ap Err fault)))
-          (have-stopped s k stages old new works made.works made.new lasted stopped report.faults.items report.report.items
+          let stopped = subst (λ xs. AreStoppedStages s k fs ts stages xs new) c.as_mut_slice.ensures.value (w.in-Err.ensures.stopped (ap Err fault)) in
+          subst (λ ws. HaveEndedBy s k fs ts stop stages works ws report.faults.items report.report.items) (sym is-works)
+          (subst (λ end. HaveEndedBy s k fs ts end stages works (map work_of new) report.faults.items report.report.items) (sym (w.in-Err.ensures.stops (ap Err fault)))
+          (have-stopped s k fs ts stages old new works made.works made.new lasted stopped report.faults.items report.report.items
           (subst (λ (ns : List (Node _)). AreFaultsOf ns report.faults.items) nodes faults) faulty)))))
     ]
 
@@ -75,10 +79,12 @@ pub ended-requires-clause-fit : goal.ended-requires-clause-fit
 ended-requires-clause-fit g c =
     let s = g.S.Source in
     let k = g.K.Sink in
+    let fs = g.P.PlugFilter in
+    let ts = g.Q.PlugTally in
     let made = c.nodes_over-nodes.ensures in
     let old = c.nodes_over-nodes.result.items in
     let new = c.run_stages-ran.new.nodes in
-    let lasted = subst (λ xs. AreLaterNodes s k xs new) c.as_mut_slice.ensures.value c.run_stages-ran.ensures.later in
+    let lasted = subst (λ xs. AreLaterNodes s k fs ts xs new) c.as_mut_slice.ensures.value c.run_stages-ran.ensures.later in
     let back = slice-back old new c.nodes_over-nodes.result.len lasted.count c.nodes_over-nodes.result.ok.0 in
     ap (λ (ns : List (Node _)). length ns) (c.deref.ensures.value ∙ back) ∙ lasted.count ∙ made.new.count
 
@@ -86,12 +92,14 @@ pub works_in-works-requires-clause-room : goal.works_in-works-requires-clause-ro
 works_in-works-requires-clause-room g c =
     let s = g.S.Source in
     let k = g.K.Sink in
+    let fs = g.P.PlugFilter in
+    let ts = g.Q.PlugTally in
     let stages = c.args.stages.now in
     let works = c.args.works.items in
     let made = c.nodes_over-nodes.ensures in
     let old = c.nodes_over-nodes.result.items in
     let new = c.run_stages-ran.new.nodes in
-    let lasted = subst (λ xs. AreLaterNodes s k xs new) c.as_mut_slice.ensures.value c.run_stages-ran.ensures.later in
+    let lasted = subst (λ xs. AreLaterNodes s k fs ts xs new) c.as_mut_slice.ensures.value c.run_stages-ran.ensures.later in
     let back = slice-back old new c.nodes_over-nodes.result.len lasted.count c.nodes_over-nodes.result.ok.0 in
     let left = ap (λ (ns : List (Node _)). length ns) back in
     let stay = lasted.count in
@@ -103,10 +111,12 @@ pub halted-outcome-requires-clause-fit : goal.halted-outcome-requires-clause-fit
 halted-outcome-requires-clause-fit g c =
     let s = g.S.Source in
     let k = g.K.Sink in
+    let fs = g.P.PlugFilter in
+    let ts = g.Q.PlugTally in
     let made = c.nodes_over-nodes.ensures in
     let old = c.nodes_over-nodes.result.items in
     let new = c.run_stages-ran.new.nodes in
-    let lasted = subst (λ xs. AreLaterNodes s k xs new) c.as_mut_slice.ensures.value c.run_stages-ran.ensures.later in
+    let lasted = subst (λ xs. AreLaterNodes s k fs ts xs new) c.as_mut_slice.ensures.value c.run_stages-ran.ensures.later in
     let back = slice-back old new c.nodes_over-nodes.result.len lasted.count c.nodes_over-nodes.result.ok.0 in
     ap (λ (ns : List (Node _)). length ns) (c.deref-in-Err.ensures.value ∙ back) ∙ lasted.count ∙ made.new.count
 
@@ -114,9 +124,11 @@ pub returns-clause-gathers : goal.returns-clause-gathers
 returns-clause-gathers g c =
     let s = g.S.Source in
     let k = g.K.Sink in
+    let fs = g.P.PlugFilter in
+    let ts = g.Q.PlugTally in
     let old = c.nodes_over-nodes.result.items in
     let new = c.run_stages-ran.new.nodes in
-    let lasted = subst (λ xs. AreLaterNodes s k xs new) c.as_mut_slice.ensures.value c.run_stages-ran.ensures.later in
+    let lasted = subst (λ xs. AreLaterNodes s k fs ts xs new) c.as_mut_slice.ensures.value c.run_stages-ran.ensures.later in
     let back = slice-back old new c.nodes_over-nodes.result.len lasted.count c.nodes_over-nodes.result.ok.0 in
     elim c.match-ran.branch [
       | in-Ok w ↦ subst (λ o. OnErr o (SomeGathers c.args.stages.now)) (sym w.outcome-is) tt
@@ -133,12 +145,14 @@ pub returns-clause-ahead : goal.returns-clause-ahead
 returns-clause-ahead g c =
     let s = g.S.Source in
     let k = g.K.Sink in
+    let fs = g.P.PlugFilter in
+    let ts = g.Q.PlugTally in
     let stages = c.args.stages.now in
     let works = c.args.works.items in
     let made = c.nodes_over-nodes.ensures in
     let old = c.nodes_over-nodes.result.items in
     let new = c.run_stages-ran.new.nodes in
-    let lasted = subst (λ xs. AreLaterNodes s k xs new) c.as_mut_slice.ensures.value c.run_stages-ran.ensures.later in
+    let lasted = subst (λ xs. AreLaterNodes s k fs ts xs new) c.as_mut_slice.ensures.value c.run_stages-ran.ensures.later in
     let back = slice-back old new c.nodes_over-nodes.result.len lasted.count c.nodes_over-nodes.result.ok.0 in
     let is-works = c.works_in-works.ensures ∙ ap (map work_of) back in
     let room = c.requires.room in
@@ -148,16 +162,16 @@ returns-clause-ahead g c =
       | in-Ok w ↦ (
           let report = w.ended.result in
           ok-same _ c.match-ran.outcome (Ok report) w.outcome-is (λ first.
-          none-ahead s k stages queue chunk new works c.works_in-works.result.items report.faults.items (w.in-Ok.ensures.sound first)
+          none-ahead s k fs ts stages queue chunk new works c.works_in-works.result.items report.faults.items (w.in-Ok.ensures.sound first)
           (subst (λ (ns : List (Node _)). AreFaultsOf ns report.faults.items) (w.deref.ensures.value ∙ back) w.ended.ensures.faults)))
       | in-Err w ↦ (
           let result = w.halted-outcome.result in
           let ensures = w.halted-outcome.ensures in
           ok-same _ c.match-ran.outcome result w.outcome-is
           (three-if-ok result _ _ _ _ ensures.fault ensures.faults ensures.faulty (λ report fault faults faulty first.
-          let ahead = subst (λ xs. HaveReadAhead s stages c.args.room.stages.sizes.queue c.args.room.stages.sizes.chunk xs new) c.as_mut_slice.ensures.value (w.in-Err.ensures.ahead (ap Err fault)) in
-          let shaped = subst (λ q. HaveReadAhead s stages q chunk old new) room.queue (subst (λ n. HaveReadAhead s stages c.args.room.stages.sizes.queue n old new) room.chunk ahead) in
-          subst (λ ws. AreReadAhead s stages queue chunk works ws report.faults.items) (sym is-works)
-          (some-ahead s k stages queue chunk old new works report.faults.items shaped (λ j n e. made.chunk j n e ∙ c.chunk.ensures.value) made.works
+          let ahead = subst (λ xs. HaveReadAhead s fs ts stages c.args.room.stages.sizes.queue c.args.room.stages.sizes.chunk xs new) c.as_mut_slice.ensures.value (w.in-Err.ensures.ahead (ap Err fault)) in
+          let shaped = subst (λ q. HaveReadAhead s fs ts stages q chunk old new) room.queue (subst (λ n. HaveReadAhead s fs ts stages c.args.room.stages.sizes.queue n old new) room.chunk ahead) in
+          subst (λ ws. AreReadAhead s fs ts stages queue chunk works ws report.faults.items) (sym is-works)
+          (some-ahead s k fs ts stages queue chunk old new works report.faults.items shaped (λ j n e. made.chunk j n e ∙ c.chunk.ensures.value) made.works
           (subst (λ (ns : List (Node _)). AreFaultsOf ns report.faults.items) (w.deref-in-Err.ensures.value ∙ back) faults)))))
     ]

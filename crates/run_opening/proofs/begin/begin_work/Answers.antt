@@ -1,5 +1,5 @@
 use Rattle.std.proofs.Common.{◌≡◌, Some, refl, ap, sym, subst, ◌∙◌, arith}
-use Rattle.stage_kinds.specs.declared.stage_work.StageWork.TheVariants.{Reader, Filter, Collector}
+use Rattle.stage_kinds.specs.declared.stage_work.StageWork.TheVariants.{Filter, Collector}
 use Rattle.stage_kinds.specs.declared.file_form.StageForm.TheVariants.{Reads}
 use Rattle.stage_options.specs.Roles.{is_reading, role_of}
 use Rattle.stage_options.specs.Roles as role
@@ -23,11 +23,11 @@ returns-clause-ok g c =
     let k = g.F.Out.Sink in
     let map = g.F.Files.map c.args.files.now in
     let o = c.args.stage.now.options in
-    let work = reader-work s k map c.args.number o c.in-Some.reader w.with_fields c.in-Reads-form.fields (subst (IsOpened s map c.args.number (role_of o)) c.in-Some.is c.requires.opened)
+    let work = reader-work s k map c.args.number o c.in-Some.reader w.with_fields c.in-Reads-form.fields c.args.layout.now (subst (IsOpened s map c.args.number (role_of o)) c.in-Some.is c.requires.opened)
     w.source w.header w.lists.0 w.lists.1 w.start w.taken in
-    subst (λ r. IsWork s k map c.args.number o r c.args.form c.read_with.result) (sym c.in-Some.is)
-    (subst (λ f. IsWork s k map c.args.number o (Some c.in-Some.reader) f c.read_with.result) (sym c.in-Reads-form.is)
-    (subst (IsWork s k map c.args.number o (Some c.in-Some.reader) (Reads c.in-Reads-form.fields)) (sym w.is) work))
+    subst (λ r. IsWork s k map c.args.number o r c.args.form c.args.layout.now c.read_with.result) (sym c.in-Some.is)
+    (subst (λ f. IsWork s k map c.args.number o (Some c.in-Some.reader) f c.args.layout.now c.read_with.result) (sym c.in-Reads-form.is)
+    (subst (IsWork s k map c.args.number o (Some c.in-Some.reader) (Reads c.in-Reads-form.fields) c.args.layout.now) (sym w.is) work))
 
 pub returns-in-Filters-clause-ok : goal.returns-in-Filters-clause-ok
 returns-in-Filters-clause-ok g c =
@@ -36,10 +36,10 @@ returns-in-Filters-clause-ok g c =
     let map = g.F.Files.map c.args.files.now in
     let o = c.args.stage.now.options in
     let f = c.in-Filters.filter in
-    let does : role_of o ≡ role.Filters = subst (IsForm (role_of o)) c.in-Filters.is c.requires.form in
-    subst (λ r. IsWork s k map c.args.number o r c.args.form (Filter f)) (sym c.in_default.is)
-    (other-work s k map c.args.number o c.args.form (Filter f) (ap is_reading does) (sym (ap op_for does))
-    (λ setting e. subst (λ form. IsStarted {S = g.row.F-In.Denot} k.bytes form (Filter f)) (sym c.in-Filters.is ∙ e) refl))
+    let does : role_of o ≡ role.Filters = subst (IsForm o) c.in-Filters.is c.requires.form in
+    subst (λ r. IsWork s k map c.args.number o r c.args.form c.args.layout.now (Filter f)) (sym c.in_default.is)
+    (other-work s k map c.args.number o c.args.form c.args.layout.now (Filter f) (ap is_reading does) (sym (ap op_for does))
+    (λ setting e laid. subst (λ form. IsStarted {S = g.row.F-In.Denot} {K = g.row.F-Out.Denot} {P = g.row.P.Denot} {Q = g.row.Q.Denot} k.bytes setting.dims form (Filter f)) (sym c.in-Filters.is ∙ e) refl))
 
 pub returns-in-Filters-clause-lent_ok : goal.returns-in-Filters-clause-lent_ok
 returns-in-Filters-clause-lent_ok g c = let nothing = ap there c.in_default.is in omega (arith, nothing)
@@ -51,10 +51,10 @@ returns-in-Gathers-clause-ok g c =
     let map = g.F.Files.map c.args.files.now in
     let o = c.args.stage.now.options in
     let w = c.new.result in
-    let does = subst (IsForm (role_of o)) c.in-Gathers.is c.requires.form in
-    subst (λ r. IsWork s k map c.args.number o r c.args.form (Collector w)) (sym c.in_default.is)
-    (other-work s k map c.args.number o c.args.form (Collector w) does.1 (sym does.0)
-    (λ setting e. subst (λ form. IsStarted {S = g.row.F-In.Denot} k.bytes form (Collector w)) (sym c.in-Gathers.is ∙ e)
+    let does = subst (IsForm o) c.in-Gathers.is c.requires.form in
+    subst (λ r. IsWork s k map c.args.number o r c.args.form c.args.layout.now (Collector w)) (sym c.in_default.is)
+    (other-work s k map c.args.number o c.args.form c.args.layout.now (Collector w) does.1 (sym does.0)
+    (λ setting e laid. subst (λ form. IsStarted {S = g.row.F-In.Denot} {K = g.row.F-Out.Denot} {P = g.row.P.Denot} {Q = g.row.Q.Denot} k.bytes setting.dims form (Collector w)) (sym c.in-Gathers.is ∙ e)
     (record { makes = c.new.ensures.making; short = c.new.ensures.short; views = c.new.ensures.views })))
 
 pub returns-in-Gathers-clause-lent_ok : goal.returns-in-Gathers-clause-lent_ok

@@ -1,12 +1,24 @@
-use Rattle.std.proofs.Common.{◌≡◌, ◌+◌, ◌<◌, ◌≤◌, [], length, reverse, vec_len, refl, ap, sym, subst, ◌∙◌, arith, length-set}
+use Rattle.std.proofs.Common.{◌≡◌, ◌+◌, ◌<◌, ◌≤◌, [], ◌∷◌, length, reverse, vec_len, refl, ap, sym, subst, ◌∙◌, arith, length-set}
 use Rattle.circular_buffer.proofs.Places.{slice_get-set_other}
-use Rattle.std.proofs.lemmas.List.{reverse-reverse}
-use Rattle.std.proofs.lemmas.Option.{slice_get_read, get_or_from_slice_get}
-use Rattle.std.specs.Prelude.{slice_get, slice_index_or, None}
+use Rattle.std.proofs.lemmas.List.{map-append, reverse-reverse}
+use Rattle.std.proofs.lemmas.Option.{slice_get_read, get_or_from_slice_get, same_Some}
+use Rattle.std.specs.Prelude.{slice_get, slice_index_or, map, None, Some}
+use Rattle.answer_model.specs.Naming.{is_used}
+use Rattle.cloud_points.specs.declared.layout.Layout.{Layout}
 use Rattle.file_devices.specs.Counts.{Rose}
 use Rattle.stage_kinds.specs.declared.file_form.StageForm.TheVariants.{Reads}
-use Rattle.stage_kinds.specs.Held.{op_of}
-use Rattle.stage_options.specs.Roles.{role_of, is_writing}
+use Rattle.plug_stages.proofs.Out.{none-out}
+use Rattle.plug_stages.specs.Handed.{filter_nature, handed_by, tally_nature_at}
+use Rattle.plug_stages.specs.Out.{AreOut}
+use Rattle.plug_stages.specs.declared.places.Places.{Places}
+use Rattle.stage_kinds.specs.Held.{filter_in, op_of, tally_in}
+use Rattle.stage_options.specs.Roles.{plug_of, role_of, tally_of, is_writing}
+use Rattle.stage_forms.proofs.Out.{taken-back}
+use Rattle.stage_forms.specs.Starts.{IsHandedIn}
+use Rattle.held_devices.specs.Handing.{FiltersOut, TalliesOut}
+use Rattle.run_opening.specs.Taken.{AreFound, without}
+use Rattle.run_opening.proofs.Taken.{AreStill, are-found, filter-named, found-later, out-more, still-more, tally-named}
+use Rattle.run_opening.proofs.Works.{filter-is, handed-before, nothing-taken, tally-is}
 use Rattle.stage_options.specs.declared.stage.StageSpec.{StageSpec}
 use Rattle.answer_model.specs.Values.{options_at}
 use Rattle.run_opening.specs.Begun.{IsFine, IsForm, IsOpened, IsWork}
@@ -25,7 +37,16 @@ loop-reader-init g c =
     record {
       left = ap reverse turned ∙ reverse-reverse c.args.readers.items;
       count = (let a = c.reverse.ensures.len in let k = c.args.readers.ok in omega (arith, a, k));
-      begun = λ i w e. (let none = sym (ap (λ xs. slice_get xs i) empty) ∙ e in cc);
+      begun = λ i w layout e f. (let none = sym (ap (λ xs. slice_get xs i) empty) ∙ e in cc);
+      handed = λ i w e. (let none = sym (ap (λ xs. slice_get xs i) empty) ∙ e in cc);
+      out = record {
+        filters = subst (λ ws. FiltersOut g.P.PlugFilter (is_used plug_of (handed_by g.P.PlugFilter g.Q.PlugTally c.args.places.now).filters c.args.stages.now) ws c.args.places.now.filters.items c.args.places.now.filters.items)
+            (sym empty) (none-out (filter_nature g.P.PlugFilter) (is_used plug_of (handed_by g.P.PlugFilter g.Q.PlugTally c.args.places.now).filters c.args.stages.now) c.args.places.now.filters.items);
+        tallies = subst (λ ws. TalliesOut g.Q.PlugTally (is_used tally_of (handed_by g.P.PlugFilter g.Q.PlugTally c.args.places.now).tallies c.args.stages.now) ws c.args.places.now.tallies.items c.args.places.now.tallies.items)
+            (sym empty) (none-out (tally_nature_at g.Q.PlugTally) (is_used tally_of (handed_by g.P.PlugFilter g.Q.PlugTally c.args.places.now).tallies c.args.stages.now) c.args.places.now.tallies.items);
+      };
+      filters = λ j le lt. refl;
+      tallies = λ j le lt. refl;
       forms = c.requires.forms;
       left_forms = λ j le. refl;
       works = c.in-Ok.ensures.len;
@@ -65,9 +86,10 @@ returns-in-Err-clause-err g c =
     let at = slice_get_read c.args.stages.now (length c.args.stages.now) c.loop-reader.at c.index-stages-at.result refl lt c.index-stages-at.is in
     let rose = Rose (files.faults c.loop-reader.files) (files.faults c.begin_work.new.files) in
     let end : files.faults c.begin_work.new.files ≤ files.faults c.release_works.new.files = (let a = c.give_back-in-Err.ensures.later in let b = c.release_works.ensures.later in omega (arith, a, b)) in
-    cause-weaker (files.map c.args.files.now) c.args.stages.now c.in-Err.refusal
+    let handed = handed_by g.P.PlugFilter g.Q.PlugTally c.args.places.now in
+    cause-weaker handed (files.map c.args.files.now) c.args.stages.now c.in-Err.refusal
     (rose-within (files.faults c.args.files.now) (files.faults c.loop-reader.files) (files.faults c.begin_work.new.files) (files.faults c.release_works.new.files) now.later end)
-    (uncreated-cause rose (files.map c.args.files.now) c.args.stages.now c.loop-reader.at c.in-Err.refusal lt c.requires.come
+    (uncreated-cause rose handed (files.map c.args.files.now) c.args.stages.now c.loop-reader.at c.in-Err.refusal lt c.requires.come
     (ap is_writing (sym (role-is c.args.stages.now c.loop-reader.at c.index-stages-at.result at)) ∙ c.in-Err.ensures.writes) c.in-Err.ensures.err)
 
 pub returns-in-Err-clause-lent_err : goal.returns-in-Err-clause-lent_err
@@ -95,16 +117,49 @@ loop-reader-preserved g c =
     let form-there = sym (now.left_forms c.loop-reader.at (omega arith)) ∙ slice_get_read c.loop-reader.forms.items (length c.loop-reader.forms.items) c.loop-reader.at c.index_mut.result.now refl
     (let a = n.0 in let b = c.requires.count in let d = now.forms in omega (arith, a, b, d)) c.index_mut.ensures.value in
     let form-here = c.replace-form.ensures.value ∙ sym (get_or_from_slice_get c.args.bound.forms.items c.loop-reader.at c.index_mut.result.now (Reads []) form-there) in
-    let one = subst (λ f. IsWork g.F.In.Source g.F.Out.Sink (files.map c.args.files.now) c.loop-reader.at o (slice_index_or c.args.readers.items c.loop-reader.at None) f c.in-Ok-begin_work.work) form-here
-    (subst (λ r. IsWork g.F.In.Source g.F.Out.Sink (files.map c.args.files.now) c.loop-reader.at o r c.replace-form.result c.in-Ok-begin_work.work) (sym reader-here)
-    (subst (λ x. IsWork g.F.In.Source g.F.Out.Sink (files.map c.args.files.now) c.loop-reader.at x c.in-Some.reader c.replace-form.result c.in-Ok-begin_work.work) (ap (λ (s : StageSpec). s.options) (sym (stage-is c.args.stages.now c.loop-reader.at c.index-stages-at.result at)))
-    (subst (λ map. IsWork g.F.In.Source g.F.Out.Sink map c.loop-reader.at c.index-stages-at.result.options c.in-Some.reader c.replace-form.result c.in-Ok-begin_work.work) now.map c.in-Ok-begin_work.ensures.ok))) in
+    let laid-here = slice_get_read c.args.bound.layouts.items (length c.args.bound.layouts.items) c.loop-reader.at c.index.result.now refl (let a = n.0 in let b = c.requires.count in let d = c.requires.layouts in omega (arith, a, b, d)) c.index.ensures in
+    let one = subst (λ f. IsWork g.F.In.Source g.F.Out.Sink (files.map c.args.files.now) c.loop-reader.at o (slice_index_or c.args.readers.items c.loop-reader.at None) f c.index.result.now c.in-Ok-begin_work.work) form-here
+    (subst (λ r. IsWork g.F.In.Source g.F.Out.Sink (files.map c.args.files.now) c.loop-reader.at o r c.replace-form.result c.index.result.now c.in-Ok-begin_work.work) (sym reader-here)
+    (subst (λ x. IsWork g.F.In.Source g.F.Out.Sink (files.map c.args.files.now) c.loop-reader.at x c.in-Some.reader c.replace-form.result c.index.result.now c.in-Ok-begin_work.work) (ap (λ (s : StageSpec). s.options) (sym (stage-is c.args.stages.now c.loop-reader.at c.index-stages-at.result at)))
+    (subst (λ map. IsWork g.F.In.Source g.F.Out.Sink map c.loop-reader.at c.index-stages-at.result.options c.in-Some.reader c.replace-form.result c.index.result.now c.in-Ok-begin_work.work) now.map c.in-Ok-begin_work.ensures.ok))) in
+    let fs = g.P.PlugFilter in
+    let ts = g.Q.PlugTally in
+    let before = handed_by fs ts c.args.places.now in
+    let here = handed_by fs ts c.loop-reader.places in
+    let inside : c.loop-reader.at < length c.args.stages.now = (let a = n.0 in let b = c.requires.count in omega (arith, a, b)) in
+    let in-hand = subst (λ x. IsHandedIn fs ts x here c.in-Ok-begin_work.work) (ap (λ (s : StageSpec). s.options) (sym (stage-is c.args.stages.now c.loop-reader.at c.index-stages-at.result at))) c.in-Ok-begin_work.ensures.handed in
     let less = sum-pop there c.loop-reader.readers.items c.pop.new.self.items c.in-Some.reader c.in-Some.ensures.items in
     let more = ap all_held pushed ∙ sum-push (λ w. there (op_of w)) c.loop-reader.works.items c.in-Ok-begin_work.work in
     record {
       left = p.1;
       count = n.1;
-      begun = λ i w e. each-push (λ j v. IsWork g.F.In.Source g.F.Out.Sink (files.map c.args.files.now) j (options_at c.args.stages.now j) (slice_index_or c.args.readers.items j None) (slice_index_or c.args.bound.forms.items j (Reads [])) v) c.loop-reader.works.items c.in-Ok-begin_work.work c.loop-reader.at size now.begun one i w (ap (λ xs. slice_get xs i) (sym pushed) ∙ e);
+      begun = λ i w layout e f. each-push (λ j v. (l : Layout) → slice_get c.args.bound.layouts.items j ≡ Some l
+          → IsWork g.F.In.Source g.F.Out.Sink (files.map c.args.files.now) j (options_at c.args.stages.now j) (slice_index_or c.args.readers.items j None) (slice_index_or c.args.bound.forms.items j (Reads [])) l v)
+          c.loop-reader.works.items c.in-Ok-begin_work.work c.loop-reader.at size (λ j v a l b. now.begun j v l a b)
+          (λ l b. subst (λ x. IsWork g.F.In.Source g.F.Out.Sink (files.map c.args.files.now) c.loop-reader.at o (slice_index_or c.args.readers.items c.loop-reader.at None)
+          (slice_index_or c.args.bound.forms.items c.loop-reader.at (Reads [])) x c.in-Ok-begin_work.work) (same_Some _ _ (sym laid-here ∙ b)) one)
+          i w (ap (λ xs. slice_get xs i) (sym pushed) ∙ e) layout f;
+      handed = λ i w e. each-push (λ j v. IsHandedIn fs ts (options_at c.args.stages.now j) before v) c.loop-reader.works.items c.in-Ok-begin_work.work c.loop-reader.at size now.handed
+          (handed-before fs ts o before here (now.filters c.loop-reader.at (omega arith) inside) (now.tallies c.loop-reader.at (omega arith) inside) c.in-Ok-begin_work.work in-hand)
+          i w (ap (λ xs. slice_get xs i) (sym pushed) ∙ e);
+      out = record {
+        filters = subst (λ ps. AreOut (filter_nature fs) (is_used plug_of before.filters c.args.stages.now) (map (filter_in fs) c.push_reserved.new.self.items) c.args.places.now.filters.items ps) (sym c.in-Ok-begin_work.ensures.filters)
+            (subst (λ os. AreOut (filter_nature fs) (is_used plug_of before.filters c.args.stages.now) os c.args.places.now.filters.items (without (filter_in fs c.in-Ok-begin_work.work) c.loop-reader.places.filters.items))
+            (sym (ap (map (filter_in fs)) pushed ∙ map-append (filter_in fs) c.loop-reader.works.items (c.in-Ok-begin_work.work ∷ [])))
+            (out-more (filter_nature fs) (λ k x. refl) plug_of c.args.stages.now c.args.places.now.filters.items c.loop-reader.places.filters.items c.loop-reader.at now.filters inside
+            (filter_in fs c.in-Ok-begin_work.work) (filter-is fs ts o here c.in-Ok-begin_work.work in-hand) now.out.filters));
+        tallies = subst (λ ps. AreOut (tally_nature_at ts) (is_used tally_of before.tallies c.args.stages.now) (map (tally_in ts) c.push_reserved.new.self.items) c.args.places.now.tallies.items ps) (sym c.in-Ok-begin_work.ensures.tallies)
+            (subst (λ os. AreOut (tally_nature_at ts) (is_used tally_of before.tallies c.args.stages.now) os c.args.places.now.tallies.items (without (tally_in ts c.in-Ok-begin_work.work) c.loop-reader.places.tallies.items))
+            (sym (ap (map (tally_in ts)) pushed ∙ map-append (tally_in ts) c.loop-reader.works.items (c.in-Ok-begin_work.work ∷ [])))
+            (out-more (tally_nature_at ts) (λ k x. refl) tally_of c.args.stages.now c.args.places.now.tallies.items c.loop-reader.places.tallies.items c.loop-reader.at now.tallies inside
+            (tally_in ts c.in-Ok-begin_work.work) (tally-is fs ts o here c.in-Ok-begin_work.work in-hand) now.out.tallies));
+      };
+      filters = subst (λ ps. AreStill (filter_nature fs) plug_of c.args.stages.now c.args.places.now.filters.items ps (c.loop-reader.at + 1)) (sym c.in-Ok-begin_work.ensures.filters)
+          (still-more (filter_nature fs) (λ k x. refl) plug_of c.args.stages.now c.args.places.now.filters.items c.loop-reader.places.filters.items c.loop-reader.at now.filters inside
+          (filter_in fs c.in-Ok-begin_work.work) (filter-is fs ts o here c.in-Ok-begin_work.work in-hand) (λ j l. filter-named before c.args.stages.now c.requires.named j l));
+      tallies = subst (λ ps. AreStill (tally_nature_at ts) tally_of c.args.stages.now c.args.places.now.tallies.items ps (c.loop-reader.at + 1)) (sym c.in-Ok-begin_work.ensures.tallies)
+          (still-more (tally_nature_at ts) (λ k x. refl) tally_of c.args.stages.now c.args.places.now.tallies.items c.loop-reader.places.tallies.items c.loop-reader.at now.tallies inside
+          (tally_in ts c.in-Ok-begin_work.work) (tally-is fs ts o here c.in-Ok-begin_work.work in-hand) (λ j l. tally-named before c.args.stages.now c.requires.named j l));
       forms = length-set c.loop-reader.forms.items c.loop-reader.at c.replace-form.new.dest ∙ now.forms;
       left_forms = λ j le. slice_get-set_other c.loop-reader.forms.items c.loop-reader.at j c.replace-form.new.dest (λ e. absurd (omega (arith, le, e))) ∙ now.left_forms j (omega (arith, le));
       works = (let a = c.push_reserved.ensures.len in let b = now.works in omega (arith, a, b));
@@ -129,5 +184,37 @@ begin_work-requires-clause-form g c =
     let at = slice_get_read c.args.stages.now (length c.args.stages.now) c.loop-reader.at c.index-stages-at.result refl (let a = n.0 in let b = c.requires.count in omega (arith, a, b)) c.index-stages-at.is in
     let form-there = sym (now.left_forms c.loop-reader.at (omega arith)) ∙ slice_get_read c.loop-reader.forms.items (length c.loop-reader.forms.items) c.loop-reader.at c.index_mut.result.now refl
     (let a = n.0 in let b = c.requires.count in let d = now.forms in omega (arith, a, b, d)) c.index_mut.ensures.value in
-    subst (IsForm (role_of c.index-stages-at.result.options)) (sym c.replace-form.ensures.value)
-    (subst (λ r. IsForm r c.index_mut.result.now) (sym (role-is c.args.stages.now c.loop-reader.at c.index-stages-at.result at)) (c.requires.fits c.loop-reader.at c.index_mut.result.now form-there))
+    subst (IsForm c.index-stages-at.result.options) (sym c.replace-form.ensures.value)
+    (subst (λ p. IsForm p c.index_mut.result.now) (ap (λ (s : StageSpec). s.options) (stage-is c.args.stages.now c.loop-reader.at c.index-stages-at.result at)) (c.requires.fits c.loop-reader.at c.index_mut.result.now form-there))
+
+pub begin_work-requires-clause-found : goal.begin_work-requires-clause-found
+begin_work-requires-clause-found g c =
+    let now = c.loop-reader.invariant in
+    let n = one_less c.loop-reader.at (vec_len c.loop-reader.readers) (vec_len c.pop.new.self) (length c.args.readers.items) now.count c.in-Some.ensures.cases in
+    let inside : c.loop-reader.at < length c.args.stages.now = (let a = n.0 in let b = c.requires.count in omega (arith, a, b)) in
+    let at = slice_get_read c.args.stages.now (length c.args.stages.now) c.loop-reader.at c.index-stages-at.result refl inside c.index-stages-at.is in
+    let fs = g.P.PlugFilter in
+    let ts = g.Q.PlugTally in
+    subst (λ o. AreFound o (handed_by fs ts c.loop-reader.places)) (ap (λ (s : StageSpec). s.options) (stage-is c.args.stages.now c.loop-reader.at c.index-stages-at.result at))
+    (found-later (options_at c.args.stages.now c.loop-reader.at) (handed_by fs ts c.args.places.now) (handed_by fs ts c.loop-reader.places)
+    (now.filters c.loop-reader.at (omega arith) inside) (now.tallies c.loop-reader.at (omega arith) inside)
+    (are-found (handed_by fs ts c.args.places.now) c.args.stages.now c.requires.named c.loop-reader.at inside))
+
+pub returns-in_default-clause-back : goal.returns-in_default-clause-back
+returns-in_default-clause-back g c = nothing-taken g.P.PlugFilter g.Q.PlugTally c.args.stages.now c.args.places.now
+
+pub returns-in-Err-clause-back : goal.returns-in-Err-clause-back
+returns-in-Err-clause-back g c =
+    let fs = g.P.PlugFilter in
+    let ts = g.Q.PlugTally in
+    let before = handed_by fs ts c.args.places.now in
+    let filters_used = is_used plug_of before.filters c.args.stages.now in
+    let tallies_used = is_used tally_of before.tallies c.args.stages.now in
+    let out = c.loop-reader.invariant.out in
+    let same = c.in-Err.ensures.stay in
+    taken-back {S = g.row.F-In.Denot} {K = g.row.F-Out.Denot} fs ts c.args.stages.now c.args.places.now c.release_works.new.places (record {
+      filters = c.release_works.ensures.filters filters_used c.args.places.now.filters.items
+          (subst (λ (p : Places _ _). FiltersOut fs filters_used c.loop-reader.works.items c.args.places.now.filters.items p.filters.items) (sym same) out.filters);
+      tallies = c.release_works.ensures.tallies tallies_used c.args.places.now.tallies.items
+          (subst (λ (p : Places _ _). TalliesOut ts tallies_used c.loop-reader.works.items c.args.places.now.tallies.items p.tallies.items) (sym same) out.tallies);
+    })

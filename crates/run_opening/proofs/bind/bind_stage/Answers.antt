@@ -1,4 +1,4 @@
-use Rattle.std.proofs.Common.{◌≡◌, ◌||◌, true, [], None, ap, sym, subst, ◌∙◌}
+use Rattle.std.proofs.Common.{◌≡◌, ◌||◌, true, ap, sym, subst, ◌∙◌}
 use Rattle.std.specs.Prelude.{is_some}
 use Rattle.answer_model.specs.Values.{fields_found, fields_past, gives_dim, unbound}
 use Rattle.cloud_points.specs.Layouts.{holds}
@@ -6,6 +6,7 @@ use Rattle.extra_bytes.specs.Bound.{bound_fields}
 use Rattle.stage_forms.specs.Starts.{IsBoundBehind}
 use Rattle.stage_forms.specs.Below.{found_of, read_of, reads_in}
 use Rattle.stage_kinds.specs.declared.file_form.StageForm.TheVariants.{Reads}
+use Rattle.plug_stages.specs.Handed.{none_handed}
 use Rattle.stage_options.specs.Roles.{is_reading, role_of}
 use Rattle.stage_names.specs.Faults.{IsFaultOf}
 use Rattle.stage_forms.proofs.Works.{reads-form}
@@ -20,7 +21,7 @@ returns-in-Err-clause-err g c =
     c.unbound_refusal.ensures (unbound c.args.number c.args.names.now has o found) (options-fault c.args.number c.args.names.now has o found c.in-Err.err c.in-Err.ensures.fault)
 
 pub returns-in-Ok-take_fields-clause-form : goal.returns-in-Ok-take_fields-clause-form
-returns-in-Ok-take_fields-clause-form g c =
+returns-in-Ok-take_fields-clause-form g c = λ handed.
     let o = c.args.stage.now.options in
     let names = c.args.names.now in
     let reading : is_reading (role_of o) ≡ true = sym c.requires.fit ∙ ap is_some c.in-Some.is in
@@ -31,6 +32,7 @@ returns-in-Ok-take_fields-clause-form g c =
       reads = reads_in c.args.readers.now c.args.below.now.readers.items;
       dims = holds c.args.below.now.layout;
       fields = fields_past names o (found_of o c.args.reader.now);
+      handed = handed;
     }) reading)
 
 pub returns-in-Ok-take_fields-clause-own : goal.returns-in-Ok-take_fields-clause-own
@@ -56,7 +58,7 @@ returns-in-Err-take_fields-clause-err g c =
 pub returns-in-Ok-stage_form-clause-fits : goal.returns-in-Ok-stage_form-clause-fits
 returns-in-Ok-stage_form-clause-fits g c =
     let behind : IsBoundBehind c.args.stage.now.options c.in-Ok.bound (holds c.args.below.now.layout) c.args.names.now c.bind.new.names = record { bound = c.in-Ok.ensures.bound; behind = c.in-Ok.ensures.names } in
-    form-fits c.args.stage.now.options _ c.in-Ok-stage_form.form (c.in-Ok-stage_form.ensures.form (holds c.args.below.now.layout) c.args.names.now behind) c.in-Ok-stage_form.ensures.good
+    form-fits c.args.stage.now.options _ c.in-Ok-stage_form.form (c.in-Ok-stage_form.ensures.form (holds c.args.below.now.layout) c.args.names.now none_handed behind) c.in-Ok-stage_form.ensures.good
 
 pub returns-in-Ok-stage_form-clause-own : goal.returns-in-Ok-stage_form-clause-own
 returns-in-Ok-stage_form-clause-own g c = c.in-Ok.ensures.own c.requires.own

@@ -1,20 +1,23 @@
-use Rattle.std.proofs.Common.{◌≡◌, ◌||◌, ◌<◌, ℕ, List, Option, None, All, length, Err, IfErr, refl, ap, sym, subst, ◌∙◌, arith, rules}
+use Rattle.std.proofs.Common.{◌≡◌, ◌||◌, ◌<◌, ℕ, List, Option, None, All, length, Err, IfErr, refl, ap, sym, subst, ◌∙◌, arith}
 use Rattle.std.specs.Prelude.{slice_get, slice_index_or}
 use Rattle.std.proofs.lemmas.Result.{err_from_is_err_and}
 use Rattle.std.proofs.lemmas.Option.{get_or_from_slice_get, slice_get_read}
 use Rattle.stage_kinds.specs.declared.file_form.StageForm.{StageForm}
 use Rattle.answer_model.proofs.Values.{tree-down}
-use Rattle.answer_model.specs.Values.{fields_at, fields_past, found_at, gives_dim, names_at, names_past, options_at, reads_at, role_at, setting_at, unbound}
+use Rattle.answer_model.specs.Values.{Opened, dims_at, fields_at, fields_past, found_at, gives_dim, names_at, names_past, options_at, reads_at, setting_at, unbound}
 use Rattle.answer_model.specs.Rows.{Setting}
 use Rattle.cloud_points.specs.declared.extra.ExtraField.{ExtraField}
 use Rattle.las_reader.specs.declared.reader.LasReader.{LasReader}
+use Rattle.plug_stages.specs.Handed.{Handed}
 use Rattle.stage_options.specs.Roles.{is_reading}
 use Rattle.stage_options.specs.declared.options.Options.{Options}
 use Rattle.stage_options.specs.declared.stage.StageSpec.{StageSpec}
-use Rattle.stage_forms.specs.Below.{AreBelow, AreInside, IsBelow, StandsBelow, found_of, reads_in}
+use Rattle.stage_forms.specs.Below.{AreBelow, AreInside, HaveReaders, IsBelow, StandsBelow, found_of, reads_in}
 use Rattle.stage_forms.specs.declared.below.Below.{Below}
 use Rattle.stage_forms.proofs.Joined.{behind-stage}
 use Rattle.cloud_points.specs.Layouts.{holds}
+use Rattle.cloud_points.specs.declared.dims.Dim.{Dim}
+use Rattle.cloud_points.specs.declared.layout.Layout.{Layout}
 use Rattle.stage_forms.specs.Starts.{form_for}
 use Rattle.run_opening.specs.Begun.{IsFine, IsForm, IsUnbound}
 use Rattle.held_devices.proofs.Lists.{each-push}
@@ -74,8 +77,8 @@ returns-in_err-form-clause-err g c =
     c.in_err-form.ensures.err)
 
 -- where a stage stands, by what stands below it
-abbrev at-setting : {S : Type 0} → List (Option (LasReader S)) → Below → List (List ℕ) → Options → List ExtraField → Setting
-at-setting readers below names o found = record { names = names; reads = reads_in readers below.readers.items; dims = holds below.layout; fields = fields_past names o found }
+abbrev at-setting : {S : Type 0} → Handed → List (Option (LasReader S)) → Below → List (List ℕ) → Options → List ExtraField → Setting
+at-setting handed readers below names o found = record { names = names; reads = reads_in readers below.readers.items; dims = holds below.layout; fields = fields_past names o found; handed = handed }
 
 pub loop-i-preserved : goal.loop-i-preserved
 loop-i-preserved g c =
@@ -99,16 +102,23 @@ loop-i-preserved g c =
     let below_size : i ≡ length c.loop-i.belows.items = (let a = now.belows_count in let k = c.loop-i.belows.ok in omega (arith, a, k)) in
     let forms_are = c.push_reserved.ensures.items in
     let belows_are = c.push_reserved-in-loop-i.ensures.items in
+    let layouts_size : i ≡ length c.loop-i.layouts.items = (let a = now.layouts_count in let k = c.loop-i.layouts.ok in omega (arith, a, k)) in
+    let layouts_are = c.push_reserved-in-loop-i-2.ensures.items in
+    let behind : (opened : Opened) → HaveReaders readers opened → IsBelow stages readers opened i after = λ opened have.
+    behind-stage stages readers opened (tree-down stages c.requires.tree) c.requires.fit have i below after (stands opened have) (ap (λ v. v.items) done.readers)
+    (λ dim. done.layout dim ∙ ap (λ a. holds below.layout dim || a) (ap (λ p. gives_dim c.loop-i.names p (found_of p reader) dim) (sym o)
+    ∙ ap (λ l. gives_dim c.loop-i.names (options_at stages i) l dim) (found-is stages readers opened c.requires.fit have i reader reader-at)
+    ∙ ap (λ n. gives_dim n (options_at stages i) (found_at stages opened i) dim) (now.names opened have))) in
     record {
       forms = λ opened have k x e. each-push (λ j (y : StageForm). y ≡ form_for (options_at stages j) (setting_at stages opened j)) c.loop-i.forms.items form i size (now.forms opened have)
-          (done.form ∙ ap (λ p. form_for p (at-setting readers below c.loop-i.names p (found_of p reader))) (sym o)
-          ∙ ap (λ l. form_for (options_at stages i) (at-setting readers below c.loop-i.names (options_at stages i) l)) (found-is stages readers opened c.requires.fit have i reader reader-at)
-          ∙ ap (λ n. form_for (options_at stages i) (at-setting readers below n (options_at stages i) (found_at stages opened i))) (now.names opened have)
-          ∙ ap (λ r. form_for (options_at stages i) (record { names = names_at stages opened i; reads = r; dims = holds below.layout; fields = fields_at stages opened i })) ((stands opened have).reads)
-          ∙ ap (λ d. form_for (options_at stages i) (record { names = names_at stages opened i; reads = reads_at stages opened i; dims = d; fields = fields_at stages opened i })) (dims-are stages readers opened i below (stands opened have)))
+          (done.form opened.handed ∙ ap (λ p. form_for p (at-setting opened.handed readers below c.loop-i.names p (found_of p reader))) (sym o)
+          ∙ ap (λ l. form_for (options_at stages i) (at-setting opened.handed readers below c.loop-i.names (options_at stages i) l)) (found-is stages readers opened c.requires.fit have i reader reader-at)
+          ∙ ap (λ n. form_for (options_at stages i) (at-setting opened.handed readers below n (options_at stages i) (found_at stages opened i))) (now.names opened have)
+          ∙ ap (λ r. form_for (options_at stages i) (record { names = names_at stages opened i; reads = r; dims = holds below.layout; fields = fields_at stages opened i; handed = opened.handed })) ((stands opened have).reads)
+          ∙ ap (λ d. form_for (options_at stages i) (record { names = names_at stages opened i; reads = reads_at stages opened i; dims = d; fields = fields_at stages opened i; handed = opened.handed })) (dims-are stages readers opened i below (stands opened have)))
           k x (ap (λ xs. slice_get xs k) (sym forms_are) ∙ e);
-      fits = λ k x e. each-push (λ j y. IsForm (role_at stages j) y) c.loop-i.forms.items form i size now.fits
-          (subst (λ r. IsForm r form) (role-is stages i stage at) done.fits) k x (ap (λ xs. slice_get xs k) (sym forms_are) ∙ e);
+      fits = λ k x e. each-push (λ j y. IsForm (options_at stages j) y) c.loop-i.forms.items form i size now.fits
+          (subst (λ p. IsForm p form) (sym o) done.fits) k x (ap (λ xs. slice_get xs k) (sym forms_are) ∙ e);
       fine = λ k x e. each-push (λ j y. IsFine (slice_index_or readers j None) y) c.loop-i.forms.items form i size now.fine
           (subst (λ r. IsFine r form) (sym (get_or_from_slice_get readers i reader None reader-at)) done.fine) k x (ap (λ xs. slice_get xs k) (sym forms_are) ∙ e);
       bound = more-bound stages readers i now.bound (λ opened have.
@@ -120,12 +130,10 @@ loop-i-preserved g c =
           ∙ ap (names_past c.loop-i.names (options_at stages i)) (found-is stages readers opened c.requires.fit have i reader reader-at)
           ∙ ap (λ n. names_past n (options_at stages i) (found_at stages opened i)) (now.names opened have) ∙ sym (names-more stages opened i);
       own = done.own;
+      layouts = λ opened have k x e. each-push (λ j (y : Layout). (dim : Dim) → holds y dim ≡ dims_at stages opened j dim) c.loop-i.layouts.items after.layout i layouts_size (now.layouts opened have)
+          (behind opened have).dims k x (ap (λ xs. slice_get xs k) (sym layouts_are) ∙ e);
       below = λ opened have k x e. each-push (λ j (y : Below). IsBelow stages readers opened j y) c.loop-i.belows.items after i below_size (now.below opened have)
-          (behind-stage stages readers opened (tree-down stages c.requires.tree) c.requires.fit have i below after (stands opened have) (ap (λ v. v.items) done.readers)
-          (λ dim. done.layout dim ∙ ap (λ a. holds below.layout dim || a) (ap (λ p. gives_dim c.loop-i.names p (found_of p reader) dim) (sym o)
-          ∙ ap (λ l. gives_dim c.loop-i.names (options_at stages i) l dim) (found-is stages readers opened c.requires.fit have i reader reader-at)
-          ∙ ap (λ n. gives_dim n (options_at stages i) (found_at stages opened i) dim) (now.names opened have))))
-          k x (ap (λ xs. slice_get xs k) (sym belows_are) ∙ e);
+          (behind opened have) k x (ap (λ xs. slice_get xs k) (sym belows_are) ∙ e);
       inside = λ k x e. each-push (λ j (y : Below). All (λ m. m < length readers) y.readers.items) c.loop-i.belows.items after i below_size now.inside
           (subst (λ v. All (λ m. m < length readers) v.items) (sym done.readers) c.in-Ok-next_below.ensures.inside) k x (ap (λ xs. slice_get xs k) (sym belows_are) ∙ e);
       count = (let a = c.push_reserved.ensures.len in let n = now.count in omega (arith, a, n));

@@ -19,7 +19,7 @@ pub returns-in-Err-clause-lent_err : goal.returns-in-Err-clause-lent_err
 returns-in-Err-clause-lent_err g c = c.give_back.ensures.lent (g.F.Files.lent c.args.files.now) (c.in-Err.ensures.lent_err ∙ c.loop-i.invariant.lent)
 
 pub returns-in-Err-clause-err : goal.returns-in-Err-clause-err
-returns-in-Err-clause-err g c =
+returns-in-Err-clause-err g c = λ handed.
     let files = g.F.Files in
     let now = c.loop-i.invariant in
     let lt : c.loop-i.i < length c.args.stages.now = (let a = c.loop-i-test.true in omega (arith, a)) in
@@ -27,10 +27,10 @@ returns-in-Err-clause-err g c =
     let size : c.loop-i.i ≡ length c.loop-i.readers.items = (let a = now.count in let k = c.loop-i.readers.ok in omega (arith, a, k)) in
     let rose = Rose (files.faults c.loop-i.files) (files.faults c.open_stage.new.files) in
     let why = subst (λ role. IsUnopened rose (files.map c.loop-i.files) c.loop-i.i role c.in-Err.refusal) (role-is c.args.stages.now c.loop-i.i c.index-stages-i.result at) c.in-Err.ensures.err in
-    subst (λ map. IsCause (Rose (files.faults c.args.files.now) (files.faults c.give_back.new.files)) map c.args.stages.now c.in-Err.refusal) now.map
-    (cause-weaker (files.map c.loop-i.files) c.args.stages.now c.in-Err.refusal
+    subst (λ map. IsCause (Rose (files.faults c.args.files.now) (files.faults c.give_back.new.files)) handed map c.args.stages.now c.in-Err.refusal) now.map
+    (cause-weaker handed (files.map c.loop-i.files) c.args.stages.now c.in-Err.refusal
     (rose-within (files.faults c.args.files.now) (files.faults c.loop-i.files) (files.faults c.open_stage.new.files) (files.faults c.give_back.new.files) now.later c.give_back.ensures.later)
-    (unopened-cause rose (files.map c.loop-i.files) c.args.stages.now c.loop-i.i c.in-Err.refusal lt
+    (unopened-cause rose handed (files.map c.loop-i.files) c.args.stages.now c.loop-i.i c.in-Err.refusal lt
     (λ m e. are-read g.F.In.Source (files.map c.args.files.now) c.args.stages.now c.loop-i.readers.items c.loop-i.i size now.opened m (sym now.map ∙ e)) why))
 
 pub loop-i-preserved : goal.loop-i-preserved

@@ -1,11 +1,15 @@
-use Rattle.std.proofs.Common.{length, sym, subst, ◌∙◌, arith}
+use Rattle.std.proofs.Common.{◌≡◌, Err, IfErr, length, ap, sym, subst, ◌∙◌, arith}
+use Rattle.std.proofs.lemmas.Result.{err_from_is_err_and}
+use Rattle.answer_model.proofs.Values.{tree-down}
 use Rattle.file_devices.specs.Counts.{Rose}
-use Rattle.run_opening.specs.Begun.{AreBegun, AreForms, AreNamesBound, IsUnbound}
+use Rattle.plug_stages.specs.Handed.{handed_by}
+use Rattle.run_opening.specs.Begun.{AreBegun, AreForms, AreLayouts, AreNamesBound, IsUnbound}
 use Rattle.run_outcome.specs.Cause.{IsCause}
 use Rattle.stage_forms.specs.Below.{AreReaders}
-use Rattle.run_outcome.proofs.Results.{if-ok, if-ok2, if-err, if-on-err}
+use Rattle.run_outcome.proofs.Results.{if-ok, if-err, if-on-err}
 use Rattle.run_outcome.proofs.Causes.{rose-within, cause-weaker}
-use Rattle.run_opening.proofs.Bound.{are-ready, can-begin, unbound-before, unbound-cause, unbound-early}
+use Rattle.run_opening.proofs.Bound.{are-at-start, are-ready, can-begin, unbound-before, unbound-cause, unbound-early}
+use Rattle.run_opening.proofs.Works.{if-ok3, nothing-taken, on-err}
 use Rattle.run_opening.proofs.Opening.{are-read, are-readers, have-readers}
 use Rattle.run_opening.proofs.ready.ready_works.Goals as goal
 
@@ -16,9 +20,9 @@ bind_stages-requires-clause-fit g c = subst (AreReaders c.args.stages.now) (sym 
 pub returns-in-Err-clause-err : goal.returns-in-Err-clause-err
 returns-in-Err-clause-err g c =
     let files = g.F.Files in
-    unbound-cause (Rose (files.faults c.args.files.now) (files.faults c.give_back.new.files)) (files.map c.args.files.now) c.args.stages.now c.in_ok-readers.readers.items c.in-Err.refusal
+    unbound-cause (Rose (files.faults c.args.files.now) (files.faults c.give_back.new.files)) (handed_by g.P.PlugFilter g.Q.PlugTally c.args.places.now) (files.map c.args.files.now) c.args.stages.now c.in_ok-readers.readers.items c.in-Err.refusal
     (are-read g.F.In.Source (files.map c.args.files.now) c.args.stages.now c.in_ok-readers.readers.items (length c.args.stages.now) (sym c.in_ok-readers.ensures.count) c.in_ok-readers.ensures.ok)
-    (have-readers g.F.In.Source (files.map c.args.files.now) c.args.stages.now c.in_ok-readers.readers.items c.in_ok-readers.ensures.ok)
+    (have-readers g.F.In.Source (files.map c.args.files.now) c.args.stages.now c.in_ok-readers.readers.items c.in_ok-readers.ensures.ok (handed_by g.P.PlugFilter g.Q.PlugTally c.args.places.now))
     (subst (λ rs. IsUnbound c.args.stages.now rs c.in-Err.refusal) c.as_slice.ensures.value c.in-Err.ensures.err)
 
 pub returns-in-Err-clause-early : goal.returns-in-Err-clause-early
@@ -33,7 +37,7 @@ pub returns-in-Err-clause-lent_err : goal.returns-in-Err-clause-lent_err
 returns-in-Err-clause-lent_err g c = c.give_back.ensures.lent (g.F.Files.lent c.args.files.now) c.in_ok-readers.ensures.lent_ok
 
 pub begin_works-requires-clause-come : goal.begin_works-requires-clause-come
-begin_works-requires-clause-come g c = λ m e. can-begin g.F.In.Source (g.F.Files.map c.args.files.now) c.args.stages.now c.in_ok-readers.readers.items c.in_ok-readers.ensures.count c.in_ok-readers.ensures.ok
+begin_works-requires-clause-come g c = λ m e. can-begin g.F.In.Source (handed_by g.P.PlugFilter g.Q.PlugTally c.args.places.now) (g.F.Files.map c.args.files.now) c.args.stages.now c.in_ok-readers.readers.items c.in_ok-readers.ensures.count c.in_ok-readers.ensures.ok
     (subst (λ rs. AreNamesBound c.args.stages.now rs (length c.args.stages.now)) c.as_slice.ensures.value c.in-Ok.ensures.bound) m (sym c.open_readers.ensures.map ∙ e)
 
 pub returns-clause-ready : goal.returns-clause-ready
@@ -42,18 +46,23 @@ returns-clause-ready g c =
     let stages = c.args.stages.now in
     let readers = c.in_ok-readers.readers.items in
     let forms = c.in-Ok.bound.forms.items in
-    if-ok2 c.begin_works.result c.begin_works.ensures.ok c.begin_works.ensures.count (λ works begun count.
-    are-ready g.F.In.Source g.F.Out.Sink (files.map c.args.files.now) stages readers forms works.items count c.in_ok-readers.ensures.count c.in-Ok.ensures.count
-    (subst (λ rs. AreForms stages rs forms) c.as_slice.ensures.value c.in-Ok.ensures.forms) c.in_ok-readers.ensures.ok
-    (subst (λ rs. AreNamesBound stages rs (length stages)) c.as_slice.ensures.value c.in-Ok.ensures.bound)
-    (subst (λ map. AreBegun g.F.In.Source g.F.Out.Sink map stages readers forms works.items) c.open_readers.ensures.map begun))
+    let layouts = c.in-Ok.bound.layouts.items in
+    let map = files.map c.args.files.now in
+    let bound = subst (λ rs. AreNamesBound stages rs (length stages)) c.as_slice.ensures.value c.in-Ok.ensures.bound in
+    if-ok3 c.begin_works.result c.begin_works.ensures.ok c.begin_works.ensures.count c.begin_works.ensures.handed (λ works begun count handed.
+    let are = subst (λ m. AreBegun g.F.In.Source g.F.Out.Sink m stages readers forms layouts works.items) c.open_readers.ensures.map begun in
+    let starts = are-at-start g.F.In.Source g.F.Out.Sink map stages readers forms layouts works.items count c.in_ok-readers.ensures.count c.in-Ok.ensures.count c.in-Ok.ensures.as_many are (tree-down stages c.requires.tree)
+    (subst (λ rs. AreForms stages rs forms) c.as_slice.ensures.value c.in-Ok.ensures.forms) c.in-Ok.ensures.fits (subst (λ rs. AreLayouts stages rs layouts) c.as_slice.ensures.value c.in-Ok.ensures.layouts) in
+    are-ready g.F.In.Source g.F.Out.Sink map stages readers forms layouts works.items count c.in_ok-readers.ensures.count c.in-Ok.ensures.count c.in-Ok.ensures.as_many are
+    g.P.PlugFilter g.Q.PlugTally (handed_by g.P.PlugFilter g.Q.PlugTally c.args.places.now) starts c.in_ok-readers.ensures.ok bound handed)
 
 pub returns-clause-err : goal.returns-clause-err
 returns-clause-err g c =
     let files = g.F.Files in
     if-err c.begin_works.result c.begin_works.ensures.err (λ refusal cause.
-    subst (λ map. IsCause (Rose (files.faults c.args.files.now) (files.faults c.begin_works.new.files)) map c.args.stages.now refusal) c.open_readers.ensures.map
-    (cause-weaker (files.map c.open_readers.new.files) c.args.stages.now refusal
+    let handed = handed_by g.P.PlugFilter g.Q.PlugTally c.args.places.now in
+    subst (λ map. IsCause (Rose (files.faults c.args.files.now) (files.faults c.begin_works.new.files)) handed map c.args.stages.now refusal) c.open_readers.ensures.map
+    (cause-weaker handed (files.map c.open_readers.new.files) c.args.stages.now refusal
     (rose-within (files.faults c.args.files.now) (files.faults c.open_readers.new.files) (files.faults c.begin_works.new.files) (files.faults c.begin_works.new.files) c.open_readers.ensures.later (omega arith)) cause))
 
 pub returns-clause-lent_ok : goal.returns-clause-lent_ok
@@ -61,3 +70,20 @@ returns-clause-lent_ok g c = if-ok c.begin_works.result c.begin_works.ensures.le
 
 pub returns-clause-lent_err : goal.returns-clause-lent_err
 returns-clause-lent_err g c = if-on-err c.begin_works.result c.begin_works.ensures.lent_err (λ lent. lent (g.F.Files.lent c.args.files.now) c.in_ok-readers.ensures.lent_ok)
+
+pub returns-in_err-readers-clause-back : goal.returns-in_err-readers-clause-back
+returns-in_err-readers-clause-back g c = on-err c.from_residual.result (nothing-taken g.P.PlugFilter g.Q.PlugTally c.args.stages.now c.args.places.now)
+
+pub returns-in-Err-clause-back : goal.returns-in-Err-clause-back
+returns-in-Err-clause-back g c = nothing-taken g.P.PlugFilter g.Q.PlugTally c.args.stages.now c.args.places.now
+
+pub returns-in_err-readers-clause-err : goal.returns-in_err-readers-clause-err
+returns-in_err-readers-clause-err g c =
+    let files = g.F.Files in
+    let refusal = c.in_err-readers.field-0.0 in
+    let handed = handed_by g.P.PlugFilter g.Q.PlugTally c.args.places.now in
+    let p = err_from_is_err_and c.from_residual.result c.from_residual.ensures.1 in
+    let same : p.0 ≡ refusal = p.2 in
+    let refused : c.from_residual.result ≡ Err refusal = p.1 ∙ ap Err same in
+    subst (λ r. IfErr r (IsCause (Rose (files.faults c.args.files.now) (files.faults c.open_readers.new.files)) handed (files.map c.args.files.now) c.args.stages.now)) (sym refused)
+    (c.in_err-readers.ensures.err handed)

@@ -3,12 +3,12 @@ use Rattle.std.specs.Prelude.{slice_get, Some}
 use Rattle.std.proofs.Math.ListN.{set}
 use Rattle.std.proofs.lemmas.List.{get_or-set_same}
 use Rattle.std.proofs.lemmas.Option.{slice_get-get_or, slice_get_read, get_or_from_slice_get}
-use Rattle.answer_model.specs.Values.{role_at, row_at, stage_at, las_at}
+use Rattle.answer_model.specs.Values.{or_shown, role_at, row_at, stage_at, las_at}
 use Rattle.cloud_points.specs.Events.{is_device}
 use Rattle.cloud_points.specs.Flows.{join_all}
 use Rattle.pipeline_json.specs.Lists.{has, times}
 use Rattle.stage_kinds.specs.Held.{faults_of}
-use Rattle.stage_kinds.specs.Stages.{files_by, written_by}
+use Rattle.stage_kinds.specs.Stages.{files_by, says_of, shown_by, written_by}
 use Rattle.stage_options.specs.declared.stage.StageSpec.{StageSpec}
 use Rattle.run_outcome.specs.Faults.{NoneFailed, fault_at}
 use Rattle.set_engine.specs.Evaluated.{AreCaused}
@@ -17,7 +17,7 @@ use Rattle.set_engine.specs.Taking.{value_in}
 use Rattle.set_engine.proofs.After.{all-stay, caused-more, front, none-with, one-later, put-there}
 use Rattle.set_engine.proofs.Joined.{stays-elsewhere}
 use Rattle.set_engine.proofs.Starting.{las-told, all-fit, are-later, came}
-use Rattle.set_engine.proofs.UpTo.{length-shapes, inside, once, one-more, none-yet, all-done}
+use Rattle.set_engine.proofs.UpTo.{length-shapes, inside, once, one-more, none-yet, all-done, count_with, or-is}
 use Rattle.set_engine.proofs.evaluating.evaluate_stages.Goals as goal
 
 pub loop-i-init : goal.loop-i-init
@@ -26,7 +26,7 @@ loop-i-init g c = record {
   room = c.in_ok-values.ensures.capacity;
   counts = ap length c.new-report.ensures;
   told = ap length c.new-faults.ensures;
-  after = all-stay (faults_of g.S.Source.faults g.K.Sink.faults) c.args.works.now;
+  after = all-stay g.P.PlugFilter g.Q.PlugTally (faults_of g.S.Source.faults g.K.Sink.faults) c.args.works.now;
   rest = λ j le. refl;
   caused = λ j o e. absurd (let none = sym (ap (λ found. fault_at found j) c.new-faults.ensures) ∙ e in cc);
   up_to = λ none opened told. (rw (c.in_ok-values.ensures.items, c.new-report.ensures, c.new-faults.ensures) (none-yet g.K.Sink.bytes c.args.stages.now c.requires.tree opened c.args.works.now c.args.works.now));
@@ -55,13 +55,12 @@ pub returns-in_err-views-clause-later : goal.returns-in_err-views-clause-later
 returns-in_err-views-clause-later g c =
     let s = g.S.Source in
     let bytes = g.K.Sink.bytes in
-    let faults = faults_of s.faults g.K.Sink.faults in
     let works = c.loop-i.works in
     let i = c.loop-i.i in
     let w = c.stage_views.new.work in
     let inside-works : i < length works = (let a = c.loop-i.auto.works in let b = c.requires.count in let t = c.loop-i-test.true in omega (arith, a, b, t)) in
-    are-later faults c.args.works.now (set works i w)
-    (one-later faults c.args.works.now works i _ w c.loop-i.invariant.after (slice_get-get_or works i c.index-works-i.result inside-works) c.stage_views.ensures.after)
+    are-later g.P.PlugFilter g.Q.PlugTally (faults_of s.faults g.K.Sink.faults) c.args.works.now (set works i w)
+    (one-later g.P.PlugFilter g.Q.PlugTally (faults_of s.faults g.K.Sink.faults) c.args.works.now works i _ w c.loop-i.invariant.after (slice_get-get_or works i c.index-works-i.result inside-works) c.stage_views.ensures.after)
 
 pub push-requires : goal.push-requires
 push-requires g c =
@@ -94,7 +93,8 @@ loop-i-preserved g c =
     let v = get_or works i c.index-works-i.result in
     let w = c.stage_views.new.work in
     let given = c.in_ok-views.field-0 in
-    let faults = faults_of g.S.Source.faults g.K.Sink.faults in
+    let fs = g.P.PlugFilter in
+    let ts = g.Q.PlugTally in
     let lt : i < length stages = c.loop-i-test.true in
     let inside-works : i < length works = (let a = c.loop-i.auto.works in let b = c.requires.count in omega (arith, a, b, lt)) in
     let at : slice_get works i ≡ Some v = slice_get-get_or works i c.index-works-i.result inside-works in
@@ -107,8 +107,13 @@ loop-i-preserved g c =
     let here = get_or-set_same works i w _ inside-works in
     let wrote : c.written.result ≡ written_by w = c.written.ensures ∙ ap written_by here in
     let files : c.files.result ≡ files_by w = c.files.ensures ∙ ap files_by here in
-    let counted : c.push.new.self.items ≡ c.loop-i.report.items ++ count_for i t given.views (written_by w) (files_by w) ∷ [] =
-    c.push.ensures.items ∙ ap (λ x. c.loop-i.report.items ++ x ∷ []) (c.stage_count-count.ensures ∙ ap (λ o. count_for i t given.views o c.files.result) wrote ∙ ap (count_for i t given.views (written_by w)) files) in
+    let shown : c.shown.result ≡ shown_by w = c.shown.ensures ∙ ap shown_by here in
+    let says : c.says.result ≡ says_of ts w = c.says.ensures ∙ ap (says_of ts) here in
+    let both : c.or-wrote.result ≡ or_shown (written_by w) (shown_by w) =
+    c.or-wrote.ensures ∙ or-is c.written.result c.shown.result ∙ ap (λ o. or_shown o c.shown.result) wrote ∙ ap (or_shown (written_by w)) shown in
+    let counted : c.push.new.self.items ≡ c.loop-i.report.items ++ count_with ts i t given.views w ∷ [] =
+    c.push.ensures.items ∙ ap (λ x. c.loop-i.report.items ++ x ∷ []) (c.stage_count-count.ensures ∙ ap (λ o. count_for i t given.views o c.files.result c.says.result) both
+    ∙ ap (λ n. count_for i t given.views (or_shown (written_by w) (shown_by w)) n c.says.result) files ∙ ap (count_for i t given.views (or_shown (written_by w) (shown_by w)) (files_by w)) says) in
     let told : c.push-in-loop-i.new.self.items ≡ found ++ given.fault ∷ [] = c.push-in-loop-i.ensures.items in
     let left : length c.take_joined.new.values ≡ i = (let a = c.take_joined.auto.values in let b = ap (λ xs. length xs) c.as_mut_slice.ensures.value in omega (arith, a, b, size)) in
     record {
@@ -116,14 +121,14 @@ loop-i-preserved g c =
       room = (let a = c.push_reserved.ensures.capacity in let b = now.room in omega (arith, a, b));
       counts = ap length c.push.ensures.items ∙ length-append c.loop-i.report.items (c.stage_count-count.result ∷ []) ∙ ap (λ n. n + 1) now.counts;
       told = ap length told ∙ length-append found (given.fault ∷ []) ∙ ap (λ n. n + 1) now.told;
-      after = one-later faults old works i v w now.after at c.stage_views.ensures.after;
+      after = one-later fs ts (faults_of g.S.Source.faults g.K.Sink.faults) old works i v w now.after at c.stage_views.ensures.after;
       rest = λ j le. stays-elsewhere works i j w (λ e. absurd (omega (arith, le, e))) ∙ now.rest j (omega (arith, le));
-      caused = subst (AreCaused faults old (set works i w)) (sym told) (caused-more faults old works found i v w given.fault now.told was at c.in_ok-views.ensures.caused now.caused);
+      caused = subst (AreCaused (faults_of g.S.Source.faults g.K.Sink.faults) old (set works i w)) (sym told) (caused-more (faults_of g.S.Source.faults g.K.Sink.faults) old works found i v w given.fault now.told was at c.in_ok-views.ensures.caused now.caused);
       up_to = λ none opened tell.
           let calm = none-with found given.fault (subst NoneFailed told none) in
-          let gave : IsGivenBy g.K.Sink.bytes (role_at stages i) (row_at stages opened i) (las_at stages opened i) c.in_ok-taken.taken w given =
-          c.in_ok-views.ensures.ok calm.1 (role_at stages i) (row_at stages opened i) (las_at stages opened i) (all-fit g.S.Source g.K.Sink.bytes stages old c.requires.starts opened tell i v was) (las-told g.S.Source g.K.Sink.bytes stages old c.requires.starts opened i v tell was) in
-          one-more g.K.Sink.bytes stages c.requires.tree opened old i lt values c.loop-i.report.items found works (now.up_to calm.0 opened tell) size t there-now c.in_ok-taken.taken input w given gave
+          let gave : IsGivenBy g.K.Sink.bytes ts (role_at stages i) (row_at stages opened i) (las_at stages opened i) c.in_ok-taken.taken w given =
+          c.in_ok-views.ensures.ok calm.1 (role_at stages i) (row_at stages opened i) (las_at stages opened i) (all-fit g.S.Source fs ts g.K.Sink.bytes stages old c.requires.starts opened tell i v was) (las-told g.S.Source fs ts g.K.Sink.bytes stages old c.requires.starts opened i v tell.told was) in
+          one-more g.K.Sink.bytes stages c.requires.tree opened old i lt values c.loop-i.report.items found works (now.up_to calm.0 opened tell) size ts t there-now c.in_ok-taken.taken input w given gave
           c.take_joined.new.values c.push_reserved.new.self.items c.push.new.self.items c.push-in-loop-i.new.self.items (set works i w) left
           (λ j away. c.in_ok-taken.ensures.others j (ap (λ js. has js j) (sym ins) ∙ away) ∙ ap (λ vs. slice_get vs j) c.as_mut_slice.ensures.value)
           (c.push_reserved.ensures.items ∙ ap (λ vs. vs ++ given.views ∷ []) (front c.take_joined.new.values (drop (length c.take_joined.new.values) values) c.loop-i.values.len (left ∙ sym now.values)))
@@ -132,10 +137,10 @@ loop-i-preserved g c =
     }
 
 pub returns-in_err-taken-clause-later : goal.returns-in_err-taken-clause-later
-returns-in_err-taken-clause-later g c = are-later (faults_of g.S.Source.faults g.K.Sink.faults) c.args.works.now c.loop-i.works c.loop-i.invariant.after
+returns-in_err-taken-clause-later g c = are-later g.P.PlugFilter g.Q.PlugTally (faults_of g.S.Source.faults g.K.Sink.faults) c.args.works.now c.loop-i.works c.loop-i.invariant.after
 
 pub returns-clause-later : goal.returns-clause-later
-returns-clause-later g c = are-later (faults_of g.S.Source.faults g.K.Sink.faults) c.args.works.now c.loop-i.works c.loop-i.invariant.after
+returns-clause-later g c = are-later g.P.PlugFilter g.Q.PlugTally (faults_of g.S.Source.faults g.K.Sink.faults) c.args.works.now c.loop-i.works c.loop-i.invariant.after
 
 pub returns-clause-ended : goal.returns-clause-ended
 returns-clause-ended g c =
@@ -153,6 +158,6 @@ returns-clause-ended g c =
       count = now.told ∙ all;
       caused = now.caused;
       faulty = λ none opened tell i lt. (now.up_to none opened tell).faults i (omega (arith, all, lt));
-      sound = λ quiet opened tell. came s k.bytes stages old c.requires.starts (faults_of s.faults k.faults) works now.after opened counts tell
+      sound = λ quiet opened tell. came s g.P.PlugFilter g.Q.PlugTally k.bytes stages old c.requires.starts (faults_of s.faults k.faults) works now.after opened counts tell.told
           (all-done k.bytes stages c.requires.tree opened old c.loop-i.i c.loop-i.values.items counts found works all now.counts size (now.up_to (λ j. ap is_device (quiet j)) opened tell) quiet);
     }

@@ -5,7 +5,7 @@ use Rattle.run_outcome.specs.Faults.{NoneFailed}
 use Rattle.stage_kinds.specs.Held.{faults_of}
 use Rattle.set_engine.proofs.Values.{AreAfter}
 use Rattle.set_engine.specs.Evaluated.{AreCaused}
-use Rattle.stage_forms.specs.Starts.{AreTold}
+use Rattle.stage_forms.specs.Starts.{AreGiven}
 use Rattle.set_engine.proofs.UpTo.{AreUpTo}
 use Rattle.set_engine.proofs.evaluating.evaluate_stages.Given as goal
 
@@ -19,8 +19,8 @@ invariant-loop-i g l =
       room : length l.stages ≤ vec_capacity l.values;
       counts : length l.report.items ≡ l.i;
       told : length found ≡ l.i;
-      after : AreAfter faults l.fn.works l.works;
+      after : AreAfter g.P.PlugFilter g.Q.PlugTally faults l.fn.works l.works;
       rest : (j : ℕ) → l.i ≤ j → slice_get l.works j ≡ slice_get l.fn.works j;
       caused : AreCaused faults l.fn.works l.works found;
-      up_to : NoneFailed found → (opened : Opened) → AreTold g.S.Source l.fn.works opened → AreUpTo g.K.Sink.bytes l.stages opened l.fn.works l.i l.values.items l.report.items found l.works;
+      up_to : NoneFailed found → (opened : Opened) → AreGiven g.S.Source g.P.PlugFilter g.Q.PlugTally l.stages l.fn.works opened → AreUpTo g.K.Sink.bytes l.stages opened l.fn.works l.i l.values.items l.report.items found l.works;
     }

@@ -7,4 +7,6 @@ returns c = record {
   filter_fault = streams.filter_fault;
   writer_gives = streams.writer_gives;
   writer_fault = streams.writer_fault;
+  plug_gives = streams.plug_gives;
+  tally_gives = streams.tally_gives;
 }

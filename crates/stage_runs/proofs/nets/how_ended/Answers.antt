@@ -17,7 +17,7 @@ returns-then-any_fault-clause-enough_then g c = λ e. c.any_short.ensures.enough
 
 pub returns-else-any_fault-clause-done : goal.returns-else-any_fault-clause-done
 returns-else-any_fault-clause-done g c =
-    subst (λ stop. CameToEnd (as_works g.S.Source g.K.Sink) stop c.args.nodes.now) (sym c.in-First.is ∙ c.stop.ensures) (c.any_fault.ensures.none c.if-any_fault.false)
+    subst (λ stop. CameToEnd (as_works g.S.Source g.K.Sink g.P.PlugFilter g.Q.PlugTally) stop c.args.nodes.now) (sym c.in-First.is ∙ c.stop.ensures) (c.any_fault.ensures.none c.if-any_fault.false)
 
 pub returns-else-any_fault-clause-enough : goal.returns-else-any_fault-clause-enough
 returns-else-any_fault-clause-enough g c = c.any_short.ensures.enough c.if-any_short.false

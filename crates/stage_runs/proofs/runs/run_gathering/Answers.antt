@@ -14,8 +14,8 @@ pub loop-at-init : goal.loop-at-init
 loop-at-init g c =
     let new = c.requires.new in
     record {
-      later = same-later g.S.Source g.K.Sink (ins_of c.args.stages.now) c.args.nodes.now (λ i n e. subst (λ xs. IsFresh (shown (as_works g.S.Source g.K.Sink) xs n)) (sym (children-are c.args.stages.now i)) (new.fresh i n e));
-      done = at-first g.S.Source g.K.Sink c.args.stages.now c.requires.tree c.requires.new c.args.plan.now c.requires.gathers c.requires.ins c.requires.homes (g.T.Scheduler.besides c.args.sizes.queue);
+      later = same-later g.S.Source g.K.Sink g.P.PlugFilter g.Q.PlugTally (ins_of c.args.stages.now) c.args.nodes.now (λ i n e. subst (λ xs. IsFresh (shown (as_works g.S.Source g.K.Sink g.P.PlugFilter g.Q.PlugTally) xs n)) (sym (children-are c.args.stages.now i)) (new.fresh i n e));
+      done = at-first g.S.Source g.K.Sink g.P.PlugFilter g.Q.PlugTally c.args.stages.now c.requires.tree c.requires.new c.args.plan.now c.requires.gathers c.requires.ins c.requires.homes (g.T.Scheduler.besides c.args.sizes.queue);
       turned = refl;
     }
 
@@ -25,6 +25,12 @@ index-requires g c =
     let plan = c.args.plan.now in
     let is = c.requires in
     subst (λ n. c.loop-at.at < n) (sym plan.gathers.ok.0) (gathers-inside stages plan.gathers.items is.gathers c.loop-at.at c.loop-at-test.true)
+
+pub overflow_cast-at : goal.overflow_cast-at
+overflow_cast-at g c =
+    let few = few-stages c.args.stages.now c.requires.tree in
+    let inside = c.loop-at-test.true in
+    omega (arith, few, inside)
 
 pub overflow_cast-at-then-index : goal.overflow_cast-at-then-index
 overflow_cast-at-then-index g c =
@@ -67,7 +73,7 @@ new-requires-clause-homes g c =
     homes-size stages plan.homes.items is.homes ∙ sym many
 
 pub returns-in_err-room-clause-gathers : goal.returns-in_err-room-clause-gathers
-returns-in_err-room-clause-gathers g c = λ halted. gathers-one g.S.Source g.K.Sink c.args.stages.now c.requires.tree c.requires.new c.args.plan.now c.requires.gathers c.requires.ins c.requires.homes (g.T.Scheduler.besides c.args.sizes.queue) c.loop-at.at c.loop-at.invariant.later c.loop-at.invariant.done c.loop-at-test.true c.index.ensures c.if-index.true
+returns-in_err-room-clause-gathers g c = λ halted. gathers-one g.S.Source g.K.Sink g.P.PlugFilter g.Q.PlugTally c.args.stages.now c.requires.tree c.requires.new c.args.plan.now c.requires.gathers c.requires.ins c.requires.homes (g.T.Scheduler.besides c.args.sizes.queue) c.loop-at.at c.loop-at.invariant.later c.loop-at.invariant.done c.loop-at-test.true c.index.ensures c.if-index.true
 
 pub run_part-requires-clause-room : goal.run_part-requires-clause-room
 run_part-requires-clause-room g c = c.in_ok-room.ensures
@@ -91,44 +97,50 @@ run_part-requires-clause-homes g c =
     homes-size stages plan.homes.items is.homes ∙ sym count
 
 pub run_part-requires-clause-forest : goal.run_part-requires-clause-forest
-run_part-requires-clause-forest g c = part-forest g.S.Source g.K.Sink c.args.stages.now c.requires.tree c.requires.new c.args.plan.now c.requires.gathers c.requires.ins c.requires.homes (g.T.Scheduler.besides c.args.sizes.queue) c.loop-at.at c.loop-at.invariant.later c.loop-at.invariant.done c.loop-at-test.true c.index.ensures c.if-index.true
+run_part-requires-clause-forest g c = part-forest g.S.Source g.K.Sink g.P.PlugFilter g.Q.PlugTally c.args.stages.now c.requires.tree c.requires.new c.args.plan.now c.requires.gathers c.requires.ins c.requires.homes (g.T.Scheduler.besides c.args.sizes.queue) c.loop-at.at c.loop-at.invariant.later c.loop-at.invariant.done c.loop-at-test.true c.index.ensures c.if-index.true
 
 pub run_part-requires-clause-fresh : goal.run_part-requires-clause-fresh
-run_part-requires-clause-fresh g c = part-fresh g.S.Source g.K.Sink c.args.stages.now c.requires.tree c.requires.new c.args.plan.now c.requires.gathers c.requires.ins c.requires.homes (g.T.Scheduler.besides c.args.sizes.queue) c.loop-at.at c.loop-at.invariant.later c.loop-at.invariant.done c.loop-at-test.true c.index.ensures c.if-index.true
+run_part-requires-clause-fresh g c = part-fresh g.S.Source g.K.Sink g.P.PlugFilter g.Q.PlugTally c.args.stages.now c.requires.tree c.requires.new c.args.plan.now c.requires.gathers c.requires.ins c.requires.homes (g.T.Scheduler.besides c.args.sizes.queue) c.loop-at.at c.loop-at.invariant.later c.loop-at.invariant.done c.loop-at-test.true c.index.ensures c.if-index.true
 
 pub run_part-requires-clause-inputs : goal.run_part-requires-clause-inputs
-run_part-requires-clause-inputs g c = part-inputs g.S.Source g.K.Sink c.args.stages.now c.requires.tree c.requires.new c.args.plan.now c.requires.gathers c.requires.ins c.requires.homes (g.T.Scheduler.besides c.args.sizes.queue) c.loop-at.at c.loop-at.invariant.later c.loop-at.invariant.done c.loop-at-test.true c.index.ensures c.if-index.true
+run_part-requires-clause-inputs g c = part-inputs g.S.Source g.K.Sink g.P.PlugFilter g.Q.PlugTally c.args.stages.now c.requires.tree c.requires.new c.args.plan.now c.requires.gathers c.requires.ins c.requires.homes (g.T.Scheduler.besides c.args.sizes.queue) c.loop-at.at c.loop-at.invariant.later c.loop-at.invariant.done c.loop-at-test.true c.index.ensures c.if-index.true
 
 pub returns-in_err-run_part-clause-later : goal.returns-in_err-run_part-clause-later
 returns-in_err-run_part-clause-later g c =
     let s = g.S.Source in
     let k = g.K.Sink in
-    step-later s k c.args.nodes.now c.loop-at.nodes c.run_part.new.nodes c.loop-at.invariant.later c.run_part.ensures.later
+    let fs = g.P.PlugFilter in
+    let ts = g.Q.PlugTally in
+    step-later s k fs ts c.args.nodes.now c.loop-at.nodes c.run_part.new.nodes c.loop-at.invariant.later c.run_part.ensures.later
 
 pub returns-in_err-run_part-clause-gathers : goal.returns-in_err-run_part-clause-gathers
-returns-in_err-run_part-clause-gathers g c = λ halted. gathers-one g.S.Source g.K.Sink c.args.stages.now c.requires.tree c.requires.new c.args.plan.now c.requires.gathers c.requires.ins c.requires.homes (g.T.Scheduler.besides c.args.sizes.queue) c.loop-at.at c.loop-at.invariant.later c.loop-at.invariant.done c.loop-at-test.true c.index.ensures c.if-index.true
+returns-in_err-run_part-clause-gathers g c = λ halted. gathers-one g.S.Source g.K.Sink g.P.PlugFilter g.Q.PlugTally c.args.stages.now c.requires.tree c.requires.new c.args.plan.now c.requires.gathers c.requires.ins c.requires.homes (g.T.Scheduler.besides c.args.sizes.queue) c.loop-at.at c.loop-at.invariant.later c.loop-at.invariant.done c.loop-at-test.true c.index.ensures c.if-index.true
 
 pub returns-in_err-run_part-clause-stopped : goal.returns-in_err-run_part-clause-stopped
-returns-in_err-run_part-clause-stopped g c = λ halted. turn-stopped g.S.Source g.K.Sink c.args.stages.now c.requires.tree c.requires.new c.args.plan.now c.requires.gathers c.requires.ins c.requires.homes (g.T.Scheduler.besides c.args.sizes.queue) c.loop-at.at c.loop-at.invariant.later c.loop-at.invariant.done c.loop-at-test.true c.index.ensures c.if-index.true c.args.sizes.queue c.args.sizes.chunk (c.run_part.ensures.stopped (
+returns-in_err-run_part-clause-stopped g c = λ halted. turn-stopped g.S.Source g.K.Sink g.P.PlugFilter g.Q.PlugTally c.args.stages.now c.requires.tree c.requires.new c.args.plan.now c.requires.gathers c.requires.ins c.requires.homes (g.T.Scheduler.besides c.args.sizes.queue) c.loop-at.at c.loop-at.invariant.later c.loop-at.invariant.done c.loop-at-test.true c.index.ensures c.if-index.true c.args.sizes.queue c.args.sizes.chunk (c.run_part.ensures.stopped (
     let p = err_from_is_err_and c.from_residual-in_err-run_part.result c.from_residual-in_err-run_part.ensures.1 in
     c.in_err-run_part.was ∙ ap Err (sym p.2) ∙ sym p.1 ∙ halted))
 
 pub gather_at-requires-clause-collects : goal.gather_at-requires-clause-collects
-gather_at-requires-clause-collects g c = collects g.S.Source g.K.Sink c.args.stages.now c.requires.tree c.requires.new c.args.plan.now c.requires.gathers c.requires.ins c.requires.homes (g.T.Scheduler.besides c.args.sizes.queue) c.loop-at.at c.loop-at.invariant.later c.loop-at.invariant.done c.loop-at-test.true c.index.ensures c.if-index.true c.in_ok-run_part.ensures.run
+gather_at-requires-clause-collects g c = collects g.S.Source g.K.Sink g.P.PlugFilter g.Q.PlugTally c.args.stages.now c.requires.tree c.requires.new c.args.plan.now c.requires.gathers c.requires.ins c.requires.homes (g.T.Scheduler.besides c.args.sizes.queue) c.loop-at.at c.loop-at.invariant.later c.loop-at.invariant.done c.loop-at-test.true c.index.ensures c.if-index.true c.in_ok-run_part.ensures.run
 
 pub returns-in_err-gather_at-clause-later : goal.returns-in_err-gather_at-clause-later
 returns-in_err-gather_at-clause-later g c =
     let s = g.S.Source in
     let k = g.K.Sink in
-    step-later s k c.args.nodes.now c.run_part.new.nodes c.gather_at.new.nodes (step-later s k c.args.nodes.now c.loop-at.nodes c.run_part.new.nodes c.loop-at.invariant.later c.run_part.ensures.later) c.gather_at.ensures.later
+    let fs = g.P.PlugFilter in
+    let ts = g.Q.PlugTally in
+    step-later s k fs ts c.args.nodes.now c.run_part.new.nodes c.gather_at.new.nodes (step-later s k fs ts c.args.nodes.now c.loop-at.nodes c.run_part.new.nodes c.loop-at.invariant.later c.run_part.ensures.later) c.gather_at.ensures.later
 
 pub returns-in_err-gather_at-clause-gathers : goal.returns-in_err-gather_at-clause-gathers
-returns-in_err-gather_at-clause-gathers g c = λ halted. gathers-one g.S.Source g.K.Sink c.args.stages.now c.requires.tree c.requires.new c.args.plan.now c.requires.gathers c.requires.ins c.requires.homes (g.T.Scheduler.besides c.args.sizes.queue) c.loop-at.at c.loop-at.invariant.later c.loop-at.invariant.done c.loop-at-test.true c.index.ensures c.if-index.true
+returns-in_err-gather_at-clause-gathers g c = λ halted. gathers-one g.S.Source g.K.Sink g.P.PlugFilter g.Q.PlugTally c.args.stages.now c.requires.tree c.requires.new c.args.plan.now c.requires.gathers c.requires.ins c.requires.homes (g.T.Scheduler.besides c.args.sizes.queue) c.loop-at.at c.loop-at.invariant.later c.loop-at.invariant.done c.loop-at-test.true c.index.ensures c.if-index.true
 
 pub loop-at-preserved : goal.loop-at-preserved
 loop-at-preserved g c =
     let s = g.S.Source in
     let k = g.K.Sink in
+    let fs = g.P.PlugFilter in
+    let ts = g.Q.PlugTally in
     let stages = c.args.stages.now in
     let homes = c.args.plan.now.homes.items in
     let old = c.args.nodes.now in
@@ -136,33 +148,33 @@ loop-at-preserved g c =
     let now = c.loop-at.nodes in
     let at = c.loop-at.at in
     elim c.if-index.branch [
-      | then-index+in_ok-room+in_ok-run_part+in_ok-gather_at w ↦ subst (λ ns. record { later : AreLaterNodes s k old ns; done : AreRunBefore s k stages homes old (at + 1) ns; turned : AreTurned s k stages homes old besides (at + 1) ns }) (sym w.nodes-is) (record {
-        later = step-later s k old w.run_part.new.nodes w.gather_at.new.nodes (step-later s k old now w.run_part.new.nodes c.loop-at.invariant.later w.run_part.ensures.later) w.gather_at.ensures.later;
-        done = taken-turn g.S.Source g.K.Sink c.args.stages.now c.requires.tree c.requires.new c.args.plan.now c.requires.gathers c.requires.ins c.requires.homes (g.T.Scheduler.besides c.args.sizes.queue) c.loop-at.at c.loop-at.invariant.later c.loop-at.invariant.done c.loop-at-test.true c.index.ensures w.if-index.true w.in_ok-run_part.ensures.run w.in_ok-gather_at.ensures.gathered;
-        turned = turned-on g.S.Source g.K.Sink c.args.stages.now c.requires.tree c.requires.new c.args.plan.now c.requires.gathers c.requires.ins c.requires.homes (g.T.Scheduler.besides c.args.sizes.queue) c.loop-at.at c.loop-at.invariant.later c.loop-at.invariant.done c.loop-at-test.true c.index.ensures w.if-index.true w.in_ok-run_part.ensures.run w.in_ok-gather_at.ensures.gathered c.loop-at.invariant.turned;
+      | then-index+in_ok-room+in_ok-run_part+in_ok-gather_at w ↦ subst (λ ns. record { later : AreLaterNodes s k fs ts old ns; done : AreRunBefore s k fs ts stages homes old (at + 1) ns; turned : AreTurned s k fs ts stages homes old besides (at + 1) ns }) (sym w.nodes-is) (record {
+        later = step-later s k fs ts old w.run_part.new.nodes w.gather_at.new.nodes (step-later s k fs ts old now w.run_part.new.nodes c.loop-at.invariant.later w.run_part.ensures.later) w.gather_at.ensures.later;
+        done = taken-turn g.S.Source g.K.Sink g.P.PlugFilter g.Q.PlugTally c.args.stages.now c.requires.tree c.requires.new c.args.plan.now c.requires.gathers c.requires.ins c.requires.homes (g.T.Scheduler.besides c.args.sizes.queue) c.loop-at.at c.loop-at.invariant.later c.loop-at.invariant.done c.loop-at-test.true c.index.ensures w.if-index.true w.in_ok-run_part.ensures.run w.in_ok-gather_at.ensures.gathered;
+        turned = turned-on g.S.Source g.K.Sink g.P.PlugFilter g.Q.PlugTally c.args.stages.now c.requires.tree c.requires.new c.args.plan.now c.requires.gathers c.requires.ins c.requires.homes (g.T.Scheduler.besides c.args.sizes.queue) c.loop-at.at c.loop-at.invariant.later c.loop-at.invariant.done c.loop-at-test.true c.index.ensures w.if-index.true w.in_ok-run_part.ensures.run w.in_ok-gather_at.ensures.gathered c.loop-at.invariant.turned;
       })
-      | else-index w ↦ subst (λ ns. record { later : AreLaterNodes s k old ns; done : AreRunBefore s k stages homes old (at + 1) ns; turned : AreTurned s k stages homes old besides (at + 1) ns }) (sym w.nodes-is) (record {
+      | else-index w ↦ subst (λ ns. record { later : AreLaterNodes s k fs ts old ns; done : AreRunBefore s k fs ts stages homes old (at + 1) ns; turned : AreTurned s k fs ts stages homes old besides (at + 1) ns }) (sym w.nodes-is) (record {
         later = c.loop-at.invariant.later;
-        done = skipped g.S.Source g.K.Sink c.args.stages.now c.requires.tree c.requires.new c.args.plan.now c.requires.gathers c.requires.ins c.requires.homes (g.T.Scheduler.besides c.args.sizes.queue) c.loop-at.at c.loop-at.invariant.later c.loop-at.invariant.done c.loop-at-test.true c.index.ensures w.if-index.false;
-        turned = turned-over g.S.Source g.K.Sink c.args.stages.now c.requires.tree c.requires.new c.args.plan.now c.requires.gathers c.requires.ins c.requires.homes (g.T.Scheduler.besides c.args.sizes.queue) c.loop-at.at c.loop-at.invariant.later c.loop-at.invariant.done c.loop-at-test.true c.index.ensures w.if-index.false c.loop-at.invariant.turned;
+        done = skipped g.S.Source g.K.Sink g.P.PlugFilter g.Q.PlugTally c.args.stages.now c.requires.tree c.requires.new c.args.plan.now c.requires.gathers c.requires.ins c.requires.homes (g.T.Scheduler.besides c.args.sizes.queue) c.loop-at.at c.loop-at.invariant.later c.loop-at.invariant.done c.loop-at-test.true c.index.ensures w.if-index.false;
+        turned = turned-over g.S.Source g.K.Sink g.P.PlugFilter g.Q.PlugTally c.args.stages.now c.requires.tree c.requires.new c.args.plan.now c.requires.gathers c.requires.ins c.requires.homes (g.T.Scheduler.besides c.args.sizes.queue) c.loop-at.at c.loop-at.invariant.later c.loop-at.invariant.done c.loop-at-test.true c.index.ensures w.if-index.false c.loop-at.invariant.turned;
       })
     ]
 
 pub returns-clause-done : goal.returns-clause-done
 returns-clause-done g c =
     let at-end : c.loop-at.at ≡ length c.args.stages.now = (let a = c.loop-at.auto.at-end in let b = c.loop-at-test.false in omega (arith, a, b)) in
-    subst (λ n. AreRunBefore g.S.Source g.K.Sink c.args.stages.now c.args.plan.now.homes.items c.args.nodes.now n c.loop-at.nodes) at-end c.loop-at.invariant.done
+    subst (λ n. AreRunBefore g.S.Source g.K.Sink g.P.PlugFilter g.Q.PlugTally c.args.stages.now c.args.plan.now.homes.items c.args.nodes.now n c.loop-at.nodes) at-end c.loop-at.invariant.done
 
 pub returns-clause-turned : goal.returns-clause-turned
 returns-clause-turned g c =
     let at-end : c.loop-at.at ≡ length c.args.stages.now = (let a = c.loop-at.auto.at-end in let b = c.loop-at-test.false in omega (arith, a, b)) in
-    subst (λ n. AreTurned g.S.Source g.K.Sink c.args.stages.now c.args.plan.now.homes.items c.args.nodes.now (g.T.Scheduler.besides c.args.sizes.queue) n c.loop-at.nodes) at-end c.loop-at.invariant.turned
+    subst (λ n. AreTurned g.S.Source g.K.Sink g.P.PlugFilter g.Q.PlugTally c.args.stages.now c.args.plan.now.homes.items c.args.nodes.now (g.T.Scheduler.besides c.args.sizes.queue) n c.loop-at.nodes) at-end c.loop-at.invariant.turned
 
 pub returns-in_err-room-clause-known : goal.returns-in_err-room-clause-known
-returns-in_err-room-clause-known g c = λ halted. gathers-one g.S.Source g.K.Sink c.args.stages.now c.requires.tree c.requires.new c.args.plan.now c.requires.gathers c.requires.ins c.requires.homes (g.T.Scheduler.besides c.args.sizes.queue) c.loop-at.at c.loop-at.invariant.later c.loop-at.invariant.done c.loop-at-test.true c.index.ensures c.if-index.true
+returns-in_err-room-clause-known g c = λ halted. gathers-one g.S.Source g.K.Sink g.P.PlugFilter g.Q.PlugTally c.args.stages.now c.requires.tree c.requires.new c.args.plan.now c.requires.gathers c.requires.ins c.requires.homes (g.T.Scheduler.besides c.args.sizes.queue) c.loop-at.at c.loop-at.invariant.later c.loop-at.invariant.done c.loop-at-test.true c.index.ensures c.if-index.true
 
 pub returns-in_err-run_part-clause-known : goal.returns-in_err-run_part-clause-known
-returns-in_err-run_part-clause-known g c = λ halted. gathers-one g.S.Source g.K.Sink c.args.stages.now c.requires.tree c.requires.new c.args.plan.now c.requires.gathers c.requires.ins c.requires.homes (g.T.Scheduler.besides c.args.sizes.queue) c.loop-at.at c.loop-at.invariant.later c.loop-at.invariant.done c.loop-at-test.true c.index.ensures c.if-index.true
+returns-in_err-run_part-clause-known g c = λ halted. gathers-one g.S.Source g.K.Sink g.P.PlugFilter g.Q.PlugTally c.args.stages.now c.requires.tree c.requires.new c.args.plan.now c.requires.gathers c.requires.ins c.requires.homes (g.T.Scheduler.besides c.args.sizes.queue) c.loop-at.at c.loop-at.invariant.later c.loop-at.invariant.done c.loop-at-test.true c.index.ensures c.if-index.true
 
 pub returns-in_err-gather_at-clause-known : goal.returns-in_err-gather_at-clause-known
-returns-in_err-gather_at-clause-known g c = λ halted. gathers-one g.S.Source g.K.Sink c.args.stages.now c.requires.tree c.requires.new c.args.plan.now c.requires.gathers c.requires.ins c.requires.homes (g.T.Scheduler.besides c.args.sizes.queue) c.loop-at.at c.loop-at.invariant.later c.loop-at.invariant.done c.loop-at-test.true c.index.ensures c.if-index.true
+returns-in_err-gather_at-clause-known g c = λ halted. gathers-one g.S.Source g.K.Sink g.P.PlugFilter g.Q.PlugTally c.args.stages.now c.requires.tree c.requires.new c.args.plan.now c.requires.gathers c.requires.ins c.requires.homes (g.T.Scheduler.besides c.args.sizes.queue) c.loop-at.at c.loop-at.invariant.later c.loop-at.invariant.done c.loop-at-test.true c.index.ensures c.if-index.true

@@ -1,4 +1,4 @@
-use Rattle.std.proofs.Common.{◌≡◌, ℕ, ◌+◌, ◌<◌, ◌++◌, [], ◌∷◌, length, take, get_or, ap, sym, ◌∙◌, append-nil, arith}
+use Rattle.std.proofs.Common.{◌≡◌, ◌+◌, ◌<◌, ◌++◌, [], ◌∷◌, length, take, get_or, ap, sym, ◌∙◌, append-nil, arith}
 use Rattle.std.proofs.lemmas.List.{length-append}
 use Rattle.plug_stages.specs.Classes.{came_from, spaced}
 use Rattle.plug_stages.specs.Printing.{are_printable}

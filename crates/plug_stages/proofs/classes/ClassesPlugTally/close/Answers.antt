@@ -1,4 +1,4 @@
-use Rattle.std.proofs.Common.{◌≡◌, ◌++◌, take, ap, sym, ◌∙◌}
+use Rattle.std.proofs.Common.{◌++◌, take, ap, sym, ◌∙◌}
 use Rattle.plug_stages.specs.Classes.{came_from, rest_text, spaced}
 use Rattle.plug_stages.proofs.Counting.{text_of_counts}
 use Rattle.plug_stages.proofs.classes.ClassesPlugTally.close.Goals as goal

@@ -1,5 +1,6 @@
-use Rattle.std.proofs.Common.{ap, ◌∙◌}
+use Rattle.std.proofs.Common.{ap, ◌∙◌, arith}
 use Rattle.stage_parts.specs.Parts.{part_ins}
+use Rattle.stage_runs.proofs.Later.{leaf-empty}
 use Rattle.stage_runs.proofs.rooms.PartRoom.new.Goals as goal
 
 pub returns-in-Ok : goal.returns-in-Ok
@@ -14,4 +15,7 @@ returns-in-Ok g c =
     }
 
 pub let_go-requires : goal.let_go-requires
-let_go-requires g c = λ i n e. (c.in_ok-net.ensures.each i n e).0.op
+let_go-requires g c = λ i n e. leaf-empty g.S.Source g.K.Sink g.P.PlugFilter g.Q.PlugTally n (c.in_ok-net.ensures.each i n e).0
+
+pub edges-requires-clause-few : goal.edges-requires-clause-few
+edges-requires-clause-few g c = let inside = c.requires.root in let few = c.requires.few in omega (arith, inside, few)
