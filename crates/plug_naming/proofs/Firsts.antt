@@ -1,5 +1,5 @@
 -- The fault of a stage is the first one where no earlier stage has one.
-use Rattle.std.proofs.Common.{◌≡◌, ◌<◌, ℕ, List, length, None, Some}
+use Rattle.std.proofs.Common.{◌≡◌, ◌<◌, ℕ, List, length, None}
 use Rattle.answer_model.proofs.Least.{least-at}
 use Rattle.answer_model.specs.Naming.{first_naming_fault, naming_fault}
 use Rattle.plug_naming.specs.First.{IsFirstFault}

@@ -1,13 +1,12 @@
 //! Whether the filters and tallies that stages name are there.
 #![tactic(auto)]
 
-ghost use Rattle.std.specs.Prelude.{◌≡◌, ◌<◌, ◌≤◌, None, Ok, IfErr, IfOk, OnOk, length, option_map};
-ghost use Rattle.answer_model.specs.Naming.{AreNamed, first_naming_fault, is_name, is_taken, name_fault, naming_fault, unnamed};
-ghost use Rattle.answer_model.specs.Values.{options_at};
+ghost use Rattle.std.specs.Prelude.{◌≡◌, ◌<◌, ◌≤◌, None, IfErr, OnOk, is_some, length, option_map};
+ghost use Rattle.answer_model.specs.Naming.{AreNamed, first_naming_fault, is_name, is_taken, naming_fault, unnamed};
 ghost use Rattle.plug_naming.specs.First.{IsFirstFault};
-ghost use Rattle.plug_stages.specs.Handed.{filter_nature, handed_by, natures_from, tally_nature_at};
+ghost use Rattle.plug_naming.specs.Kinds.{kind_fault, names_of, natures_of};
+ghost use Rattle.plug_stages.specs.Handed.{handed_by, named_in};
 ghost use Rattle.stage_names.specs.Faults.{IsFaultOf};
-ghost use Rattle.stage_options.specs.Roles.{plug_of, tally_of};
 
 use plug_stages::{Places, PlugFilter, PlugTally, has_filter, has_tally};
 use stage_names::{PipeErr, PipeFault};
@@ -24,28 +23,44 @@ fn is_name(given: Option<&str>, name: &str) -> bool
     }
 }
 
-/// Whether one of the first so many stages names this filter.
-fn is_filter_taken(stages: &[StageSpec], count: usize, name: &str) -> bool
+/// What a stage may name of a caller's.
+#[derive(Clone, Copy)]
+enum Named {
+    Filter,
+    Tally,
+}
+
+/// The name of the one that a stage names, if it names one.
+fn name_in(kind: Named, stage: &StageSpec) -> Option<&str>
+    ensures { option_map (λ s. s.now) result ≡ names_of kind stage.now.options }
+{
+    match kind {
+        Named::Filter => stage.options.plug(),
+        Named::Tally => stage.options.tally(),
+    }
+}
+
+/// Whether one of the first so many stages names this one.
+fn is_taken(kind: Named, stages: &[StageSpec], count: usize, name: &str) -> bool
     requires { count ≤ length stages.now }
-    ensures { result ≡ is_taken plug_of stages.now name.now count }
+    ensures { result ≡ is_taken (names_of kind) stages.now name.now count }
 {
     let mut taken = false;
     for at in 0..count {
-        taken = is_name(stages[at].options.plug(), name) || taken;
+        taken = is_name(name_in(kind, &stages[at]), name) || taken;
     }
     taken
 }
 
-/// Whether one of the first so many stages names this tally.
-fn is_tally_taken(stages: &[StageSpec], count: usize, name: &str) -> bool
-    requires { count ≤ length stages.now }
-    ensures { result ≡ is_taken tally_of stages.now name.now count }
+/// Whether there is one of this name.
+fn is_there<P: PlugFilter, Q: PlugTally>(kind: Named, places: &Places<P, Q>, name: &str) -> bool
+    ensures { result ≡ is_some
+        (named_in (natures_of kind (handed_by P.PlugFilter Q.PlugTally places.now)) name.now) }
 {
-    let mut taken = false;
-    for at in 0..count {
-        taken = is_name(stages[at].options.tally(), name) || taken;
+    match kind {
+        Named::Filter => has_filter(&places.filters, name),
+        Named::Tally => has_tally(&places.tallies, name),
     }
-    taken
 }
 
 /// Why a stage can't have what it names, by whether that is there, and whether an earlier stage names it.
@@ -71,57 +86,33 @@ fn check_name(
     Ok(())
 }
 
-/// Refuses exactly where a stage names a filter that isn't there, or one that an earlier stage names, and for want of memory.
-fn check_filter<P: PlugFilter>(
+/// Refuses exactly where a stage names one of this kind that isn't there, or that an earlier stage names, and for want of memory.
+fn check_kind<P: PlugFilter, Q: PlugTally>(
     alloc: Global,
+    kind: Named,
     stages: &[StageSpec],
     number: usize,
-    filters: &Vec<Option<P>>,
+    places: &Places<P, Q>,
 ) -> Result<(), PipeErr>
     requires inside { number < length stages.now }
     requires few { length stages.now ≤ 64 }
-    ensures none { OnOk result (name_fault plug_of (natures_from (filter_nature P.PlugFilter) 0 filters.now.items)
-        stages.now number (plug_of (options_at stages.now number)) ≡ None) }
-    ensures fault { IfErr result (IsFaultOf (name_fault plug_of
-        (natures_from (filter_nature P.PlugFilter) 0 filters.now.items)
-        stages.now number (plug_of (options_at stages.now number)))) }
+    ensures none { OnOk result
+        (kind_fault kind (handed_by P.PlugFilter Q.PlugTally places.now) stages.now number ≡ None) }
+    ensures fault { IfErr result
+        (IsFaultOf (kind_fault kind (handed_by P.PlugFilter Q.PlugTally places.now) stages.now number)) }
 {
-    match stages[number].options.plug() {
+    match name_in(kind, &stages[number]) {
         Some(name) => {
-            let there = has_filter(filters, name);
-            let taken = is_filter_taken(stages, number, name);
+            let there = is_there(kind, places, name);
+            let taken = is_taken(kind, stages, number, name);
             check_name(alloc, number, there, taken, name)
         }
         None => Ok(()),
     }
 }
 
-/// The same of a tally.
-fn check_tally<Q: PlugTally>(
-    alloc: Global,
-    stages: &[StageSpec],
-    number: usize,
-    tallies: &Vec<Option<Q>>,
-) -> Result<(), PipeErr>
-    requires inside { number < length stages.now }
-    requires few { length stages.now ≤ 64 }
-    ensures none { OnOk result (name_fault tally_of (natures_from (tally_nature_at Q.PlugTally) 0 tallies.now.items)
-        stages.now number (tally_of (options_at stages.now number)) ≡ None) }
-    ensures fault { IfErr result (IsFaultOf (name_fault tally_of
-        (natures_from (tally_nature_at Q.PlugTally) 0 tallies.now.items)
-        stages.now number (tally_of (options_at stages.now number)))) }
-{
-    match stages[number].options.tally() {
-        Some(name) => {
-            let there = has_tally(tallies, name);
-            let taken = is_tally_taken(stages, number, name);
-            check_name(alloc, number, there, taken, name)
-        }
-        None => Ok(()),
-    }
-}
-
-/// Refuses exactly where a stage names a filter or a tally that isn't there, or one that an earlier stage names, and for want of memory.
+/// Refuses exactly where a stage names a filter or a tally that isn't there, or one that an earlier stage names, and for want of
+/// memory.
 fn check_stage<P: PlugFilter, Q: PlugTally>(
     alloc: Global,
     stages: &[StageSpec],
@@ -130,12 +121,13 @@ fn check_stage<P: PlugFilter, Q: PlugTally>(
 ) -> Result<(), PipeErr>
     requires inside { number < length stages.now }
     requires few { length stages.now ≤ 64 }
-    ensures none { OnOk result (naming_fault (handed_by P.PlugFilter Q.PlugTally places.now) stages.now number ≡ None) }
-    ensures fault { IfErr result (IsFaultOf
-        (naming_fault (handed_by P.PlugFilter Q.PlugTally places.now) stages.now number)) }
+    ensures none { OnOk result
+        (naming_fault (handed_by P.PlugFilter Q.PlugTally places.now) stages.now number ≡ None) }
+    ensures fault { IfErr result
+        (IsFaultOf (naming_fault (handed_by P.PlugFilter Q.PlugTally places.now) stages.now number)) }
 {
-    match check_filter(alloc, stages, number, &places.filters) {
-        Ok(()) => check_tally(alloc, stages, number, &places.tallies),
+    match check_kind(alloc, Named::Filter, stages, number, places) {
+        Ok(()) => check_kind(alloc, Named::Tally, stages, number, places),
         Err(error) => Err(error),
     }
 }

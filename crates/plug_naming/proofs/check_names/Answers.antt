@@ -1,4 +1,4 @@
-use Rattle.std.proofs.Common.{◌<◌, length, arith}
+use Rattle.std.proofs.Common.{arith}
 use Rattle.plug_naming.proofs.Firsts.{first-fault}
 use Rattle.plug_stages.specs.Handed.{handed_by}
 use Rattle.plug_naming.proofs.check_names.Goals as goal
