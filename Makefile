@@ -1,9 +1,10 @@
 # make try      runs the stored example without any proof, in about a minute
 # make          proves everything and builds the program to target/lasline
 # make run      builds it, and runs the stored example in target/example
-# make examples builds it, and runs the pipelines of examples/ in target/examples
+# make examples builds it, and runs the pipelines of examples/ in target/examples; then it proves, builds and runs the program of
+#               examples/own_filter, which has a filter of its own, in target/own_filter
 # make test     the merge gate: every proof, every edit that must be refused, every test, every program; then the documents, and
-#               the examples by the program that the gate built, which becomes target/lasline
+#               the pipelines of examples/ by the program that the gate built, which becomes target/lasline
 # make lint     scripts, the manual page, completions, and whether examples/make.py writes the stored files
 # make install  PREFIX=/usr/local: the program, its manual page, and completions for bash and zsh
 # make clean    removes target/ and what rt made
@@ -36,6 +37,7 @@ run: target/lasline
 
 examples: target/lasline
 	examples/run.sh target/lasline target/examples
+	examples/own_filter.sh target/own_filter
 
 test:
 	rt ci

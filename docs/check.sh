@@ -210,10 +210,10 @@ if words > 2600:
 
 # ---- recipes and examples
 
-recipes = {path: read(path).rstrip("\n") for path in glob.glob("examples/*.json")}
+recipes = {path: read(path).rstrip("\n") for path in glob.glob("examples/*.json") + glob.glob("examples/own_filter/*.json")}
 for page_name, text in TEXTS.items():
     for number, before, block, _, _ in blocks(text):
-        named = re.search(r"\(`(examples/[\w-]+\.json)`\)[:.]?$", before)
+        named = re.search(r"\(`(examples/[\w/-]+\.json)`\)[:.]?$", before)
         if not named:
             continue
         looked["recipes"] += 1

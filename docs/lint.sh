@@ -58,7 +58,7 @@ fi
 if has python3 "examples/make.py"; then
     rm -rf "${room:?}"
     mkdir -p "$room"
-    examples/make.py "$room" && diff -r -x '*.json' -x '*.sh' -x '*.py' -x __pycache__ examples "$room"
+    examples/make.py "$room" && diff -r -x '*.json' -x '*.sh' -x '*.py' -x __pycache__ -x own_filter examples "$room"
     passed "examples/make.py writes the stored files" $?
 fi
 exit $status

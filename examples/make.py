@@ -183,6 +183,15 @@ def parted(points, key):
     return list(views.values())
 
 
+def rising(points):
+    """The first point, and then each that is at least as high as the last kept one."""
+    kept = []
+    for point in points:
+        if not kept or point[2] >= kept[-1][2]:
+            kept.append(point)
+    return kept
+
+
 def small(minor, times=1):
     """2 points in format 0, so many times, in a file of this minor version."""
     scale, offset = [Fraction(1, 100)] * 3, [Fraction(0)] * 3
@@ -279,6 +288,7 @@ def main():
     corners = [tuple(map(Fraction, corner)) for corner in [(500003, 4800003), (500015, 4800003), (500009, 4800012)]]
     thin = [voxel[0] for voxel in parted(hill_points, lambda point: cell(point, 4))]
     peaks = [max(square, key=lambda point: point[2]) for square in parted(hill_points, lambda point: cell(point[:2], 6))]
+    risen = rising(hill_points)
     squares = parted(range(every), lambda k: cell(hill_points[k][:2], 6))
     # All points of the hill are ground.
     ground = [point for point in hill_points if lies_in(point, corners)]
@@ -431,6 +441,13 @@ def main():
             {"ring.txt": text(ring)},
         ),
         "tiles": (0, report((reader, 3), (reader, 3), (las_writer, 6, 6), several=[2]), "", {"tiles.las": tiles_data}),
+        # This one is run by own_filter.sh.
+        "rising": (
+            0,
+            report((reader, every), ("filters.plug", len(risen)), (writer, len(risen), len(risen))),
+            "",
+            {"rising.txt": text(risen)},
+        ),
         # The offsets differ, so the written one is 0, and 4800000 is too many steps of 0.001.
         "apart": (3, "", "lasline: stage 2: point 0: Y not held by the scale\n", {}),
     }
