@@ -1,5 +1,5 @@
 -- Whether the filters and tallies that stages name were handed in, and what becomes of their places.
-use Rattle.std.specs.Prelude.{◌≡◌, ℕ, ◌<◌, ◌==◌, Bool, true, false, ◌||◌, bytes_eq, is_some, if◌then◌else◌, List, length, Option, Some, None}
+use Rattle.std.specs.Prelude.{◌≡◌, ℕ, ℤ, ◌<◌, ◌==◌, Bool, true, false, ◌||◌, bytes_eq, is_some, if◌then◌else◌, List, length, Option, Some, None, option_map}
 use Rattle.std.proofs.Common.{zero, suc}
 use Rattle.std.specs.List.{list_any, range_with_len}
 use Rattle.cloud_points.specs.Meaning.{Nature}
@@ -14,7 +14,7 @@ use Rattle.stage_names.specs.declared.faults.PipeFault.TheVariants.{PlugUnknown,
 use Rattle.stage_options.specs.Roles.{plug_of, tally_of}
 use Rattle.stage_options.specs.declared.options.Options.{Options}
 use Rattle.stage_options.specs.declared.stage.StageSpec.{StageSpec}
-use Rattle.answer_model.specs.Values.{least_from, options_at}
+use Rattle.answer_model.specs.Values.{Opened, least_from, left_at, options_at}
 
 -- ---- names
 
@@ -72,3 +72,10 @@ pub record AreBack {P Q : Type 0} (fs : plug_type.Ghosts P) (ts : tally_type.Gho
   pub same : handed_by fs ts new ≡ handed_by fs ts old
   pub filters : (k : ℕ) → is_used plug_of (handed_by fs ts old).filters stages k ≡ false → at_place new.filters.items k ≡ at_place old.filters.items k
   pub tallies : (k : ℕ) → is_used tally_of (handed_by fs ts old).tallies stages k ≡ false → at_place new.tallies.items k ≡ at_place old.tallies.items k
+
+-- what stages leave is what the filters and the tallies that they name remember, each in its place
+pub record AreRemembered {P Q : Type 0} (fs : plug_type.Ghosts P) (ts : tally_type.Ghosts Q) (stages : List StageSpec) (opened : Opened) (places : Places P Q) : Type 0 where
+  pub filters : (i : ℕ) (n : Nature Point) (s : List ℤ) → found_in opened.handed.filters (plug_of (options_at stages i)) ≡ Some n → left_at stages opened i ≡ Some s
+      → option_map fs.state (at_place places.filters.items n.place) ≡ Some s
+  pub tallies : (i : ℕ) (n : Nature Point) (s : List ℤ) → found_in opened.handed.tallies (tally_of (options_at stages i)) ≡ Some n → left_at stages opened i ≡ Some s
+      → option_map ts.state (at_place places.tallies.items n.place) ≡ Some s

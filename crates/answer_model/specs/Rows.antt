@@ -25,8 +25,9 @@ use Rattle.stage_meanings.specs.Filters.{Rule, admitted_in_views, before_stop, f
 use Rattle.stage_meanings.specs.Rules.{range, crop, decimation, head, returns, expression, assign}
 use Rattle.stage_meanings.specs.Records.{unrecorded}
 use Rattle.stage_meanings.specs.declared.reason.Reason.{Reason}
-use Rattle.plug_stages.specs.Folds.{Step, plug_fold, state_behind, step_where}
+use Rattle.plug_stages.specs.Folds.{Step, last_view, plug_fold, state_behind, step_where}
 use Rattle.plug_stages.specs.Handed.{Handed, named_in}
+use Rattle.plug_stages.specs.TallySteps.{passing}
 use Rattle.run_report.specs.declared.tally.TallyLine.{TallyLine}
 use Rattle.text_writer.specs.TextOutput.{text_output}
 use Rattle.tile_filters.specs.Gathered.{gathered}
@@ -51,6 +52,8 @@ pub record Row : Type 0 where
   pub bytes : List Point → List ℕ
   -- what its tally says of those that it is shown, where it has one
   pub says : Option (List Point → TallyLine)
+  -- what the filter or the tally of the caller that it shows them to remembers behind a flow
+  pub leaves : Flow Point → Option (List ℤ)
 
 -- where a stage stands: the extra names of the stages before it, the files that are read below it, the dimensions of the points that it
 -- takes, the fields that it takes of its own file, and what the caller handed in
@@ -63,11 +66,11 @@ pub record Setting : Type 0 where
 
 -- a filter, which has no file
 abbrev pub filters : Filtering → Row
-filters f = record { making = Judging f; writes = λ p. false; bytes = λ points. []; says = None }
+filters f = record { making = Judging f; writes = λ p. false; bytes = λ points. []; says = None; leaves = λ flow. None }
 
 -- nor has a stage that needs whole views
 abbrev pub gathers : Gathering → Row
-gathers g = record { making = Gathered g; writes = λ p. false; bytes = λ points. []; says = None }
+gathers g = record { making = Gathered g; writes = λ p. false; bytes = λ points. []; says = None; leaves = λ flow. None }
 
 -- it judges by this rule the points for which a condition holds, beside these extra names
 abbrev pub by : List (List ℕ) → Rule Point Reason → Option (Formula (List ℕ)) → Row
@@ -86,12 +89,21 @@ writes each names reason bytes only = record {
   writes = λ p. is_true (passes (bound_where names only) p);
   bytes = bytes;
   says = None;
+  leaves = λ flow. None;
 }
 
--- a filter of the caller, which has no file; each name is one of those that were handed in, so that the row without one says nothing
+-- what a filter or a tally of the caller remembers behind points of which it is shown those for which a condition holds
+abbrev pub remembered_by : Nature Point → Option (Formula Dim) → List Point → List ℤ
+remembered_by n only points = state_behind n.step n.opening (passing (passes only) points)
+
+-- a filter of the caller, which has no file, and remembers something of the last view alone; each name is one of those that were handed in,
+-- so that the row without one says nothing
 abbrev pub folds : List (List ℕ) → (Dim → Bool) → Option (Nature Point) → Option (Formula (List ℕ)) → Row
 folds names held None only = filters Merge
-folds names held (Some n) only = record { making = Folding n.step n.opening (cleared held) (bound_where names only); writes = λ p. false; bytes = λ points. []; says = None }
+folds names held (Some n) only = record (filters Merge) {
+  making = Folding n.step n.opening (cleared held) (bound_where names only);
+  leaves = λ flow. option_map (remembered_by n (bound_where names only)) (last_view flow.views flow.open_view);
+}
 
 -- what a tally of the caller says of points
 abbrev pub said_by : Nature Point → List Point → TallyLine
@@ -99,7 +111,10 @@ said_by n points = record { name = n.called; text = n.text (state_behind n.step 
 
 -- a tally of the caller: it has no file, and is shown the points for which a condition holds
 abbrev pub shows : List (List ℕ) → Option (Nature Point) → Option (Formula (List ℕ)) → Row
-shows names nature only = record (writes false names (λ k p. None) (λ points. []) only) { says = option_map said_by nature }
+shows names nature only = record (writes false names (λ k p. None) (λ points. []) only) {
+  says = option_map said_by nature;
+  leaves = λ flow. option_map (λ n. remembered_by n (bound_where names only) (points flow)) nature;
+}
 
 -- why a point has no place in a LAS file behind so many that are written: the file counts no point more, or it has no record
 abbrev pub unplaced_in : LasForm → ℕ → Point → Option Reason

@@ -1,5 +1,5 @@
 -- What each stage of a tree gives on, and its fault, on whole flows.
-use Rattle.std.specs.Prelude.{◌≡◌, ℕ, ◌+◌, ◌<◌, Bool, true, false, ◌||◌, cond, if◌then◌else◌, List, [], ◌∷◌, ◌++◌, map, filter, flat_map, length, slice_index_or, Option, Some, None, option_map, Result, Ok, Err}
+use Rattle.std.specs.Prelude.{◌≡◌, ℕ, ℤ, ◌+◌, ◌<◌, Bool, true, false, ◌||◌, cond, if◌then◌else◌, List, [], ◌∷◌, ◌++◌, map, filter, flat_map, length, slice_index_or, Option, Some, None, option_map, Result, Ok, Err}
 use Rattle.std.proofs.Common.{zero, suc}
 use Rattle.std.specs.List.{range_with_len, list_any}
 use Rattle.cloud_points.specs.declared.dims.Dim.{Dim}
@@ -224,6 +224,10 @@ said_with row taken = option_map (λ says. says (filter (row.writes) (points tak
 
 abbrev pub said_at : List StageSpec → Opened → ℕ → Option TallyLine
 said_at stages opened k = said_with (row_at stages opened k) (stage_input stages opened k)
+
+-- what the filter or the tally of the caller remembers behind it
+abbrev pub left_at : List StageSpec → Opened → ℕ → Option (List ℤ)
+left_at stages opened k = (row_at stages opened k).leaves (stage_input stages opened k)
 
 abbrev pub files_with : Role → Flow Point → ℕ
 files_with (Writes name) given = 1

@@ -32,7 +32,7 @@ use Rattle.lasline_top.proofs.Statuses.{status_tells}
 use Rattle.plug_stages.specs.Handed.{Handed}
 
 -- a refusal's status isn't Ok
-never-ok : (r : Refusal) → ends.Ok ≡ status_for r → ⊥
+pub never-ok : (r : Refusal) → ends.Ok ≡ status_for r → ⊥
 never-ok of.Memory e = cc
 never-ok (of.Usage k) e = cc
 never-ok (of.Pipeline f) e = cc

@@ -31,7 +31,7 @@ use Rattle.plug_stages.specs.Handed.{Handed}
 -- ---- the map behind the file that was made
 
 -- where the map is told at the end, it told the file before the run
-told-between : (count : ℕ) (old middle new : Option Names) (m : Names) → IsPut old trial_name (generated_file count) middle → (middle ≡ None → new ≡ None) → old ≡ Some m → is_some new ≡ true
+pub told-between : (count : ℕ) (old middle new : Option Names) (m : Names) → IsPut old trial_name (generated_file count) middle → (middle ≡ None → new ≡ None) → old ≡ Some m → is_some new ≡ true
     → middle ≡ Some (with_trial m count)
 told-between count old None new m put-in untold told end = absurd (let none = untold refl in let e = ap is_some (sym none) ∙ end in cc)
 told-between count old (Some n) new m put-in untold told end =

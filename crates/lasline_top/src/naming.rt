@@ -24,8 +24,10 @@ pub(crate) fn runnable_stages<P: PlugFilter, Q: PlugTally>(
     ensures ok { IfOk result (λ tree. runnable_in (handed_by P.PlugFilter Q.PlugTally places.now) text.now
         ≡ Ok (specs_view tree)) }
     ensures read { IfOk result (λ tree. stages_in text.now ≡ Ok (specs_view tree)) }
-    ensures named { IfOk result (λ tree. AreNamed (handed_by P.PlugFilter Q.PlugTally places.now) (specs_view tree)) }
-    ensures err { IfErr result (Because (runnable_in (handed_by P.PlugFilter Q.PlugTally places.now) text.now) Never) }
+    ensures named { IfOk result (λ tree. AreNamed (handed_by P.PlugFilter Q.PlugTally places.now)
+        (specs_view tree)) }
+    ensures err { IfErr result
+        (Because (runnable_in (handed_by P.PlugFilter Q.PlugTally places.now) text.now) Never) }
     ensures of_text { IfErr result IsOfText }
 {
     let tree = read_stages(alloc, text)?;

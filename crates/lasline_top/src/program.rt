@@ -5,7 +5,9 @@ ghost use Rattle.plug_stages.specs.Handed.{handed_by};
 ghost use Rattle.run_report.specs.declared.refusal.Refusal.{Refusal};
 ghost use Rattle.run_report.specs.Faults.{fault_line};
 ghost use Rattle.lasline_top.specs.declared.status.Status.{Status};
+ghost use Rattle.lasline_top.specs.Back.{IsHandedBack, IsRemembered};
 ghost use Rattle.lasline_top.specs.Calls.{HasExited, seen};
+ghost use Rattle.lasline_top.specs.Words.{task_of};
 ghost use Rattle.lasline_top.specs.Cause.{ToldWhy};
 ghost use Rattle.lasline_top.specs.Codes.{code_of};
 
@@ -29,7 +31,7 @@ impl Gate for AlwaysOpen {
 }
 
 /// Does the command of the words, with these filters and tallies, and answers the exit code of its status: 0 where all was done, else 1
-/// to 5.
+/// to 5. The filters and tallies are handed back as `lasline_plugged` says.
 ///
 /// Where there was no memory for the words themselves nothing is done, and it is refused for that.
 pub fn run_program<F: Files, K: Sink, E: Sink, R: Threads + Wait + Sync>(
@@ -50,6 +52,12 @@ where
         (seen F.Files K.Sink E.Sink files.old out.old err.old)
         (seen F.Files K.Sink E.Sink files.new out.new err.new)
         result) }
+    ensures back { IfOk words (λ words. IsHandedBack
+        ⟦<BoxedFilter as PlugFilter>⟧ ⟦<BoxedTally as PlugTally>⟧ (task_of (map string_bytes words.items))
+        (F.map files.old) (F.map files.new) plugs.old plugs.new) }
+    ensures remembered { IfOk words (λ words. result ≡ code_of Status.Ok → IsRemembered
+        ⟦<BoxedFilter as PlugFilter>⟧ ⟦<BoxedTally as PlugTally>⟧ (task_of (map string_bytes words.items))
+        (F.map files.old) (F.map files.new) plugs.old plugs.new) }
     ensures code { OnErr words (result ≡ code_of Status.Memory) }
     ensures told_why { OnErr words (ToldWhy (E.bytes err.old) (E.bytes err.new) (E.faults err.old)
         (E.faults err.new) (fault_line Refusal.Memory)) }

@@ -10,7 +10,7 @@ ghost use Rattle.lasline_top.specs.Tasks.{engine_view};
 ghost use Rattle.lasline_top.specs.Words.{Run_file, Trial, stop_in};
 ghost use Rattle.lasline_top.specs.Answer.{runnable_in, stages_or, text_run, trial_name, trial_text};
 ghost use Rattle.lasline_top.specs.Cause.{IsOfFiles};
-ghost use Rattle.lasline_top.specs.Back.{IsHandedBack};
+ghost use Rattle.lasline_top.specs.Back.{IsHandedBack, IsRemembered, Remember};
 ghost use Rattle.lasline_top.specs.Ends.{WasDone, WasRefused, WasStopped};
 ghost use Rattle.lasline_top.specs.Reading.{IsReadAhead, IsTextAhead};
 
@@ -50,6 +50,9 @@ fn run_text<F: Files, P: PlugFilter, Q: PlugTally, T: Scheduler<StageWork<F::In,
         (F.read_to files.new) refusal) }
     ensures back { AreBack P.PlugFilter Q.PlugTally
         (stages_or (runnable_in (handed_by P.PlugFilter Q.PlugTally places.old) text.now)) places.old places.new }
+    ensures remembered { OnOk result ((m : Names) → F.map files.old ≡ Some m
+        → Remember P.PlugFilter Q.PlugTally (handed_by P.PlugFilter Q.PlugTally places.old) m
+        (stages_or (runnable_in (handed_by P.PlugFilter Q.PlugTally places.old) text.now)) places.new) }
     ensures untold { F.map files.old ≡ None → F.map files.new ≡ None }
     ensures lent { F.lent files.new ≡ F.lent files.old }
     ensures later { F.faults files.old ≤ F.faults files.new }
@@ -83,10 +86,15 @@ pub(crate) fn run_file<
         (Rose (F.faults files.old) (F.faults files.new)) (Rose (K.faults out.old) (K.faults out.new))
         (F.map files.old) (F.map files.new) (K.bytes out.old) (K.bytes out.new)) }
     ensures of_files { IfErr result IsOfFiles }
-    ensures back { IsHandedBack P.PlugFilter Q.PlugTally (Ok (Run_file name.now (engine_view (T.stop scheduler.now) engine))) (F.map files.old) (F.map files.new)
-        places.old places.new }
+    ensures back { IsHandedBack P.PlugFilter Q.PlugTally
+        (Ok (Run_file name.now (engine_view (T.stop scheduler.now) engine)))
+        (F.map files.old) (F.map files.new) places.old places.new }
+    ensures remembered { OnOk result (IsRemembered P.PlugFilter Q.PlugTally
+        (Ok (Run_file name.now (engine_view (T.stop scheduler.now) engine)))
+        (F.map files.old) (F.map files.new) places.old places.new) }
     ensures ahead { IfErr result (λ refusal. (m : Names) → F.map files.old ≡ Some m
-        → IsReadAhead (Ok (Run_file name.now (engine_view (T.stop scheduler.now) engine))) m (F.read_to files.old)
+        → IsReadAhead (Ok (Run_file name.now (engine_view (T.stop scheduler.now) engine))) m
+        (F.read_to files.old)
         (F.read_to files.new) refusal) }
     ensures lent { F.lent files.new ≡ F.lent files.old }
     ensures later { F.faults files.old ≤ F.faults files.new }
@@ -135,8 +143,12 @@ pub(crate) fn run_trial<
         (Rose (F.faults files.old) (F.faults files.new)) (Rose (K.faults out.old) (K.faults out.new))
         (F.map files.old) (F.map files.new) (K.bytes out.old) (K.bytes out.new)) }
     ensures of_files { IfErr result IsOfFiles }
-    ensures back { IsHandedBack P.PlugFilter Q.PlugTally (Ok (Trial count.points (engine_view (T.stop scheduler.now) engine))) (F.map files.old) (F.map files.new)
-        places.old places.new }
+    ensures back { IsHandedBack P.PlugFilter Q.PlugTally
+        (Ok (Trial count.points (engine_view (T.stop scheduler.now) engine)))
+        (F.map files.old) (F.map files.new) places.old places.new }
+    ensures remembered { OnOk result (IsRemembered P.PlugFilter Q.PlugTally
+        (Ok (Trial count.points (engine_view (T.stop scheduler.now) engine)))
+        (F.map files.old) (F.map files.new) places.old places.new) }
     ensures lent { F.lent files.new ≡ F.lent files.old }
     ensures later { F.faults files.old ≤ F.faults files.new }
 {

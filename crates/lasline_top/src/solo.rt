@@ -12,7 +12,8 @@ ghost use Rattle.lasline_top.specs.Cause.{ToldWhy};
 ghost use Rattle.lasline_top.specs.Ends.{WasDone, WasRefused};
 ghost use Rattle.lasline_top.specs.Left.{AreTold};
 ghost use Rattle.lasline_top.specs.Reading.{IsReadAhead, IsReadBy};
-ghost use Rattle.lasline_top.specs.Back.{IsHandedBack};
+ghost use Rattle.lasline_top.specs.Back.{IsHandedBack, IsRemembered};
+ghost use Rattle.lasline_top.specs.declared.status.Status.{Status};
 ghost use Rattle.plug_stages.specs.Handed.{handed_by, none_handed};
 ghost use Rattle.lasline_top.specs.Calls.{HasAnswered, seen};
 
@@ -50,7 +51,8 @@ fn run_command<
         (task_of (map string_bytes words.now)) (F.map files.old) (F.map files.new)
         (K.bytes out.old) (K.bytes out.new)) }
     ensures err { IfErr result (WasRefused (handed_by P.PlugFilter Q.PlugTally places.old)
-        (task_of (map string_bytes words.now)) (Rose (F.faults files.old) (F.faults files.new)) (Rose (K.faults out.old) (K.faults out.new))
+        (task_of (map string_bytes words.now))
+        (Rose (F.faults files.old) (F.faults files.new)) (Rose (K.faults out.old) (K.faults out.new))
         (F.map files.old) (F.map files.new) (K.bytes out.old) (K.bytes out.new)) }
     ensures words_first { (refusal : Refusal) → task_of (map string_bytes words.now) ≡ Err refusal
         → result ≡ Err refusal }
@@ -62,13 +64,16 @@ fn run_command<
         → OnErr result (AppendsPart (K.bytes out.old) text (K.bytes out.new)) }
     ensures back { IsHandedBack P.PlugFilter Q.PlugTally (task_of (map string_bytes words.now))
         (F.map files.old) (F.map files.new) places.old places.new }
+    ensures remembered { OnOk result (IsRemembered P.PlugFilter Q.PlugTally
+        (task_of (map string_bytes words.now)) (F.map files.old) (F.map files.new) places.old places.new) }
     ensures lent { F.lent files.new ≡ F.lent files.old }
     ensures later { F.faults files.old ≤ F.faults files.new }
     ensures opened { IsReadBy (task_of (map string_bytes words.now)) (F.read_to files.old)
         (F.read_to files.new) }
     ensures ahead { IfErr result (λ refusal. (m : Names)
         → AreTold (task_of (map string_bytes words.now)) (F.map files.old) (F.map files.new) m
-        → IsReadAhead (task_of (map string_bytes words.now)) m (F.read_to files.old) (F.read_to files.new) refusal) }
+        → IsReadAhead (task_of (map string_bytes words.now)) m (F.read_to files.old)
+        (F.read_to files.new) refusal) }
 {
     match task_of(words)? {
         Task::Run { file, engine } => {
@@ -114,12 +119,15 @@ pub(crate) fn do_command<
 ) -> Status
     requires sound { T.sound scheduler.now }
     requires stop { T.stop scheduler.now ≡ stop_for (task_of (map string_bytes words.now)) }
-    ensures answered { HasAnswered (handed_by P.PlugFilter Q.PlugTally places.old) (map string_bytes words.now)
+    ensures answered { HasAnswered (handed_by P.PlugFilter Q.PlugTally places.old)
+        (map string_bytes words.now)
         (seen F.Files K.Sink E.Sink files.old out.old err.old)
         (seen F.Files K.Sink E.Sink files.new out.new err.new)
         result }
     ensures back { IsHandedBack P.PlugFilter Q.PlugTally (task_of (map string_bytes words.now))
         (F.map files.old) (F.map files.new) places.old places.new }
+    ensures remembered { result ≡ Status.Ok → IsRemembered P.PlugFilter Q.PlugTally
+        (task_of (map string_bytes words.now)) (F.map files.old) (F.map files.new) places.old places.new }
 {
     match run_command(alloc, scheduler, words, files, places, out) {
         Ok(()) => Status::Ok,

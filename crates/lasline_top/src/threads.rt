@@ -5,7 +5,8 @@ ghost use Rattle.network_core.specs.declared.stop.Stop.TheVariants.{Last};
 ghost use Rattle.network_workers.specs.Crews.{HasRun, MayRun};
 ghost use Rattle.stage_runs.specs.Works.{as_works};
 ghost use Rattle.plug_stages.specs.Handed.{handed_by, none_handed};
-ghost use Rattle.lasline_top.specs.Back.{IsHandedBack};
+ghost use Rattle.lasline_top.specs.declared.status.Status.{Status};
+ghost use Rattle.lasline_top.specs.Back.{IsHandedBack, IsRemembered};
 ghost use Rattle.lasline_top.specs.Calls.{HasAnswered, seen};
 ghost use Rattle.lasline_top.specs.Threads.{are_several};
 ghost use Rattle.lasline_top.specs.Words.{stop_for, task_of};
@@ -79,12 +80,15 @@ fn do_by_crew<
     requires some { 0 < options.workers }
     requires most { options.workers ≤ 32 }
     requires last { stop_for (task_of (map string_bytes words.now)) ≡ Last }
-    ensures answered { HasAnswered (handed_by P.PlugFilter Q.PlugTally places.old) (map string_bytes words.now)
+    ensures answered { HasAnswered (handed_by P.PlugFilter Q.PlugTally places.old)
+        (map string_bytes words.now)
         (seen F.Files K.Sink E.Sink files.old out.old err.old)
         (seen F.Files K.Sink E.Sink files.new out.new err.new)
         result }
     ensures back { IsHandedBack P.PlugFilter Q.PlugTally (task_of (map string_bytes words.now))
         (F.map files.old) (F.map files.new) places.old places.new }
+    ensures remembered { result ≡ Status.Ok → IsRemembered P.PlugFilter Q.PlugTally
+        (task_of (map string_bytes words.now)) (F.map files.old) (F.map files.new) places.old places.new }
 {
     let patience = options.patience as u64;
     let crew = Crew {
@@ -121,12 +125,15 @@ fn do_with<
 where
     F::In: Send,
     F::Out: Send,
-    ensures answered { HasAnswered (handed_by P.PlugFilter Q.PlugTally places.old) (map string_bytes words.now)
+    ensures answered { HasAnswered (handed_by P.PlugFilter Q.PlugTally places.old)
+        (map string_bytes words.now)
         (seen F.Files K.Sink E.Sink files.old out.old err.old)
         (seen F.Files K.Sink E.Sink files.new out.new err.new)
         result }
     ensures back { IsHandedBack P.PlugFilter Q.PlugTally (task_of (map string_bytes words.now))
         (F.map files.old) (F.map files.new) places.old places.new }
+    ensures remembered { result ≡ Status.Ok → IsRemembered P.PlugFilter Q.PlugTally
+        (task_of (map string_bytes words.now)) (F.map files.old) (F.map files.new) places.old places.new }
 {
     match options_of(words) {
         Some(options) if are_several(options) => {
@@ -176,7 +183,9 @@ where
 ///
 /// A run or a trial is refused with `PlugUnknown` for the first stage that names one which isn't there, and with `PlugTaken` for the first
 /// that names one which an earlier stage names, behind all other faults of the pipeline's text. At the return each place holds again what
-/// it held, but for what that remembers; and exactly that, where no stage names it.
+/// it held, but for what that remembers; and exactly that, where no stage names it. On `Ok` a filter that a stage names remembers what it
+/// came to over the points of the stage's last view that pass its `where`, from its opening on, if there was a view; and a tally that over
+/// all of the stage's points that pass.
 pub fn lasline_plugged<F: Files, K: Sink, E: Sink, R: Threads + Wait + Sync, G: Gate>(
     rt: &R,
     alloc: Global,
@@ -197,6 +206,9 @@ where
         (seen F.Files K.Sink E.Sink files.new out.new err.new)
         result }
     ensures back { IsHandedBack ⟦<BoxedFilter as PlugFilter>⟧ ⟦<BoxedTally as PlugTally>⟧
+        (task_of (map string_bytes words.now)) (F.map files.old) (F.map files.new) plugs.old plugs.new }
+    ensures remembered { result ≡ Status.Ok
+        → IsRemembered ⟦<BoxedFilter as PlugFilter>⟧ ⟦<BoxedTally as PlugTally>⟧
         (task_of (map string_bytes words.now)) (F.map files.old) (F.map files.new) plugs.old plugs.new }
 {
     do_with(rt, alloc, words, files, plugs, out, err, gate)

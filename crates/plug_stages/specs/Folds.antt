@@ -1,5 +1,5 @@
 -- What a plug makes of a view.
-use Rattle.std.specs.Prelude.{ℤ, Bool, true, false, List, [], ◌∷◌, Option, Some, Result, fold}
+use Rattle.std.specs.Prelude.{ℤ, Bool, true, false, List, [], ◌∷◌, Option, Some, None, Result, fold}
 use Rattle.std.specs.List.{cons_option}
 use Rattle.std.specs.Option.{option_map}
 use Rattle.stage_meanings.specs.Filters.{is_true}
@@ -30,3 +30,8 @@ module _ {P : Type 0} where
   -- what is remembered behind the last of some views, each of which begins with the opening; where there is none, what was before
   abbrev pub state_past : Step P → List ℤ → List ℤ → List (List P) → List ℤ
   state_past step opening s views = fold (λ _ view. state_behind step opening view) s views
+
+  -- the last of some views, or an open one behind them, where that has a point
+  abbrev pub last_view : List (List P) → List P → Option (List P)
+  last_view views [] = fold (λ _ view. Some view) None views
+  last_view views (p ∷ ps) = Some (p ∷ ps)

@@ -1,5 +1,5 @@
 -- One work more is finished.
-use Rattle.std.proofs.Common.{◌≡◌, ◌⊎◌, ℕ, ◌+◌, ◌≤◌, ◌<◌, List, length, slice_get, Some, refl, ap, sym, subst, ◌∙◌, arith, inl, inr, length-set}
+use Rattle.std.proofs.Common.{◌≡◌, ◌⊎◌, ℕ, ◌+◌, ◌≤◌, ◌<◌, List, length, slice_get, Some, None, refl, ap, sym, subst, ◌∙◌, arith, inl, inr, length-set}
 use Rattle.std.specs.Prelude.{slice_set, option_map}
 use Rattle.std.proofs.lemmas.Bool.Decides.{eqb_tells}
 use Rattle.std.proofs.lemmas.Option.{slice_get_within, none-some, same_Some}
@@ -18,7 +18,7 @@ use Rattle.plug_stages.specs.declared.filter.PlugFilter as plug_type
 use Rattle.plug_stages.specs.declared.tally.PlugTally as tally_type
 use Rattle.stage_kinds.specs.Held.{HoldsSame, op_of}
 use Rattle.stage_forms.specs.Later.{AreLater}
-use Rattle.run_ending.specs.Finished.{AreKept, UnfinishedAt}
+use Rattle.run_ending.specs.Finished.{AreKept, OthersStay, UnfinishedAt}
 
 module _ {S K P Q : Type 0} (fs : plug_type.Ghosts P) (ts : tally_type.Ghosts Q) (faults : StageWork S K P Q → ℕ) (old now : List (StageWork S K P Q)) (i : ℕ) (v w : StageWork S K P Q)
     (later : AreLater fs ts faults old now) (here : slice_get now i ≡ Some v) (op : op_of w ≡ op_of v) (count : faults v ≤ faults w) (holds : HoldsSame fs ts v w) where
@@ -42,6 +42,13 @@ module _ {S K P Q : Type 0} (fs : plug_type.Ghosts P) (ts : tally_type.Ghosts Q)
 
   pub kept-more : keeps_of w ≡ keeps_of v → AreKept old now → AreKept old (slice_set now i w)
   kept-more same kept k x y e f = let m = at-place (λ a b. keeps_of b ≡ keeps_of a) same (λ a. refl) k y f in m.2 ∙ kept k x m.0 e m.1
+
+  pub others-more : (writing_of v ≡ None → w ≡ v) → OthersStay old now → OthersStay old (slice_set now i w)
+  others-more same stay k x e none = elim (eqb_tells k i) [
+    | inl p ↦ (let is : v ≡ x = same_Some v x (sym here ∙ ap (slice_get now) (sym p.1) ∙ stay k x e none) in
+        ap (slice_get (slice_set now i w)) p.1 ∙ slice_get-set_same now i w inside ∙ ap Some (same (ap writing_of is ∙ none) ∙ is))
+    | inr p ↦ slice_get-set_other now i k w p.1 ∙ stay k x e none
+  ]
 
   pub finished-more : (R : StageWork S K P Q → StageWork S K P Q → Type 0) (k : ℕ) → ((x : ℕ) (a b : StageWork S K P Q) → x < i → slice_get old x ≡ Some a → slice_get now x ≡ Some b → R a b)
       → ((a : StageWork S K P Q) → slice_get old i ≡ Some a → R a w) → (x : ℕ) (a b : StageWork S K P Q) → x < i + 1 → slice_get old x ≡ Some a → slice_get (slice_set now i w) x ≡ Some b → R a b

@@ -1,5 +1,6 @@
 pub mod Finished
 pub mod Keeping
+pub mod Putting
 pub mod Each
 pub mod Filing
 pub mod Taking

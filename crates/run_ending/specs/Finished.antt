@@ -1,5 +1,5 @@
 -- Writers that finish their files.
-use Rattle.std.specs.Prelude.{◌≡◌, ℕ, List, slice_get, option_map, Option, Some}
+use Rattle.std.specs.Prelude.{◌≡◌, ℕ, List, slice_get, option_map, Option, Some, None}
 use Rattle.file_devices.specs.Counts.{Rose}
 use Rattle.file_devices.specs.Told.{IsAsTold}
 use Rattle.file_devices.specs.declared.devices.Op.{Op}
@@ -23,6 +23,10 @@ AreFinished {S} {K} {P} {Q} bytes old new = (i : ℕ) (v w : StageWork S K P Q) 
 -- and what works keep of views, they still keep
 abbrev pub AreKept : {S K P Q : Type 0} → List (StageWork S K P Q) → List (StageWork S K P Q) → Type 0
 AreKept {S} {K} {P} {Q} old new = (i : ℕ) (v w : StageWork S K P Q) → slice_get old i ≡ Some v → slice_get new i ≡ Some w → keeps_of w ≡ keeps_of v
+
+-- works that write no file are as they were
+abbrev pub OthersStay : {S K P Q : Type 0} → List (StageWork S K P Q) → List (StageWork S K P Q) → Type 0
+OthersStay {S} {K} {P} {Q} old new = (i : ℕ) (w : StageWork S K P Q) → slice_get old i ≡ Some w → writing_of w ≡ None → slice_get new i ≡ Some w
 
 -- the device of a writer failed in this as its file was finished
 pub record UnfinishedAt {S K P Q : Type 0} (faults : StageWork S K P Q → ℕ) (old new : List (StageWork S K P Q)) (i : ℕ) (o : Op) : Type 0 where

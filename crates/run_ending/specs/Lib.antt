@@ -1,4 +1,5 @@
 pub mod All
+pub mod Putting
 pub mod Each
 pub mod Finished
 pub mod Keeping

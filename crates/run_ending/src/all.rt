@@ -8,6 +8,7 @@ ghost use Rattle.stage_forms.specs.Starts.{HaveDevices};
 ghost use Rattle.held_devices.specs.Handing.{FiltersOut, TalliesOut};
 ghost use Rattle.held_devices.specs.Holding.{all_held};
 ghost use Rattle.run_ending.specs.All.{AreAllKept, IsUnkept};
+ghost use Rattle.run_ending.specs.Putting.{ArePut};
 
 use crate::keep::keep_works;
 use crate::views::{take_each, write_each};
@@ -38,6 +39,7 @@ pub fn keep_all<F: Files, P: PlugFilter, Q: PlugTally>(
         (AreAllKept F.Out.bytes (F.map files.old) (F.map files.new) stages.now works.items) }
     ensures err { IfErr result (IsUnkept F.Out.bytes (Rose (F.faults files.old) (F.faults files.new))
         (F.map files.old) (F.map files.new) stages.now works.items) }
+    ensures put { OnOk result (ArePut works.items places.old places.new) }
     ensures untold { F.map files.old ≡ None → F.map files.new ≡ None }
     ensures lent { (others : ℕ) → F.lent files.old ≡ others + all_held works.items
         → F.lent files.new ≡ others }

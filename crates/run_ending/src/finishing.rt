@@ -3,7 +3,7 @@
 ghost use Rattle.std.specs.Prelude.{◌≤◌, length, IfErr, OnOk};
 ghost use Rattle.stage_kinds.specs.Held.{faults_of};
 ghost use Rattle.stage_forms.specs.Later.{AreLater};
-ghost use Rattle.run_ending.specs.Finished.{AreFinished, AreKept, IsUnfinished};
+ghost use Rattle.run_ending.specs.Finished.{AreFinished, AreKept, IsUnfinished, OthersStay};
 
 use file_devices::{FileSink, Source};
 use plug_stages::{PlugFilter, PlugTally};
@@ -26,6 +26,7 @@ pub fn finish<S: Source, K: FileSink, P: PlugFilter, Q: PlugTally>(
     requires few { length works.items ≤ 64 }
     ensures later { AreLater P.PlugFilter Q.PlugTally (faults_of S.faults K.faults) works.items result.works.items }
     ensures kept { AreKept works.items result.works.items }
+    ensures others { OthersStay works.items result.works.items }
     ensures finished { OnOk result.outcome (AreFinished K.bytes works.items result.works.items) }
     ensures err { IfErr result.outcome
         (IsUnfinished (faults_of S.faults K.faults) works.items result.works.items) }

@@ -10,6 +10,7 @@ ghost use Rattle.stage_forms.specs.Starts.{op_for, HaveDevices};
 ghost use Rattle.held_devices.specs.Handing.{FiltersOut, TalliesOut, with_filter, with_tally};
 ghost use Rattle.held_devices.specs.Holding.{there, all_held};
 ghost use Rattle.run_ending.specs.Keeping.{kept_one, kept_first, NotKept, BrokeOff};
+ghost use Rattle.run_ending.specs.Putting.{ArePut};
 
 use file_devices::{DeviceErr, Files, Op};
 use held_devices::release_works;
@@ -79,6 +80,7 @@ pub(crate) fn keep_works<F: Files, P: PlugFilter, Q: PlugTally>(
         ≡ kept_first F.Out.bytes (length works.items) (F.map files.old) stages.now works.items) }
     ensures err { IfErr result (BrokeOff F.Out.bytes (Rose (F.faults files.old) (F.faults files.new))
         (F.map files.old) (F.map files.new) stages.now works.items) }
+    ensures put { OnOk result (ArePut works.items places.old places.new) }
     ensures lent { (others : ℕ) → F.lent files.old ≡ others + all_held works.items
         → F.lent files.new ≡ others }
     ensures later { F.faults files.old ≤ F.faults files.new }

@@ -325,7 +325,7 @@ module _ {S K P Q : Type 0} (s : source.Ghosts S) (k : sink.Ghosts K) (fs : plug
 module _ {S K P Q : Type 0} (k : sink.Ghosts K) (fs : plug_type.Ghosts P) (ts : tally_type.Ghosts Q) (faults : StageWork S K P Q → ℕ) (handed : Handed) (map : Option Names) (stages : List StageSpec) (old new : List (StageWork S K P Q)) (start mid end : ℕ)
     (few : length old ≡ length stages) (fit : HaveDevices stages old)
     (come : (m : Names) → map ≡ Some m → CanBegin handed m stages)
-    (counts : List StageCount) (came : (m : Names) → map ≡ Some m → CameToEnd k.bytes stages (opened_in handed m stages) old counts)
+    (counts : List StageCount) (came : (m : Names) → map ≡ Some m → CameToEnd k.bytes fs ts stages (opened_in handed m stages) old counts)
     (low : start ≤ mid) (back : (i : ℕ) (w : StageWork S K P Q) → slice_get new i ≡ Some w → saturating mid (faults w) ≤ end) where
   pub unfinished-to-cause : (r : Refusal) → IsUnfinished faults old new r → IsCause (Rose start end) handed map stages r
   unfinished-to-cause (of.Device (at.Stage i) o) c = inr (

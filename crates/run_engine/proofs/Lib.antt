@@ -10,3 +10,4 @@ pub mod Blamed
 pub mod Each
 pub mod Stopping
 pub mod Given
+pub mod Remembered

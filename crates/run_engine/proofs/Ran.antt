@@ -36,7 +36,7 @@ use Rattle.stage_forms.specs.Starts.{AreGiven, AreHandedIn}
 use Rattle.set_engine.specs.Evaluated.{FailedAt, HaveEnded}
 use Rattle.network_core.specs.declared.stop.Stop.TheVariants.{First}
 use Rattle.run_engine.specs.Stopping.{HaveEndedBy}
-use Rattle.stage_forms.specs.Later.{AreLater, CameToEnd}
+use Rattle.stage_forms.specs.Later.{AreLater, CameToEnd, Remembers}
 use Rattle.run_ending.specs.Finished.{AreFinished, AreKept}
 use Rattle.run_engine.specs.Done.{AreDone}
 use Rattle.held_devices.proofs.Lists.{length-mapped}
@@ -128,13 +128,15 @@ module _ {S K P Q : Type 0} (s : source.Ghosts S) (k : sink.Ghosts K) (fs : plug
       sound-at : (i : ℕ) (m : Node (StageWork S K P Q)) → slice_get new i ≡ Some m → m.fault ≡ None → stage_fault stages opened i ≡ None
       sound-at i m e f = no-point (stage_fault stages opened i) (sym f ∙ (ends i m e).fault)
 
-      pub came : ((i : ℕ) (m : Node (StageWork S K P Q)) → slice_get new i ≡ Some m → m.fault ≡ None) → (counts : List StageCount) → length counts ≡ length stages → AreCounted ts stages new counts → CameToEnd k.bytes stages opened (map work_of new) counts
+      pub came : ((i : ℕ) (m : Node (StageWork S K P Q)) → slice_get new i ≡ Some m → m.fault ≡ None) → (counts : List StageCount) → length counts ≡ length stages → AreCounted ts stages new counts → CameToEnd k.bytes fs ts stages opened (map work_of new) counts
       came sound counts size counted = record {
         sound = least-nowhere (stage_fault stages opened) (length stages) (λ j lt. let m = after j lt in sound-at j m.0 m.1 (sound j m.0 m.1));
         counted = same-lists counts (counts_of stages opened) (size ∙ sym (length-map-range_with_len (count_at stages opened) 0 (length stages))) count-is;
         held = λ i w e x is. let m = mapped-at work_of new i w e in
             subst (HoldsAll k.bytes x (points (stage_input stages opened i))) m.2 ((ends i m.0 m.1).holds (sound i m.0 m.1) x is);
         keeps = λ i w e. let m = mapped-at work_of new i w e in ap keeps_of (sym m.2) ∙ (ends i m.0 m.1).keeps;
+        leaves = λ i w e. let m = mapped-at work_of new i w e in
+            subst (Remembers fs ts (row_at stages opened i) (stage_input stages opened i)) m.2 ((ends i m.0 m.1).says (sound i m.0 m.1)).leaves;
       }
         where
           one-count : (i : ℕ) (t : StageSpec) (m : Node (StageWork S K P Q)) → slice_get stages i ≡ Some t → slice_get new i ≡ Some m → node_count ts i t m ≡ count_at stages opened i
@@ -233,7 +235,7 @@ module _ {S K P Q : Type 0} {fs : plug_type.Ghosts P} {ts : tally_type.Ghosts Q}
         (b.0 ∙ a.0, b.1 ∙ a.1);
   }
 
-  pub done-on : (bytes : K → Option (List ℕ)) (stages : List StageSpec) (opened : Opened) (counts : List StageCount) → AreFinished bytes now new → AreKept now new → CameToEnd bytes stages opened now counts → AreDone bytes stages opened new counts
+  pub done-on : (bytes : K → Option (List ℕ)) (stages : List StageSpec) (opened : Opened) (counts : List StageCount) → AreFinished bytes now new → AreKept now new → CameToEnd bytes fs ts stages opened now counts → AreDone bytes stages opened new counts
   done-on bytes stages opened counts finished kept c = record {
     sound = c.sound;
     counted = c.counted;

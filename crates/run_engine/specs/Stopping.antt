@@ -40,7 +40,7 @@ pub record HaveEndedBy {S K P Q : Type 0} (s : source.Ghosts S) (k : sink.Ghosts
   pub count : length found ≡ length stages
   pub caused : AreCaused (faults_of s.faults k.faults) old new found
   pub faulty : NoneFailed found → (opened : Opened) → AreGiven s fs ts stages old opened → HaveFaultsBy stop stages opened found
-  pub sound : AreSound found → (opened : Opened) → AreGiven s fs ts stages old opened → CameToEnd k.bytes stages opened new counts
+  pub sound : AreSound found → (opened : Opened) → AreGiven s fs ts stages old opened → CameToEnd k.bytes fs ts stages opened new counts
 
 -- where the turns of stages end by this engine: those that are evaluated whole take none, and all come to their end
 abbrev pub ends_at : Engine → Stop → Stop

@@ -63,7 +63,8 @@ fn stopped<S: Source, K: FileSink, P: PlugFilter, Q: PlugTally>(
     requires few { length stages.now ≤ 64 }
     ensures faults { IfOk result (λ ended. AreFaultsOf nodes.now ended.faults.items) }
     ensures faulty { IfOk result (λ ended. AreSound ended.faults.items → ⊥) }
-    ensures none { OnErr result ((found : List (Option StageFault)) → AreFaultsOf nodes.now found → AreSound found) }
+    ensures none { OnErr result ((found : List (Option StageFault)) → AreFaultsOf nodes.now found
+        → AreSound found) }
 {
     if !any_fault(nodes) {
         return Err(AllocError);

@@ -13,9 +13,9 @@ ghost use Rattle.stage_options.specs.Kinds.{HaveOwnOptions};
 ghost use Rattle.stage_options.specs.Shapes.{shapes};
 ghost use Rattle.stage_kinds.specs.Held.{faults_of};
 ghost use Rattle.stage_kinds.specs.Leads.{reached_of};
-ghost use Rattle.answer_model.specs.Naming.{AreBack};
-ghost use Rattle.answer_model.specs.Runs.{run_of};
-ghost use Rattle.plug_stages.specs.Handed.{Handed};
+ghost use Rattle.answer_model.specs.Naming.{AreBack, AreNamed, AreRemembered};
+ghost use Rattle.answer_model.specs.Runs.{opened_in, run_of};
+ghost use Rattle.plug_stages.specs.Handed.{Handed, handed_by};
 ghost use Rattle.plug_stages.specs.declared.places.Places.{Places};
 ghost use Rattle.stage_forms.specs.Out.{AreTakenOut};
 ghost use Rattle.stage_forms.specs.Starts.{AreAtStart};
@@ -90,14 +90,20 @@ fn evaluate<
     requires few { length stages.now ≤ 64 }
     requires starts { AreAtStart K.bytes stages.now works.items }
     requires count { length works.items ≡ length stages.now }
-    requires waits { (engine : Chosen) × IsWaiting S.Source K.Sink P.PlugFilter Q.PlugTally T.fits engine stages.now step }
-    ensures later { AreLater P.PlugFilter Q.PlugTally (faults_of S.faults K.faults) works.items result.works.items }
-    ensures ended { (engine : Chosen) → IsWaiting S.Source K.Sink P.PlugFilter Q.PlugTally T.fits engine stages.now step
-        → IfOk result.outcome (λ ended. HaveEndedBy S.Source K.Sink P.PlugFilter Q.PlugTally (ends_at engine (T.stop scheduler.now))
+    requires waits { (engine : Chosen)
+        × IsWaiting S.Source K.Sink P.PlugFilter Q.PlugTally T.fits engine stages.now step }
+    ensures later { AreLater P.PlugFilter Q.PlugTally
+        (faults_of S.faults K.faults) works.items result.works.items }
+    ensures ended { (engine : Chosen)
+        → IsWaiting S.Source K.Sink P.PlugFilter Q.PlugTally T.fits engine stages.now step
+        → IfOk result.outcome (λ ended. HaveEndedBy S.Source K.Sink P.PlugFilter Q.PlugTally
+        (ends_at engine (T.stop scheduler.now))
         stages.now works.items result.works.items ended.faults.items ended.report.items) }
     ensures gathers { OnErr result.outcome (TakesTurns step → SomeGathers stages.now) }
-    ensures ahead { (shape : Shape) → IsWaiting S.Source K.Sink P.PlugFilter Q.PlugTally T.fits (Queues shape) stages.now step
-        → IfOk result.outcome (λ ended. T.stop scheduler.now ≡ First → AreReadAhead S.Source P.PlugFilter Q.PlugTally stages.now
+    ensures ahead { (shape : Shape) → IsWaiting S.Source K.Sink P.PlugFilter Q.PlugTally T.fits
+        (Queues shape) stages.now step
+        → IfOk result.outcome (λ ended. T.stop scheduler.now ≡ First
+        → AreReadAhead S.Source P.PlugFilter Q.PlugTally stages.now
         shape.queue shape.chunk works.items result.works.items ended.faults.items) }
 {
     match step {
@@ -154,7 +160,8 @@ impl<S: Source, K: FileSink, P: PlugFilter, Q: PlugTally, E> Job<S, K, P, Q, E> 
 
     /// Ends the run: where the stages came to their end all writers finish their files, which are then kept under their names, in the
     /// order of the stages; then the files of views are written and kept, in the order of the stages and of the views. Answers what each
-    /// stage gave on. Every object that was handed out is given back, and what was taken out of its place is put back.
+    /// stage gave on. Every object that was handed out is given back, and what was taken out of its place is put back; where the run
+    /// succeeds it remembers what its stage leaves.
     ///
     /// Where stages have faults it answers the one that goes first of those that were seen, and where memory was wanting `Memory`, and
     /// keeps nothing. Else `Data` comes only where the files had that fault as the run was prepared, `Device` only where the device failed,
@@ -181,7 +188,8 @@ impl<S: Source, K: FileSink, P: PlugFilter, Q: PlugTally, E> Job<S, K, P, Q, E> 
             → IsOkAnd (run_of handed m stages.now) (IsRun (F.map files.old) (F.map files.new) report.items)) }
         ensures err { IfErr result (λ refusal. (stop : Stop) (handed : Handed) (first : Option Names)
             → HasRun S.Source K.Sink P.PlugFilter Q.PlugTally stop handed first stages.now self
-            → IsCauseBy stop (Rose (F.faults files.old) (F.faults files.new)) handed first stages.now refusal) }
+            → IsCauseBy stop (Rose (F.faults files.old) (F.faults files.new))
+            handed first stages.now refusal) }
         ensures left { IfErr result (λ refusal. (stop : Stop) (handed : Handed) (m : Names)
             → HasRun S.Source K.Sink P.PlugFilter Q.PlugTally stop handed (Some m) stages.now self
             → IsLeft refusal (F.map files.old) (F.map files.new) (run_of handed m stages.now)) }
@@ -198,6 +206,11 @@ impl<S: Source, K: FileSink, P: PlugFilter, Q: PlugTally, E> Job<S, K, P, Q, E> 
         ensures back { (before : Places P Q)
             → AreTakenOut P.PlugFilter Q.PlugTally stages.now before self.works.items places.old
             → AreBack P.PlugFilter Q.PlugTally stages.now before places.new }
+        ensures remembered { OnOk result ((stop : Stop) (handed : Handed) (m : Names) (before : Places P Q)
+            → HasRun S.Source K.Sink P.PlugFilter Q.PlugTally stop handed (Some m) stages.now self
+            → handed ≡ handed_by P.PlugFilter Q.PlugTally before → AreNamed handed stages.now
+            → AreTakenOut P.PlugFilter Q.PlugTally stages.now before self.works.items places.old
+            → AreRemembered P.PlugFilter Q.PlugTally stages.now (opened_in handed m stages.now) places.new) }
         ensures untold { F.map files.old ≡ None → F.map files.new ≡ None }
         ensures lent { (others : ℕ) → F.lent files.old ≡ others + all_held self.works.items
             → F.lent files.new ≡ others }

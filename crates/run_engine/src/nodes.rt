@@ -47,7 +47,8 @@ pub(crate) fn nodes_over<S: Source, K: FileSink, P: PlugFilter, Q: PlugTally>(
     requires most { chunk ≤ 64 }
     ensures new { AreNewStages S.Source K.Sink P.PlugFilter Q.PlugTally stages.now result.items }
     ensures works { map work_of result.items ≡ works.items }
-    ensures chunk { (i : ℕ) (n : node_type.Node (work_type.StageWork S K P Q)) → slice_get result.items i ≡ Some n
+    ensures chunk { (i : ℕ) (n : node_type.Node (work_type.StageWork S K P Q))
+        → slice_get result.items i ≡ Some n
         → (shown (as_works S.Source K.Sink P.PlugFilter Q.PlugTally) [] n).chunk ≡ chunk }
 {
     let mut works = works;

@@ -47,9 +47,9 @@ fn waiting<
     }
 }
 
-/// Prepares the run of a tree's stages by an engine and a scheduler: opens the readers' files, binds the names of dimensions, and creates the files
-/// of the writers, each in the order of the stages; takes the filters and tallies that stages name out of their places; then takes the memory of their turns, which is all that they take unless a stage
-/// needs whole views or the stages are evaluated whole.
+/// Prepares the run of a tree's stages by an engine and a scheduler: opens the readers' files, binds the names of dimensions, and creates
+/// the files of the writers, each in the order of the stages; takes the filters and tallies that stages name out of their places; then
+/// takes the memory of their turns, which is all that they take unless a stage needs whole views or the stages are evaluated whole.
 ///
 /// `Pipeline` comes only where a name in the options of a stage isn't bound, `Data` only where the files have that fault, `Device`
 /// only where the device failed or the file to read isn't there, `Memory` where there was none. Then every object that was handed

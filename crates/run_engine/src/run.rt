@@ -1,13 +1,13 @@
 //! The run of a tree: the points of LAS files go through its stages.
 
-ghost use Rattle.std.specs.Prelude.{◌≡◌, ◌≤◌, ℕ, Some, None, Err, IsOkAnd, IfOk, IfErr};
+ghost use Rattle.std.specs.Prelude.{◌≡◌, ◌≤◌, ℕ, Some, None, Err, IsOkAnd, IfOk, IfErr, OnOk};
 ghost use Rattle.file_devices.specs.Counts.{Rose};
 ghost use Rattle.file_devices.specs.Named.{Names};
 ghost use Rattle.pipeline_json.specs.Trees.{IsTree};
 ghost use Rattle.stage_options.specs.Kinds.{HaveOwnOptions};
 ghost use Rattle.stage_options.specs.Shapes.{shapes};
-ghost use Rattle.answer_model.specs.Naming.{AreBack, AreNamed};
-ghost use Rattle.answer_model.specs.Runs.{run_of};
+ghost use Rattle.answer_model.specs.Naming.{AreBack, AreNamed, AreRemembered};
+ghost use Rattle.answer_model.specs.Runs.{opened_in, run_of};
 ghost use Rattle.plug_stages.specs.Handed.{handed_by};
 ghost use Rattle.run_outcome.specs.Cause.{IsRun, IsLeft};
 ghost use Rattle.cloud_points.specs.declared.faults.PointFault.{PointFault};
@@ -33,7 +33,8 @@ use std::alloc::Global;
 /// Runs the stages of a tree: opens the readers' files, binds the names of dimensions, and creates the files of the writers, each
 /// in the order of the stages; lets the points go through, finishes all writers' files and then keeps them in the order of the
 /// stages, and behind them the files of views, and answers what each stage gave on. Every object that was handed out is given back,
-/// and each place of a filter or a tally holds again what it held, but for what that remembers where a stage names it.
+/// and each place of a filter or a tally holds again what it held, but for what that remembers where a stage names it: where the run
+/// succeeds, what the stage leaves.
 ///
 /// `Pipeline` comes only where a name in the options of a stage isn't bound, `Data` only where the files have that fault, `Device`
 /// only where the device failed or the file to read isn't there, `Memory` where there was none. After a refusal the files are as
@@ -68,6 +69,9 @@ pub fn run_pipeline<
         → IsLeft refusal (F.map files.old) (F.map files.new)
         (run_of (handed_by P.PlugFilter Q.PlugTally places.old) m stages.now)) }
     ensures back { AreBack P.PlugFilter Q.PlugTally stages.now places.old places.new }
+    ensures remembered { OnOk result ((m : Names) → F.map files.old ≡ Some m
+        → AreRemembered P.PlugFilter Q.PlugTally stages.now
+        (opened_in (handed_by P.PlugFilter Q.PlugTally places.old) m stages.now) places.new) }
     ensures untold { F.map files.old ≡ None → F.map files.new ≡ None }
     ensures lent { F.lent files.new ≡ F.lent files.old }
     ensures later { F.faults files.old ≤ F.faults files.new }

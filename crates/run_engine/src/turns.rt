@@ -48,8 +48,10 @@ pub(crate) fn turn_works<
     requires starts { AreAtStart K.bytes stages.now works.items }
     requires count { length works.items ≡ length stages.now }
     requires room { IsTurnRoom S.Source K.Sink P.PlugFilter Q.PlugTally T.fits room.shape stages.now room }
-    ensures later { AreLater P.PlugFilter Q.PlugTally (faults_of S.faults K.faults) works.items result.works.items }
-    ensures ended { IfOk result.outcome (λ ended. HaveEndedBy S.Source K.Sink P.PlugFilter Q.PlugTally (T.stop scheduler.now)
+    ensures later { AreLater P.PlugFilter Q.PlugTally
+        (faults_of S.faults K.faults) works.items result.works.items }
+    ensures ended { IfOk result.outcome (λ ended. HaveEndedBy S.Source K.Sink P.PlugFilter Q.PlugTally
+        (T.stop scheduler.now)
         stages.now works.items result.works.items ended.faults.items ended.report.items) }
     ensures gathers { OnErr result.outcome (SomeGathers stages.now) }
     ensures ahead { IfOk result.outcome (λ ended. T.stop scheduler.now ≡ First

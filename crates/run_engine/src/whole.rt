@@ -27,8 +27,10 @@ pub(crate) fn whole_works<S: Source, K: FileSink, P: PlugFilter, Q: PlugTally>(
     requires tree { IsTree (shapes stages.now) }
     requires starts { AreAtStart K.bytes stages.now works.items }
     requires count { length works.items ≡ length stages.now }
-    ensures later { AreLater P.PlugFilter Q.PlugTally (faults_of S.faults K.faults) works.items result.works.items }
-    ensures ended { IfOk result.outcome (λ ended. HaveEnded S.Source K.Sink P.PlugFilter Q.PlugTally stages.now works.items
+    ensures later { AreLater P.PlugFilter Q.PlugTally
+        (faults_of S.faults K.faults) works.items result.works.items }
+    ensures ended { IfOk result.outcome
+        (λ ended. HaveEnded S.Source K.Sink P.PlugFilter Q.PlugTally stages.now works.items
         result.works.items ended.faults.items ended.report.items) }
 {
     let mut works = works;

@@ -2,7 +2,7 @@
 use Rattle.std.proofs.Common.{◌≡◌, ℕ, zero, suc, ◌+◌, ◌≤◌, ◌<◌, ◌||◌, Bool, true, false, true≢false, List, [], ◌∷◌, ◌++◌, length, set, get_or, Option, Some, None, is_some, inl, inr, refl, ap, subst, sym, ◌∙◌, arith, bytes_eq, eq-eqb}
 use Rattle.std.specs.List.{list_any, range_with_len}
 use Rattle.std.specs.Option.{option_map}
-use Rattle.std.proofs.lemmas.Bool.Decides.{eqb_tells, not_from_Decides}
+use Rattle.std.proofs.lemmas.Bool.Decides.{eqb_tells, leb_tells, not_from_Decides}
 use Rattle.std.proofs.lemmas.Option.{none-some, same_Some}
 use Rattle.std.proofs.lemmas.Slice.Eq.{bytes_eq-Decides}
 use Rattle.answer_model.specs.Naming.{AreNamed, found_in, is_at, is_name, is_taken, is_used, name_fault, unnamed}
@@ -12,7 +12,7 @@ use Rattle.cloud_points.specs.declared.point.Point.{Point}
 use Rattle.plug_stages.proofs.Out.{held-none, named-place, taken-out}
 use Rattle.plug_stages.proofs.Placing.{named_is, natures_at, natures_left, others_stay}
 use Rattle.plug_stages.specs.Handed.{Handed, at_place, named_in, natures_from}
-use Rattle.plug_stages.specs.Out.{AreOut}
+use Rattle.plug_stages.specs.Out.{AreOut, nature_at}
 use Rattle.stage_names.specs.Faults.{or_else}
 use Rattle.stage_names.specs.declared.faults.PipeFault.{PipeFault}
 use Rattle.stage_options.specs.Roles.{plug_of, tally_of}
@@ -139,3 +139,40 @@ module _ {X : Type 0} (nature : ℕ → X → Nature Point) (own : (k : ℕ) (x 
       go None e t = absurd (none-some n t)
       go (Some x) e t = subst (λ (m : Nature Point). AreOut nature (is_used names (natures_from nature 0 before) stages) (out ++ Some m ∷ []) before (set now n.place None)) (same_Some _ _ t)
           (taken-out nature (is_used names (natures_from nature 0 before) stages) are n.place x (ap (option_map (nature n.place)) e) (own n.place x) (named-used names (natures_from nature 0 before) stages at n lt was))
+
+-- ---- names that are named once
+
+module _ {X : Type 0} (nature : ℕ → X → Nature Point) (own : (k : ℕ) (x : X) → (nature k x).place ≡ k) (names : Options → Option (List ℕ)) (stages : List StageSpec) (places : List (Option X))
+    (free : (j : ℕ) → j < length stages → name_fault names (natures_from nature 0 places) stages j (names (options_at stages j)) ≡ None) where
+  abbrev named_at : ℕ → Option (Nature Point)
+  named_at i = found_in (natures_from nature 0 places) (names (options_at stages i))
+
+  -- an earlier stage names what stands in another place
+  none-earlier : (i j : ℕ) (n m : Nature Point) → i < j → j < length stages → named_at i ≡ Some n → named_at j ≡ Some m → m.place ≡ n.place → ⊥
+  none-earlier i j n m lt inside a b same =
+      let ns = natures_from nature 0 places in
+      let x = found-name ns (names (options_at stages i)) n a in
+      let y = found-name ns (names (options_at stages j)) m b in
+      let one : n ≡ m = same_Some n m (sym (named-place nature own places x.0 n x.2) ∙ ap (nature_at nature places) (sym same) ∙ named-place nature own places y.0 m y.2) in
+      let unused = unnamed-none j (is_some (named_in ns y.0)) (is_taken names stages y.0 j) y.0 (ap (name_fault names ns stages j) (sym y.1) ∙ free j inside) in
+      not_from_Decides (bytes_eq x.0 y.0) (bytes_eq-Decides x.0 y.0) (sym (ap (is_name y.0) x.1) ∙ not-taken names stages y.0 j i lt unused.1)
+      (sym (named_is ns x.0 n x.2) ∙ ap (λ (z : Nature Point). z.called) one ∙ named_is ns y.0 m y.2)
+
+  -- so no two stages name what stands in one place
+  pub named-once : (i j : ℕ) (n m : Nature Point) → i < length stages → j < length stages → named_at i ≡ Some n → named_at j ≡ Some m → m.place ≡ n.place → j ≡ i
+  named-once i j n m here there a b same = elim (eqb_tells j i) [
+    | inl is ↦ is.1
+    | inr apart ↦ elim (leb_tells i j) [
+      | inl first ↦ absurd (none-earlier i j n m (let x = apart.1 in let y = first.1 in omega (arith, x, y)) there a b same)
+      | inr later ↦ absurd (none-earlier j i m n later.1 here b a (sym same))
+    ]
+  ]
+
+  -- what a stage names stands in its place, within the places
+  pub named-inside : (i : ℕ) (n : Nature Point) → named_at i ≡ Some n → n.place < length places
+  named-inside i n a = let x = found-name (natures_from nature 0 places) (names (options_at stages i)) n a in at-inside places n.place n.place n (named-place nature own places x.0 n x.2)
+    where
+      at-inside : (xs : List (Option X)) (k at : ℕ) (n : Nature Point) → option_map (nature at) (get_or xs k None) ≡ Some n → k < length xs
+      at-inside [] k at n e = absurd (none-some n e)
+      at-inside (x ∷ xs) zero at n e = omega arith
+      at-inside (x ∷ xs) (suc k) at n e = (let l = at-inside xs k at n e in omega (arith, l))

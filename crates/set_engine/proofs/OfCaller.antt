@@ -97,7 +97,7 @@ module _ {S K P Q : Type 0} (fs : plug_type.Ghosts P) (ts : tally_type.Ghosts Q)
 
   module _ (bytes : K → Option (List ℕ)) (taken : Flow Point) (v w : StageWork S K P Q) (of : is_of_caller fs ts v ≡ true) (means : meaning_of fs ts w ≡ meaning_of fs ts v) where
     caller-given : (role : Role) (row : Row) (las : Las) (given : StageOutput) → IsShowing fs ts role row v → flow_marks given.views ≡ made_of (meaning_of fs ts v) (state_of fs ts v) taken
-        → given.fault ≡ fault_on (meaning_of fs ts v) (state_of fs ts v) taken → state_of fs ts w ≡ state_after (meaning_of fs ts v) (state_of fs ts v) taken → IsGivenBy bytes ts role row las taken w given
+        → given.fault ≡ fault_on (meaning_of fs ts v) (state_of fs ts v) taken → state_of fs ts w ≡ state_after (meaning_of fs ts v) (state_of fs ts v) taken → IsGivenBy bytes fs ts role row las taken w given
     caller-given role row las given start made fault left =
         let new = bare w (stays-bare v w of means) in
         let faults : given.fault ≡ option_map stage.Point (rows.fault_on row taken) = fault ∙ start.fault taken in
@@ -114,7 +114,7 @@ module _ {S K P Q : Type 0} (fs : plug_type.Ghosts P) (ts : tally_type.Ghosts Q)
 
     pub caller-gave : {E : Type 0} (sources : S → Option (List ℕ)) (r : Result StageOutput E) → IfOk r (λ given. flow_marks given.views ≡ made_of (meaning_of fs ts v) (state_of fs ts v) taken)
         → IfOk r (λ given. given.fault ≡ fault_on (meaning_of fs ts v) (state_of fs ts v) taken) → OnOk r (state_of fs ts w ≡ state_after (meaning_of fs ts v) (state_of fs ts v) taken)
-        → IfOk r (λ given. is_device given.fault ≡ false → (role : Role) (row : Row) (las : Las) → IsFor bytes fs ts role row v → HasFile sources las v → IsGivenBy bytes ts role row las taken w given)
+        → IfOk r (λ given. is_device given.fault ≡ false → (role : Role) (row : Row) (las : Las) → IsFor bytes fs ts role row v → HasFile sources las v → IsGivenBy bytes fs ts role row las taken w given)
     caller-gave sources (Ok given) made fault left = λ calm role row las start file. caller-given role row las given (shows bytes role row v of start) made fault left
     caller-gave sources (Err e) made fault left = tt
 

@@ -43,9 +43,9 @@ no_stop f (Some s) e = absurd cc
 begun-with : {K : Type 0} (bytes : K → Option (List ℕ)) (w : WriterStage K) → holds_chosen bytes w [] ≡ true → count_of w.file ≡ 0
 begun-with bytes w holds = written-count w bytes [] holds refl
 
-pub writer-given : {S K P Q : Type 0} (bytes : K → Option (List ℕ)) (ts : tally_type.Ghosts Q) (role : Role) (row : Row) (taken given : Flow Point) (v w : WriterStage K) → IsWriting bytes role row v → writes_of w ≡ writes_of v
-    → filtered_stop (writing_filter (writes_of v)) taken ≡ None → (holds_chosen bytes v [] ≡ true → holds_chosen bytes w (points taken) ≡ true) → HoldsTaken {S = S} {K = K} {P = P} {Q = Q} bytes ts role row taken given (Writer w)
-writer-given {S} {K} {P} {Q} bytes ts role row taken given v w start same sound holds =
+pub writer-given : {S K P Q : Type 0} (bytes : K → Option (List ℕ)) (fs : plug_type.Ghosts P) (ts : tally_type.Ghosts Q) (role : Role) (row : Row) (taken given : Flow Point) (v w : WriterStage K) → IsWriting bytes role row v → writes_of w ≡ writes_of v
+    → filtered_stop (writing_filter (writes_of v)) taken ≡ None → (holds_chosen bytes v [] ≡ true → holds_chosen bytes w (points taken) ≡ true) → HoldsTaken {S = S} {K = K} {P = P} {Q = Q} bytes fs ts role row taken given (Writer w)
+writer-given {S} {K} {P} {Q} bytes fs ts role row taken given v w start same sound holds =
     let x = writes_of v in
     let held = holds start.holds in
     let nowhere : stops_nowhere x (points taken) ≡ true = sound_nowhere x taken sound in
@@ -55,7 +55,7 @@ writer-given {S} {K} {P} {Q} bytes ts role row taken given v w start same sound 
           ∙ ap (λ o. up_to_limit (length (chosen o (points taken)))) only ∙ ap (λ ps. up_to_limit (length ps)) (start.chooses (points taken)))
           ∙ ap (λ r. wrote_with r row taken given) (sym start.does);
       held = λ y is. record { is = is; holds = held; nowhere = (let z : writes_of w ≡ y = cc in ap (λ u. stops_nowhere u (points taken)) (sym z ∙ same) ∙ nowhere) };
-      says = silent-says {S = S} {K = K} {P = P} {Q = Q} ts row taken (Writer w) start.silent refl;
+      says = silent-says {S = S} {K = K} {P = P} {Q = Q} fs ts row taken (Writer w) start.silent refl;
     }
 
 -- so it is with what it gave, and where it stopped
@@ -64,7 +64,7 @@ pub writer-gave : {S K P Q E : Type 0} (fs : plug_type.Ghosts P) (ts : tally_typ
     → IfOk r (λ given. is_device given.fault ≡ false → count_of v.file ≡ 0 → given.views ≡ filtered (writing_filter (writes_of v)) taken)
     → IfOk r (λ given. given.fault ≡ None → holds_chosen sinks v [] ≡ true → holds_chosen sinks w (points taken) ≡ true)
     → IfOk r (λ given. is_device given.fault ≡ false → (role : Role) (row : Row) (las : Las) → IsFor sinks fs ts role row work → HasFile sources las work
-    → IsGivenBy {S = S} {K = K} {P = P} {Q = Q} sinks ts role row las taken (Writer w) given)
+    → IsGivenBy {S = S} {K = K} {P = P} {Q = Q} sinks fs ts role row las taken (Writer w) given)
 writer-gave fs ts sources sinks taken work v w (Ok given) is same fault value holds = λ calm role row las start file. (
     let start : IsWriting sinks role row v = subst (IsFor sinks fs ts role row) is start in
     let x = writes_of v in
@@ -75,7 +75,7 @@ writer-gave fs ts sources sinks taken work v w (Ok given) is same fault value ho
       fault = fault calm begun ∙ ap (option_map stage.Point) (sym faults);
       value = value calm begun ∙ sym values;
       files = ap (λ r. files_with r given.views) (sym start.does);
-      sound = λ none. writer-given sinks ts role row taken given.views v w start same (no_stop stage.Point (filtered_stop (writing_filter x) taken) (sym (fault calm begun) ∙ none)) (holds none);
+      sound = λ none. writer-given sinks fs ts role row taken given.views v w start same (no_stop stage.Point (filtered_stop (writing_filter x) taken) (sym (fault calm begun) ∙ none)) (holds none);
     })
 writer-gave fs ts sources sinks taken work v w (Err s) is same fault value holds = tt
 
@@ -122,7 +122,7 @@ leaf-kept fs ts v w (Err e) a means = tt
 
 module _ {S K P Q : Type 0} (fs : plug_type.Ghosts P) (ts : tally_type.Ghosts Q) (sources : S → Option (List ℕ)) (sinks : K → Option (List ℕ)) (role : Role) (row : Row) (las : Las) (taken : Flow Point) where
   leaf-given : (v w : StageWork S K P Q) (given : StageOutput) → IsFor sinks fs ts role row v → HasFile sources las v → is_leaf v ≡ true → is_leaf w ≡ true → meaning_of fs ts w ≡ meaning_of fs ts v
-      → (tells_of sources v ≡ true → told_of sources v ≡ flow_marks given.views) → (tells_of sources v ≡ true → told_fault_of sources v ≡ given.fault) → IsGivenBy sinks ts role row las taken w given
+      → (tells_of sources v ≡ true → told_of sources v ≡ flow_marks given.views) → (tells_of sources v ≡ true → told_fault_of sources v ≡ given.fault) → IsGivenBy sinks fs ts role row las taken w given
   leaf-given (Reader r) w given start file a b means gives says =
       let t = file r refl in
       let f = reader_starts {K = K} {P = P} {Q = Q} sources r t.file start.start t.told in
@@ -136,7 +136,7 @@ module _ {S K P Q : Type 0} (fs : plug_type.Ghosts P) (ts : tally_type.Ghosts Q)
         sound = λ none. record {
           wrote = writes.1 ∙ ap (λ r. wrote_with r row taken given.views) (sym start.does);
           held = λ x is. absurd (let none = sym (writes.0) ∙ is in cc);
-          says = silent-says ts row taken w start.silent (leaf-silent ts w b);
+          says = silent-says fs ts row taken w start.silent (leaf-silent ts w b);
         };
       }
   leaf-given (Filter f) w given start file a b means gives says = absurd (true≢false (sym a))
@@ -151,6 +151,6 @@ module _ {S K P Q : Type 0} (fs : plug_type.Ghosts P) (ts : tally_type.Ghosts Q)
 pub leaf-gave : {S K P Q E : Type 0} (fs : plug_type.Ghosts P) (ts : tally_type.Ghosts Q) (sources : S → Option (List ℕ)) (sinks : K → Option (List ℕ)) (taken : Flow Point) (v w : StageWork S K P Q) (r : Result StageOutput E) → is_leaf v ≡ true → is_leaf w ≡ true → meaning_of fs ts w ≡ meaning_of fs ts v
     → IfOk r (λ given. is_device given.fault ≡ false → tells_of sources v ≡ true → told_of sources v ≡ flow_marks given.views)
     → IfOk r (λ given. is_device given.fault ≡ false → tells_of sources v ≡ true → told_fault_of sources v ≡ given.fault)
-    → IfOk r (λ given. is_device given.fault ≡ false → (role : Role) (row : Row) (las : Las) → IsFor sinks fs ts role row v → HasFile sources las v → IsGivenBy sinks ts role row las taken w given)
+    → IfOk r (λ given. is_device given.fault ≡ false → (role : Role) (row : Row) (las : Las) → IsFor sinks fs ts role row v → HasFile sources las v → IsGivenBy sinks fs ts role row las taken w given)
 leaf-gave fs ts sources sinks taken v w (Ok given) a b means gives says = λ calm role row las start file. leaf-given fs ts sources sinks role row las taken v w given start file a b means (gives calm) (says calm)
 leaf-gave fs ts sources sinks taken v w (Err s) a b means gives says = tt

@@ -8,7 +8,7 @@ use Rattle.answer_model.specs.Values.{LasFile, Opened, fields_at, las_at, option
 use Rattle.file_devices.specs.declared.devices.Source as source
 use Rattle.run_report.specs.declared.report.StageCount.{StageCount}
 use Rattle.set_engine.proofs.Values.{AreAfter, AreEvaluated, FitRows}
-use Rattle.stage_forms.specs.Starts.{AreTold, AreAtStart, HaveRead, IsAtStart, IsHandedIn, IsStarted, form_for, kept_for, tells_points}
+use Rattle.stage_forms.specs.Starts.{AreTold, AreAtStart, HaveRead, IsAtStart, IsHandedIn, IsStarted, form_for, kept_for, shows_points}
 use Rattle.las_reader.specs.Files.{las_with}
 use Rattle.set_engine.specs.Fits.{HasFile, IsFor, IsMaking, IsShowing}
 use Rattle.set_engine.specs.Given.{kept_after}
@@ -33,7 +33,7 @@ use Rattle.stage_forms.proofs.Told.{silent-row, told-is}
 use Rattle.plug_stages.specs.declared.filter.PlugFilter as plug_type
 use Rattle.plug_stages.specs.declared.tally.PlugTally as tally_type
 use Rattle.stream_filters.specs.Kinds.{filtering_of}
-use Rattle.stage_forms.specs.Later.{AreLater, CameToEnd}
+use Rattle.stage_forms.specs.Later.{AreLater, CameToEnd, IsSilent}
 
 reading-name : (r : Role) → is_reading r ≡ true → (name : List ℕ) × (r ≡ role.Reads name)
 reading-name (role.Reads name) e = (name, refl)
@@ -63,8 +63,8 @@ module _ {S K P Q : Type 0} (s : source.Ghosts S) (fs : plug_type.Ghosts P) (ts 
   fits : (w : StageWork S K P Q) → IsAtStart bytes o setting w → IsHandedIn fs ts o setting.handed w → IsFor bytes fs ts (role_of o) (row_of o setting) w
   fits w start handed = go (form_for o setting) refl (row-is o setting) w start start handed
     where
-      quiet : (form : StageForm) → form_for o setting ≡ form → tells_points form ≡ false → (row_of o setting).says ≡ None
-      quiet form e none = silent-row o setting (ap tells_points e ∙ none)
+      quiet : (form : StageForm) → form_for o setting ≡ form → shows_points form ≡ false → IsSilent (row_of o setting)
+      quiet form e none = silent-row o setting (ap shows_points e ∙ none)
 
       go : (form : StageForm) → form_for o setting ≡ form → IsRow form o setting → (w : StageWork S K P Q) → IsStarted bytes setting.dims form w → IsAtStart bytes o setting w → IsHandedIn fs ts o setting.handed w
           → IsFor bytes fs ts (role_of o) (row_of o setting) w
@@ -130,7 +130,7 @@ module _ {S K P Q : Type 0} (s : source.Ghosts S) (fs : plug_type.Ghosts P) (ts 
       record { file = t.file; told = t.told; holds = ap (λ (x : LasFile). x.las (fields_at stages opened i)) t.holds ∙ ap (λ l. las_with r.header l t.file) (sym taken) }
 
   module _ (faults : StageWork S K P Q → ℕ) (new : List (StageWork S K P Q)) (after : AreAfter fs ts faults works new) where
-    pub came : (opened : Opened) (counts : List StageCount) → AreTold s works opened → AreEvaluated bytes stages opened works new counts → CameToEnd bytes stages opened new counts
+    pub came : (opened : Opened) (counts : List StageCount) → AreTold s works opened → AreEvaluated bytes fs ts stages opened works new counts → CameToEnd bytes fs ts stages opened new counts
     came opened counts told c = record {
       sound = c.sound;
       counted = c.counted;
@@ -141,4 +141,5 @@ module _ {S K P Q : Type 0} (s : source.Ghosts S) (fs : plug_type.Ghosts P) (ts 
       keeps = λ i w e.
           let v = some-at works i (let a = slice_get_within new i w e in let b = after.count in omega (arith, a, b)) in
           c.keeps i v.0 w v.1 e ∙ kept-starts bytes (options_at stages i) (setting_at stages opened i) v.0 (stage_value stages opened i) (starts opened (read opened told) i v.0 v.1);
+      leaves = c.leaves;
     }

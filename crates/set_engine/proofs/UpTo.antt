@@ -14,6 +14,7 @@ use Rattle.cloud_points.specs.declared.faults.StageFault.{StageFault}
 use Rattle.cloud_points.specs.declared.faults.StageFault.TheVariants as stage
 use Rattle.cloud_points.specs.declared.point.Point.{Point}
 use Rattle.pipeline_json.specs.Lists.{has, times}
+use Rattle.plug_stages.specs.declared.filter.PlugFilter as plug_type
 use Rattle.plug_stages.specs.declared.tally.PlugTally as tally_type
 use Rattle.run_report.specs.declared.tally.TallyLine.{TallyLine}
 use Rattle.pipeline_json.specs.Stages.{taken}
@@ -23,6 +24,7 @@ use Rattle.run_report.specs.declared.report.StageCount.{StageCount}
 use Rattle.stage_kinds.specs.Stages.{HoldsAll, files_by, keeps_of, says_of, shown_by, writing_of, written_by}
 use Rattle.stage_kinds.specs.declared.file_form.Writing.{Writing}
 use Rattle.stage_kinds.specs.declared.stage_work.StageWork.{StageWork}
+use Rattle.stage_forms.specs.Later.{Remembers}
 use Rattle.stage_options.specs.Shapes.{shapes}
 use Rattle.stage_options.specs.declared.stage.StageSpec.{StageSpec}
 use Rattle.run_outcome.specs.Faults.{AreSound, fault_at}
@@ -128,14 +130,15 @@ or-is (Some n) b = refl
 abbrev pub count_with : {S K P Q : Type 0} → tally_type.Ghosts Q → ℕ → StageSpec → Flow Point → StageWork S K P Q → StageCount
 count_with ts i s given w = count_for i s given (or_shown (written_by w) (shown_by w)) (files_by w) (says_of ts w)
 
-module _ {S K P Q : Type 0} (bytes : K → Option (List ℕ)) (stages : List StageSpec) where
+module _ {S K P Q : Type 0} (bytes : K → Option (List ℕ)) (fs : plug_type.Ghosts P) (ts : tally_type.Ghosts Q) (stages : List StageSpec) where
   -- the first so many stages have their faults, their values stand at their places where no stage took them, and those without a fault
-  -- gave on so much, and the writers among them hold what they take
+  -- gave on so much, the writers among them hold what they take, and what is shown points remembers what it is to
   pub record AreUpTo (opened : Opened) (start : List (StageWork S K P Q)) (count : ℕ) (values : List (Flow Point)) (counts : List StageCount) (found : List (Option StageFault)) (works : List (StageWork S K P Q)) : Type 0 where
     pub faults : (j : ℕ) → j < count → fault_at found j ≡ option_map stage.Point (stage_fault stages opened j)
     pub values_are : (j : ℕ) (v : Flow Point) → slice_get values j ≡ Some v → times j (taken_by stages count) ≡ 0 → v ≡ stage_value stages opened j
     pub counted : (j : ℕ) → j < count → stage_fault stages opened j ≡ None → slice_get counts j ≡ Some (count_at stages opened j)
     pub held : (j : ℕ) → j < count → stage_fault stages opened j ≡ None → (w : StageWork S K P Q) → slice_get works j ≡ Some w → (x : Writing) → writing_of w ≡ Some x → HoldsAll bytes x (points (stage_input stages opened j)) w
+    pub leaves : (j : ℕ) → j < count → stage_fault stages opened j ≡ None → (w : StageWork S K P Q) → slice_get works j ≡ Some w → Remembers fs ts (row_at stages opened j) (stage_input stages opened j) w
     pub keeps : (j : ℕ) → j < count → (v w : StageWork S K P Q) → slice_get start j ≡ Some v → slice_get works j ≡ Some w → keeps_of w ≡ kept_after v (stage_value stages opened j)
 
   module _ (tree : IsTree (shapes stages)) where
@@ -147,8 +150,8 @@ module _ {S K P Q : Type 0} (bytes : K → Option (List ℕ)) (stages : List Sta
           let at = some-at values j (let l = down stages tree i j h in omega (arith, l, size)) in
           get_or_from_slice_get values j at.0 empty_flow at.1 ∙ so_far.values_are j at.0 at.1 (untaken stages tree i j lt h)))
 
-      module _ (ts : tally_type.Ghosts Q) (s : StageSpec) (is : slice_get stages i ≡ Some s) (taken_now : Flow Point) (input : taken_now ≡ join_all (map (value_in values) ((stage_at stages i).ins)))
-          (w : StageWork S K P Q) (given : StageOutput) (gave : IsGivenBy bytes ts (role_at stages i) (row_at stages opened i) (las_at stages opened i) taken_now w given) where
+      module _ (s : StageSpec) (is : slice_get stages i ≡ Some s) (taken_now : Flow Point) (input : taken_now ≡ join_all (map (value_in values) ((stage_at stages i).ins)))
+          (w : StageWork S K P Q) (given : StageOutput) (gave : IsGivenBy bytes fs ts (role_at stages i) (row_at stages opened i) (las_at stages opened i) taken_now w given) where
         taken-is : taken_now ≡ stage_input stages opened i
         taken-is = input ∙ input-is
 
@@ -161,7 +164,7 @@ module _ {S K P Q : Type 0} (bytes : K → Option (List ℕ)) (stages : List Sta
         stage-is : stage_at stages i ≡ s
         stage-is = get_or_from_slice_get stages i s _ is
 
-        holds : stage_fault stages opened i ≡ None → HoldsTaken bytes ts (role_at stages i) (row_at stages opened i) taken_now given.views w
+        holds : stage_fault stages opened i ≡ None → HoldsTaken bytes fs ts (role_at stages i) (row_at stages opened i) taken_now given.views w
         holds none = gave.sound (fault-is ∙ ap (option_map stage.Point) none)
 
         count-is : stage_fault stages opened i ≡ None → count_with ts i s given.views w ≡ count_at stages opened i
@@ -213,6 +216,13 @@ module _ {S K P Q : Type 0} (bytes : K → Option (List ℕ)) (stages : List Sta
                 (subst (HoldsAll bytes x (points taken_now)) r (own.held x (ap writing_of r ∙ is)))))
             | inr p ↦ (let ne = p.1 in let l : j < i = omega (arith, l, ne) in so_far.held j l none z (sym (same j l) ∙ e) x is)
           ];
+          leaves = λ j l none z e. elim (eqb_tells j i) as (λ _. Remembers fs ts (row_at stages opened j) (stage_input stages opened j) z) [
+            | inl p ↦ (
+                let r : w ≡ z = same_Some w z (sym here ∙ ap (slice_get works_then) (sym p.1) ∙ e) in
+                subst (λ k. Remembers fs ts (row_at stages opened k) (stage_input stages opened k) z) (sym p.1) (subst (λ f. Remembers fs ts (row_at stages opened i) f z) taken-is
+                (subst (Remembers fs ts (row_at stages opened i) taken_now) r ((holds (ap (stage_fault stages opened) (sym p.1) ∙ none)).says.leaves))))
+            | inr p ↦ (let ne = p.1 in let l : j < i = omega (arith, l, ne) in so_far.leaves j l none z (sym (same j l) ∙ e))
+          ];
           keeps = λ j l y z a e. elim (eqb_tells j i) as (λ _. keeps_of z ≡ kept_after y (stage_value stages opened j)) [
             | inl p ↦ (
                 let r : w ≡ z = same_Some w z (sym here ∙ ap (slice_get works_then) (sym p.1) ∙ e) in
@@ -226,6 +236,7 @@ module _ {S K P Q : Type 0} (bytes : K → Option (List ℕ)) (stages : List Sta
     pub none-yet : (opened : Opened) (start works : List (StageWork S K P Q)) → AreUpTo opened start 0 [] [] [] works
     none-yet opened start works = record {
       keeps = λ j l. absurd (omega (arith, l));
+      leaves = λ j l. absurd (omega (arith, l));
       faults = λ j l. absurd (omega (arith, l));
       counted = λ j l. absurd (omega (arith, l));
       values_are = λ j v e none. absurd cc;
@@ -234,12 +245,13 @@ module _ {S K P Q : Type 0} (bytes : K → Option (List ℕ)) (stages : List Sta
 
     -- all were, and no stage has a fault
     pub all-done : (opened : Opened) (start : List (StageWork S K P Q)) (n : ℕ) (values : List (Flow Point)) (counts : List StageCount) (found : List (Option StageFault)) (works : List (StageWork S K P Q)) → n ≡ length stages → length counts ≡ n
-        → length works ≡ length stages → AreUpTo opened start n values counts found works → AreSound found → AreEvaluated bytes stages opened start works counts
+        → length works ≡ length stages → AreUpTo opened start n values counts found works → AreSound found → AreEvaluated bytes fs ts stages opened start works counts
     all-done opened start n values counts found works all few size up sound = record {
       sound = least-nowhere (stage_fault stages opened) (length stages) (λ j l. none j (omega (arith, l, all)));
       counted = same-lists counts (counts_of stages opened) (few ∙ all ∙ sym (length-map-range_with_len (count_at stages opened) 0 (length stages))) (λ j l.
           up.counted j (omega (arith, l, few)) (none j (omega (arith, l, few))) ∙ ap (λ k. Some (count_at stages opened k)) (zero-first j) ∙ sym (range-at (count_at stages opened) 0 (length stages) j (omega (arith, l, few, all))));
       held = λ j w e x is. (let lt = (let a = slice_get_within works j w e in let l : j < n = omega (arith, a, size, all) in l) in up.held j lt (none j lt) w e x is);
+      leaves = λ j w e. (let lt = (let a = slice_get_within works j w e in let l : j < n = omega (arith, a, size, all) in l) in up.leaves j lt (none j lt) w e);
       keeps = λ j v w a e. up.keeps j (let l = slice_get_within works j w e in omega (arith, l, size, all)) v w a e;
     }
       where

@@ -12,6 +12,7 @@ use Rattle.stage_kinds.specs.declared.stage_work.StageWork.{StageWork}
 use Rattle.stage_options.specs.declared.stage.StageSpec.{StageSpec}
 use Rattle.set_engine.specs.Fits.{IsFor}
 use Rattle.set_engine.specs.Given.{IsAfter, kept_after}
+use Rattle.stage_forms.specs.Later.{Remembers}
 use Rattle.stage_forms.specs.Starts.{AreGiven}
 
 -- the works of the stages, which had no point yet; over files that the readers tell
@@ -24,9 +25,11 @@ pub record AreAfter {S K P Q : Type 0} (fs : plug_type.Ghosts P) (ts : tally_typ
   pub count : length new ≡ length old
   pub each : (i : ℕ) (v w : StageWork S K P Q) → slice_get old i ≡ Some v → slice_get new i ≡ Some w → IsAfter fs ts faults v w
 
--- none has a fault, they gave on so much, and writers hold what they took, or keep what they are to write
-pub record AreEvaluated {S K P Q : Type 0} (bytes : K → Option (List ℕ)) (stages : List StageSpec) (opened : Opened) (start works : List (StageWork S K P Q)) (counts : List StageCount) : Type 0 where
+-- none has a fault, they gave on so much, and writers hold what they took, or keep what they are to write; what is shown points remembers what
+-- it is to
+pub record AreEvaluated {S K P Q : Type 0} (bytes : K → Option (List ℕ)) (fs : plug_type.Ghosts P) (ts : tally_type.Ghosts Q) (stages : List StageSpec) (opened : Opened) (start works : List (StageWork S K P Q)) (counts : List StageCount) : Type 0 where
   pub sound : least_fault stages opened ≡ None
   pub counted : counts ≡ counts_of stages opened
   pub held : (i : ℕ) (w : StageWork S K P Q) → slice_get works i ≡ Some w → (x : Writing) → writing_of w ≡ Some x → HoldsAll bytes x (points (stage_input stages opened i)) w
   pub keeps : (i : ℕ) (v w : StageWork S K P Q) → slice_get start i ≡ Some v → slice_get works i ≡ Some w → keeps_of w ≡ kept_after v (stage_value stages opened i)
+  pub leaves : (i : ℕ) (w : StageWork S K P Q) → slice_get works i ≡ Some w → Remembers fs ts (row_at stages opened i) (stage_input stages opened i) w

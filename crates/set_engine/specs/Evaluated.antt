@@ -36,4 +36,4 @@ pub record HaveEnded {S K P Q : Type 0} (s : source.Ghosts S) (k : sink.Ghosts K
   pub count : length found ≡ length stages
   pub caused : AreCaused (faults_of s.faults k.faults) old new found
   pub faulty : NoneFailed found → (opened : Opened) → AreGiven s fs ts stages old opened → HaveFaults stages opened found
-  pub sound : AreSound found → (opened : Opened) → AreGiven s fs ts stages old opened → CameToEnd k.bytes stages opened new counts
+  pub sound : AreSound found → (opened : Opened) → AreGiven s fs ts stages old opened → CameToEnd k.bytes fs ts stages opened new counts

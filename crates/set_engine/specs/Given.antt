@@ -28,17 +28,18 @@ use Rattle.set_engine.specs.declared.output.StageOutput.{StageOutput}
 abbrev pub fault_of : Role → Row → Las → Flow Point → Option PointFault
 fault_of role row las flow = cond (is_reading role) (las_fault las) (fault_on row flow)
 
--- it holds what it writes of the points that it took, or of the views that it gave, and its tally says what it is to say
-pub record HoldsTaken {S K P Q : Type 0} (bytes : K → Option (List ℕ)) (ts : tally_type.Ghosts Q) (role : Role) (row : Row) (taken given : Flow Point) (w : StageWork S K P Q) : Type 0 where
+-- it holds what it writes of the points that it took, or of the views that it gave, its tally says what it is to say, and what is shown the
+-- points remembers what it is to
+pub record HoldsTaken {S K P Q : Type 0} (bytes : K → Option (List ℕ)) (fs : plug_type.Ghosts P) (ts : tally_type.Ghosts Q) (role : Role) (row : Row) (taken given : Flow Point) (w : StageWork S K P Q) : Type 0 where
   pub wrote : written_by w ≡ wrote_with role row taken given
   pub held : (x : Writing) → writing_of w ≡ Some x → HoldsAll bytes x (points taken) w
-  pub says : Says ts row taken w
+  pub says : Says fs ts row taken w
 
 -- it says its fault and gave its value, and holds what it writes where it has no fault
-pub record IsGivenBy {S K P Q : Type 0} (bytes : K → Option (List ℕ)) (ts : tally_type.Ghosts Q) (role : Role) (row : Row) (las : Las) (taken : Flow Point) (w : StageWork S K P Q) (given : StageOutput) : Type 0 where
+pub record IsGivenBy {S K P Q : Type 0} (bytes : K → Option (List ℕ)) (fs : plug_type.Ghosts P) (ts : tally_type.Ghosts Q) (role : Role) (row : Row) (las : Las) (taken : Flow Point) (w : StageWork S K P Q) (given : StageOutput) : Type 0 where
   pub fault : given.fault ≡ option_map stage.Point (fault_of role row las taken)
   pub value : given.views ≡ value_of role row las taken
-  pub sound : given.fault ≡ None → HoldsTaken bytes ts role row taken given.views w
+  pub sound : given.fault ≡ None → HoldsTaken bytes fs ts role row taken given.views w
   pub files : files_by w ≡ files_with role given.views
 
 -- what a work keeps once its stage has given this: a stage that needs whole views keeps those that it is to write

@@ -60,7 +60,8 @@ pub fn evaluate_stages<S: Source, K: FileSink, P: PlugFilter, Q: PlugTally>(
     requires tree { IsTree (shapes stages.now) }
     requires count { length works.old ≡ length stages.now }
     requires starts { AreAtStart K.bytes stages.now works.old }
-    ensures ended { IfOk result (λ ended. HaveEnded S.Source K.Sink P.PlugFilter Q.PlugTally stages.now works.old works.new
+    ensures ended { IfOk result
+        (λ ended. HaveEnded S.Source K.Sink P.PlugFilter Q.PlugTally stages.now works.old works.new
         ended.faults.items ended.report.items) }
     ensures later { AreLater P.PlugFilter Q.PlugTally (faults_of S.faults K.faults) works.old works.new }
 {

@@ -63,7 +63,8 @@ fn show_pieces<W: Work>(
     taken: &Views,
 ) -> Result<StageOutput, AllocError>
     requires { IsPlain W.Work work.old }
-    ensures shown { IfOk result (λ given. WasShown (W.meaning work.old) (W.state work.old) (piece_marks taken.now)
+    ensures shown { IfOk result (λ given. WasShown (W.meaning work.old) (W.state work.old)
+        (piece_marks taken.now)
         given.views (W.state work.new) given.fault) }
     ensures uncut { IfOk result (λ given. given.views.cut ≡ false) }
     ensures no_device { IfOk result (λ given. is_device given.fault ≡ false) }
@@ -112,7 +113,8 @@ pub(crate) fn shown_views<W: Work>(
     ensures fault { IfOk result (λ given. given.fault
         ≡ fault_on (W.meaning work.old) (W.state work.old) taken.now) }
     ensures no_device { IfOk result (λ given. is_device given.fault ≡ false) }
-    ensures state { OnOk result (W.state work.new ≡ state_after (W.meaning work.old) (W.state work.old) taken.now) }
+    ensures state { OnOk result (W.state work.new ≡ state_after (W.meaning work.old)
+        (W.state work.old) taken.now) }
     ensures meaning { W.meaning work.new ≡ W.meaning work.old }
 {
     let StageOutput { views, fault } = show_pieces(alloc, work, taken)?;

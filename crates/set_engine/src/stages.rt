@@ -44,8 +44,9 @@ fn layout_of<S: Source, K: FileSink, P: PlugFilter, Q: PlugTally>(
 }
 
 /// What a stage gives on for the views that it takes: a reader gives those of its file, a writer takes their points, and what the
-/// caller handed in is shown them. At the first point with a fault, and where its device fails, it gives what it has by then. The work of a filter is used up, and so is that of a
-/// stage that needs whole views, unless it keeps those of which it writes files. Refuses for want of memory alone.
+/// caller handed in is shown them. At the first point with a fault, and where its device fails, it gives what it has by then. The work of
+/// a filter is used up, and so is that of a stage that needs whole views, unless it keeps those of which it writes files. Refuses for
+/// want of memory alone.
 pub(crate) fn stage_views<S: Source, K: FileSink, P: PlugFilter, Q: PlugTally>(
     alloc: Global,
     work: &mut StageWork<S, K, P, Q>,
@@ -53,7 +54,7 @@ pub(crate) fn stage_views<S: Source, K: FileSink, P: PlugFilter, Q: PlugTally>(
 ) -> Result<StageOutput, AllocError>
     ensures ok { IfOk result (λ given. is_device given.fault ≡ false → (role : Role) (row : Row) (las : Las)
         → IsFor K.bytes P.PlugFilter Q.PlugTally role row work.old → HasFile S.bytes las work.old
-        → IsGivenBy K.bytes Q.PlugTally role row las taken work.new given) }
+        → IsGivenBy K.bytes P.PlugFilter Q.PlugTally role row las taken work.new given) }
     ensures caused { IfOk result (λ given. IsCaused (op_of work.old)
         (Rose (faults_of S.faults K.faults work.old) (faults_of S.faults K.faults work.new)) given.fault) }
     ensures keeps { IfOk result (λ given. keeps_of work.new ≡ kept_after work.old given.views) }

@@ -4,7 +4,7 @@ use Rattle.answer_model.specs.Naming.{AreBack, is_used}
 use Rattle.cloud_points.specs.Meaning.{Nature}
 use Rattle.cloud_points.specs.declared.point.Point.{Point}
 use Rattle.plug_stages.proofs.Out.{all-back, kept-or-used}
-use Rattle.plug_stages.specs.Handed.{Handed, at_place, filter_nature, handed_by, tally_nature_at}
+use Rattle.plug_stages.specs.Handed.{filter_nature, handed_by, tally_nature_at}
 use Rattle.plug_stages.specs.Out.{AreOut}
 use Rattle.plug_stages.specs.declared.filter.PlugFilter as plug_type
 use Rattle.plug_stages.specs.declared.places.Places.{Places}

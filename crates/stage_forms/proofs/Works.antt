@@ -7,7 +7,7 @@ use Rattle.cloud_points.specs.Layouts.{holds}
 use Rattle.cloud_points.specs.Meaning.{Nature}
 use Rattle.cloud_points.specs.declared.dims.Dim.{Dim}
 use Rattle.cloud_points.specs.declared.dims.Dim.TheVariants.{X, Y, Z, Intensity, ReturnNumber, NumberOfReturns, ScanDirectionFlag, EdgeOfFlightLine, Classification, Synthetic, KeyPoint, Withheld, Overlap, ScanChannel, ScanAngleRank, UserData, PointSourceId, GpsTime, Red, Green, Blue, Infrared, Extra}
-use Rattle.plug_stages.specs.Folds.{Step, plug_fold, shown_if, step_where}
+use Rattle.plug_stages.specs.Folds.{Step, last_view, plug_fold, shown_if, step_where}
 use Rattle.std.specs.List.{cons_option}
 use Rattle.expr_lang.specs.Formula.{Formula}
 use Rattle.stage_meanings.specs.Conditions.{passes}
@@ -61,7 +61,7 @@ use Rattle.stage_options.specs.Roles.{Role, plug_of, tally_of, role_of, is_readi
 use Rattle.stage_options.specs.Values.{is_numbered}
 use Rattle.stage_options.specs.Roles as role
 use Rattle.answer_model.specs.Naming.{found_in}
-use Rattle.answer_model.specs.Rows.{Row, Setting, folds, row_of, said_by, value_on}
+use Rattle.answer_model.specs.Rows.{Row, Setting, folds, remembered_by, row_of, said_by, shows, value_on}
 use Rattle.answer_model.specs.Rows as rows
 use Rattle.answer_model.specs.Values.{LasFile, Opened, wrote_with, files_with}
 use Rattle.stage_forms.specs.Starts.{files_of, wrote_of, writes_as, IsBegun, IsCollecting, IsHandedIn, ShowsNone, TellsNone, HoldsNone, IsAtStart, IsStarted, form_for, op_for}
@@ -121,6 +121,8 @@ pub record IsPlugRow (only : Option (Formula Dim)) (o : Options) (setting : Sett
   pub does : role_of o ≡ role.Filters
   pub folds : (n : Nature Point) → found_in setting.handed.filters (plug_of o) ≡ Some n → (row_of o setting).making ≡ rows.Folding n.step n.opening (cleared setting.dims) only
   pub silent : (row_of o setting).says ≡ None
+  pub leaves : (n : Nature Point) → found_in setting.handed.filters (plug_of o) ≡ Some n → (flow : Flow Point)
+      → (row_of o setting).leaves flow ≡ option_map (remembered_by n only) (last_view flow.views flow.open_view)
 
 -- a tally likewise
 pub record IsTallyRow (only : Option (Formula Dim)) (o : Options) (setting : Setting) : Type 0 where
@@ -128,6 +130,8 @@ pub record IsTallyRow (only : Option (Formula Dim)) (o : Options) (setting : Set
   pub judges : (row_of o setting).making ≡ rows.Judging (Admit (λ k p. None) only)
   pub shows : (ps : List Point) → filter ((row_of o setting).writes) ps ≡ passing (passes only) ps
   pub says : (n : Nature Point) → found_in setting.handed.tallies (tally_of o) ≡ Some n → (row_of o setting).says ≡ Some (said_by n)
+  pub leaves : (n : Nature Point) → found_in setting.handed.tallies (tally_of o) ≡ Some n → (flow : Flow Point)
+      → (row_of o setting).leaves flow ≡ Some (remembered_by n only (points flow))
 
 abbrev pub IsRow : StageForm → Options → Setting → Type 0
 IsRow (Reads fields) o setting = (is_reading (role_of o) ≡ true) × (op_for (role_of o) ≡ op_for (role.Reads [])) × (fields ≡ setting.fields)
@@ -176,6 +180,7 @@ row-is (FiltersPlug o) setting = record {
   does = refl;
   folds = λ n e. ap (λ h. (folds setting.names setting.dims h o.only).making) e;
   silent = silent (named_in setting.handed.filters o.plug);
+  leaves = λ n e flow. ap (λ h. (folds setting.names setting.dims h o.only).leaves flow) e;
 }
   where
     silent : (h : Option (Nature Point)) → (folds setting.names setting.dims h o.only).says ≡ None
@@ -186,6 +191,7 @@ row-is (WritersTally o) setting = record {
   judges = refl;
   shows = λ ps. refl;
   says = λ n e. ap (option_map said_by) e;
+  leaves = λ n e flow. ap (λ h. (shows setting.names h o.only).leaves flow) e;
 }
 row-is (FiltersSort o) setting = gathers-row _ (FiltersSort o) setting refl refl
 row-is (FiltersTail o) setting = gathers-row _ (FiltersTail o) setting refl refl
@@ -301,7 +307,7 @@ module _ (step : Step Point) (opening : List ℤ) (one other : Dim → Bool) (on
 both : {A B : Type 0} {a c : A} {b d : B} → a ≡ c → b ≡ d → ◌≡◌ {A = A × B} (a, b) (c, d)
 both e f = rw (e, f) refl
 
-plug-begins : {P : Type 0} (fs : plug_type.Ghosts P) (w : PlugWork P) (only : Option (Formula Dim)) (has : Dim → Bool) → ShowsNone only has w → plug_spot fs w ≡ plug_spot_at 0 (fs.state w.plug)
+pub plug-begins : {P : Type 0} (fs : plug_type.Ghosts P) (w : PlugWork P) (only : Option (Formula Dim)) (has : Dim → Bool) → ShowsNone only has w → plug_spot fs w ≡ plug_spot_at 0 (fs.state w.plug)
 plug-begins fs w only has start = ap (λ (y : ℕ × Bool). record { number = y.0; begun = y.1; remembered = fs.state w.plug }) (both start.number start.begun)
 
 pub tally-begins : {Q : Type 0} (ts : tally_type.Ghosts Q) (w : TallyWork Q) (only : Option (Formula Dim)) → TellsNone only w → tally_spot ts w ≡ tally_spot_at 0 0 (ts.state w.tally)

@@ -5,7 +5,6 @@ use Rattle.file_devices.specs.declared.devices.Op.TheVariants.{Read, Write}
 use Rattle.file_devices.specs.declared.devices.Source as source
 use Rattle.cloud_points.specs.declared.dims.Dim.{Dim}
 use Rattle.cloud_points.specs.Layouts.{holds}
-use Rattle.cloud_points.specs.declared.work.Work.{Ghosts}
 use Rattle.cloud_points.specs.Flows.{Flow, all_of, points, empty_flow}
 use Rattle.expr_lang.specs.Formula.{Formula}
 use Rattle.view_works.specs.declared.collector.Collector.{Collector as Collecting}
@@ -208,10 +207,14 @@ wrote_of (Writes x) taken given = Some (up_to_limit (length (chosen x.only (poin
 wrote_of (Gathers (Each x)) taken given = Some (up_to_limit (length (chosen x.only (all_of given.views))))
 wrote_of _ taken given = None
 
--- whether it shows its points to a tally
+-- whether it shows its points to a tally, and whether to a filter or a tally of the caller
 abbrev pub tells_points : StageForm → Bool
 tells_points (Tallies only) = true
 tells_points _ = false
+
+abbrev pub shows_points : StageForm → Bool
+shows_points (Plugs only) = true
+shows_points form = tells_points form
 
 -- what it writes of each of these views, which it keeps for that
 abbrev pub kept_for : StageForm → Flow Point → Option (Writing × Flow Point)

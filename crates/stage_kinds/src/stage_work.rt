@@ -210,6 +210,7 @@ impl<S: Source, K: FileSink, P: PlugFilter, Q: PlugTally> StageWork<S, K, P, Q> 
             result }
         ensures keeps { keeps_of self.new ≡ keeps_of self.old }
         ensures handed { HoldsSame P.PlugFilter Q.PlugTally self.old self.new }
+        ensures others { writing_of self.old ≡ None → self.new ≡ self.old }
     {
         match self {
             StageWork::Writer(writer) => writer.file.finish(),

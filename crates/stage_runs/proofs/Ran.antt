@@ -37,7 +37,7 @@ use Rattle.answer_model.specs.Values.{LasFile, Opened, IsDown, options_at, role_
 use Rattle.answer_model.specs.Rows as rows
 use Rattle.answer_model.proofs.Values.{value-input}
 use Rattle.stage_forms.specs.Later.{Says}
-use Rattle.stage_forms.specs.Starts.{HoldsNone, files_of, form_for, kept_for, op_for, HaveRead, IsAtStart, IsHandedIn, tells_points, wrote_of}
+use Rattle.stage_forms.specs.Starts.{HoldsNone, files_of, form_for, kept_for, op_for, HaveRead, IsAtStart, IsHandedIn, shows_points, wrote_of}
 use Rattle.stage_runs.specs.Works.{as_works, AreNewStages, RunOn}
 use Rattle.stage_runs.specs.Ran.{EndsAsStage}
 use Rattle.stage_runs.proofs.Kept.{writing-kept}
@@ -172,15 +172,15 @@ module _ {S K P Q : Type 0} (s : source.Ghosts S) (k : sink.Ghosts K) (fs : plug
                 }
 
         -- a leaf has no tally, and any other work is behind what the stage takes
-        says-so : m.fault ≡ None → Says ts (row_at stages opened i) (stage_input stages opened i) m.work
+        says-so : m.fault ≡ None → Says fs ts (row_at stages opened i) (stage_input stages opened i) m.work
         says-so sound = by_kind (is_leaf n.work) refl
           where
             same : tally_in ts m.work ≡ tally_in ts n.work
             same = tallies-same fs ts m.work n.work means
 
-            by_kind : (b : Bool) → is_leaf n.work ≡ b → Says ts (row_at stages opened i) (stage_input stages opened i) m.work
-            by_kind true l = silent-says ts (row_at stages opened i) (stage_input stages opened i) m.work
-                (silent-row (options_at stages i) (setting_at stages opened i) (ap tells_points (reads-form (options_at stages i) (setting_at stages opened i) (leaf-at i n was l).reads)))
+            by_kind : (b : Bool) → is_leaf n.work ≡ b → Says fs ts (row_at stages opened i) (stage_input stages opened i) m.work
+            by_kind true l = silent-says fs ts (row_at stages opened i) (stage_input stages opened i) m.work
+                (silent-row (options_at stages i) (setting_at stages opened i) (ap shows_points (reads-form (options_at stages i) (setting_at stages opened i) (leaf-at i n was l).reads)))
                 (same ∙ leaf-tallies ts n.work l)
             by_kind false l = told-is fs ts k.bytes (options_at stages i) (setting_at stages opened i) n.work m.work (stage_input stages opened i) (start-at i n was) (handed-at i n was) (took l).state same
                 (elim (sound-so sound) [ inl e ↦ e | inr e ↦ absurd (true≢false (sym e ∙ (inner-at i n was l streams).inner)) ])
@@ -254,7 +254,7 @@ module _ {S K P Q : Type 0} (s : source.Ghosts S) (k : sink.Ghosts K) (fs : plug
           fault = fault;
           holds = λ sound writing is. absurd (true≢false (sym gathers ∙ ap is_gathering ((writer-row (options_at stages i) (setting_at stages opened i) writing is).does)));
           wrote = λ sound. wrote-so row.1 row.4;
-          says = λ sound. silent-says ts (row_at stages opened i) (stage_input stages opened i) m.work (silent-row (options_at stages i) (setting_at stages opened i) (ap tells_points row.4)) without;
+          says = λ sound. silent-says fs ts (row_at stages opened i) (stage_input stages opened i) m.work (silent-row (options_at stages i) (setting_at stages opened i) (ap shows_points row.4)) without;
           files = files-so row.1 row.4;
           keeps = keeps;
         }

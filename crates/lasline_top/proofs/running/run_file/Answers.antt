@@ -6,6 +6,7 @@ use Rattle.lasline_top.specs.Words.{Run_file}
 use Rattle.run_report.proofs.Lines.{OnOk-more}
 use Rattle.lasline_top.specs.Answer.{ran}
 use Rattle.lasline_top.specs.Tasks.{engine_view}
+use Rattle.lasline_top.proofs.Back.{always, file-remembered}
 use Rattle.lasline_top.proofs.Printed.{if-unprinted}
 use Rattle.lasline_top.proofs.Ran.{ran-as, done_is, run-unprinted}
 use Rattle.lasline_top.proofs.Reading.{file-ahead, file-refused}
@@ -35,6 +36,14 @@ returns-in_err-report-clause-ahead g c =
     subst (λ r. IfErr r (λ r. (m : Names) → files.map c.args.files.now ≡ Some m → IsReadAhead (Ok (Run_file c.args.name.now engine)) m (files.read_to c.args.files.now) (files.read_to c.run_text.new.files) r)) (sym refused)
     (λ m told. file-ahead c.args.name.now engine m c.deref.result.now (files.read_to c.args.files.now) (files.read_to c.read_text.new.files) (files.read_to c.run_text.new.files) refusal
     (c.in_ok-text.ensures.ok m told ∙ ap (λ text. Ok text) (sym c.deref.ensures.value)) first (c.in_err-report.ensures.ahead m (c.in_ok-text.ensures.settled.map_same ∙ told)))
+
+pub returns-clause-remembered : goal.returns-clause-remembered
+returns-clause-remembered g c =
+    let files = g.F.Files in
+    always g.P.PlugFilter g.Q.PlugTally c.print_report.result
+    (file-remembered g.P.PlugFilter g.Q.PlugTally c.args.name.now c.deref.result.now (engine_view (g.T.Scheduler.stop c.args.scheduler.now) c.args.engine) (files.map c.args.files.now) (files.map c.run_text.new.files)
+    c.args.places.now c.run_text.new.places (λ m e. c.in_ok-text.ensures.ok m e ∙ ap (λ text. Ok text) (sym c.deref.ensures.value))
+    (λ m e. c.in_ok-report.ensures.remembered m (c.in_ok-text.ensures.settled.map_same ∙ e)))
 
 pub returns-clause-ahead : goal.returns-clause-ahead
 returns-clause-ahead g c = if-err c.print_report.result c.print_report.ensures.err (λ r is m told.

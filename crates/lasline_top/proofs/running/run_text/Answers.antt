@@ -4,6 +4,7 @@ use Rattle.run_engine.specs.Stopping.{IsCauseBy}
 use Rattle.lasline_top.specs.Tasks.{engine_view}
 use Rattle.lasline_top.specs.Words.{stop_in}
 use Rattle.lasline_top.proofs.Ran.{if-stopped, ends-so}
+use Rattle.lasline_top.proofs.Back.{text-remembered}
 use Rattle.lasline_top.proofs.Reading.{text-ahead}
 use Rattle.plug_stages.specs.Handed.{handed_by}
 use Rattle.lasline_top.proofs.running.run_text.Goals as goal
@@ -18,6 +19,11 @@ returns-clause-err g c =
     (c.in_ok-tree.ensures.ok ∙ ap (λ tree. Ok tree) (sym c.as_slice.ensures.stages)) c.run_pipeline.result
     (subst (λ ends. IfErr c.run_pipeline.result (IsCauseBy ends rose (handed_by g.P.PlugFilter g.Q.PlugTally c.args.places.now) (files.map c.args.files.now) stages)) (ends-so c.args.engine stop) c.run_pipeline.ensures.err)
     c.run_pipeline.ensures.left
+
+pub returns-clause-remembered : goal.returns-clause-remembered
+returns-clause-remembered g c =
+    text-remembered g.P.PlugFilter g.Q.PlugTally (handed_by g.P.PlugFilter g.Q.PlugTally c.args.places.now) c.args.text.now c.as_slice.result.now (g.F.Files.map c.args.files.now) c.run_pipeline.new.places
+    c.run_pipeline.result (c.in_ok-tree.ensures.ok ∙ ap (λ tree. Ok tree) (sym c.as_slice.ensures.stages)) c.run_pipeline.ensures.remembered
 
 pub returns-clause-ahead : goal.returns-clause-ahead
 returns-clause-ahead g c =

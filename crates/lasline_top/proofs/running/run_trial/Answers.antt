@@ -4,6 +4,7 @@ use Rattle.file_devices.specs.Content.{Appends, AppendsPart}
 use Rattle.cloud_gen.specs.GeneratedFile.{generated_file, IsPut}
 use Rattle.run_report.proofs.Lines.{OnOk-more}
 use Rattle.lasline_top.specs.Tasks.{engine_view}
+use Rattle.lasline_top.proofs.Back.{always, trial-remembered}
 use Rattle.lasline_top.proofs.Printed.{if-unprinted}
 use Rattle.lasline_top.proofs.Tried.{trial-stopped, trial-ran, trial-done, trial-unprinted, line-part, report-part}
 use Rattle.plug_stages.specs.Handed.{handed_by}
@@ -28,6 +29,14 @@ returns-in_err-print_text-clause-err g c =
     (trial-ran (handed_by g.P.PlugFilter g.Q.PlugTally c.args.places.now) c.args.count.points c.as_bytes.result.now c.in_ok-report.report.items (files.map c.args.files.now) (files.map c.make.new.files) (files.map c.run_text.new.files) put-in (c.as_bytes.ensures.value ∙ c.trial_text.ensures) c.in_ok-report.ensures.untold c.in_ok-report.ensures.ok)
     (line-part c.args.count.points c.in_ok-report.report.items _ _
     (subst (λ text. AppendsPart (g.K.Sink.bytes c.args.out.now) text (g.K.Sink.bytes c.print_text.new.out)) (c.as_str.ensures.value ∙ c.in-Ok.ensures) c.in_err-print_text.ensures.part)))
+
+pub returns-clause-remembered : goal.returns-clause-remembered
+returns-clause-remembered g c =
+    let files = g.F.Files in
+    let put-in = subst (λ name. IsPut (files.map c.args.files.now) name (generated_file c.args.count.points) (files.map c.make.new.files)) c.trial_name.ensures c.in_ok-make.ensures.ok in
+    always g.P.PlugFilter g.Q.PlugTally c.print_report.result
+    (trial-remembered g.P.PlugFilter g.Q.PlugTally c.args.count.points c.as_bytes.result.now (engine_view (g.T.Scheduler.stop c.args.scheduler.now) c.args.engine) (files.map c.args.files.now) (files.map c.make.new.files)
+    (files.map c.run_text.new.files) c.args.places.now c.run_text.new.places (c.as_bytes.ensures.value ∙ c.trial_text.ensures) put-in c.in_ok-report.ensures.untold c.in_ok-report.ensures.remembered)
 
 pub returns-clause-ok : goal.returns-clause-ok
 returns-clause-ok g c =

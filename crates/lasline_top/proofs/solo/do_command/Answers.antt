@@ -1,5 +1,5 @@
-use Rattle.std.proofs.Common.{Err, refl, ap}
-use Rattle.lasline_top.proofs.Called.{done_answered, refused_answered}
+use Rattle.std.proofs.Common.{Err, refl, ap, sym, ◌∙◌}
+use Rattle.lasline_top.proofs.Called.{done_answered, never-ok, refused_answered}
 use Rattle.plug_stages.specs.Handed.{handed_by}
 use Rattle.lasline_top.proofs.solo.do_command.Goals as goal
 
@@ -8,6 +8,7 @@ returns-in-Ok g c = record {
   answered = done_answered (handed_by g.P.PlugFilter g.Q.PlugTally c.args.places.now) _ _ _ c.in-Ok.ensures.lent c.in-Ok.ensures.later c.in-Ok.ensures.opened
       c.in-Ok.ensures.ok c.in-Ok.ensures.page (λ r e. let wrong = c.in-Ok.ensures.words_first r e in cc) refl;
   back = c.in-Ok.ensures.back;
+  remembered = λ is. c.in-Ok.ensures.remembered;
 }
 
 pub returns-in-Err : goal.returns-in-Err
@@ -16,4 +17,5 @@ returns-in-Err g c = record {
       c.in-Err.refusal c.refused.result c.refused.ensures.status c.in-Err.ensures.err c.in-Err.ensures.page_part
       (λ r e. let is = c.in-Err.ensures.words_first r e in cc) (λ k e. c.in-Err.ensures.of_words k (ap (λ r. Err r) e)) c.refused.ensures.line c.in-Err.ensures.ahead;
   back = c.in-Err.ensures.back;
+  remembered = λ is. absurd (never-ok c.in-Err.refusal (sym is ∙ c.refused.ensures.status));
 }

@@ -8,6 +8,7 @@ use Rattle.run_outcome.specs.Cause.{WerePut}
 use Rattle.run_ending.specs.Each.{AreInside, BrokeOffAt, all_files}
 use Rattle.run_ending.proofs.Taken.{broke-same, broke-wider, fit-later, kept-same, on-ok-more, same-held}
 use Rattle.run_ending.proofs.Placed.{filters-later, tallies-later}
+use Rattle.run_ending.proofs.Putting.{always, put-same}
 use Rattle.run_ending.proofs.Keeping.{untold-broke, untold-kept}
 use Rattle.run_ending.proofs.all.keep_all.Goals as goal
 
@@ -73,6 +74,10 @@ returns-clause-err g c =
           (files.map c.keep_works.new.files) (files.map c.write_each.new.files) c.args.stages.now _ refusal
           (subst (λ kept. BrokeOffAt (Rose (files.faults c.keep_works.new.files) (files.faults c.write_each.new.files)) (files.map c.keep_works.new.files) (files.map c.write_each.new.files) c.args.stages.now kept refusal) c.in-Ok.ensures.kept broke);
     })))
+
+pub returns-clause-put : goal.returns-clause-put
+returns-clause-put g c = always c.write_each.result (put-same g.P.PlugFilter g.Q.PlugTally (faults_of g.F.In.Source.faults g.F.Out.Sink.faults) c.args.works.items c.take_each.new.works.items c.take_each.ensures.later c.take_each.ensures.others
+    c.in_ok-keep_works.ensures.put)
 
 pub returns-clause-untold : goal.returns-clause-untold
 returns-clause-untold g c = λ none.

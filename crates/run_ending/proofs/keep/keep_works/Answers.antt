@@ -1,11 +1,12 @@
-use Rattle.std.proofs.Common.{◌≡◌, ◌+◌, length, reverse, vec_len, refl, ap, sym, ◌∙◌, arith}
-use Rattle.std.proofs.lemmas.List.{reverse-reverse}
+use Rattle.std.proofs.Common.{◌≡◌, ◌+◌, [], ◌∷◌, length, reverse, vec_len, refl, ap, sym, ◌∙◌, arith}
+use Rattle.std.proofs.lemmas.List.{reverse-append, reverse-reverse}
 use Rattle.std.proofs.lemmas.Option.{slice_get_read}
 use Rattle.stage_kinds.specs.Held.{op_of}
 use Rattle.stage_options.specs.Roles.{role_of}
 use Rattle.stage_forms.specs.Starts.{op_for}
 use Rattle.held_devices.specs.Holding.{there, all_held}
 use Rattle.run_ending.specs.Keeping.{kept_first}
+use Rattle.run_ending.specs.Putting.{with_filters, with_tallies}
 use Rattle.held_devices.proofs.Lists.{popped, one_less, none_left}
 use Rattle.held_devices.proofs.Sums.{sum-pop, sum-reverse, none-there}
 use Rattle.run_outcome.proofs.Stages.{role-is}
@@ -21,6 +22,8 @@ loop-work-init g c = record {
   kept = refl;
   lent = λ others e. (let a = ap all_held c.reverse.ensures.items ∙ sum-reverse (λ w. there (op_of w)) c.args.works.items in omega (arith, a, e));
   later = omega arith;
+  put_filters = ap (λ ws. with_filters ws c.args.places.now.filters.items) (ap reverse c.reverse.ensures.items ∙ reverse-reverse c.args.works.items);
+  put_tallies = ap (λ ws. with_tallies ws c.args.places.now.tallies.items) (ap reverse c.reverse.ensures.items ∙ reverse-reverse c.args.works.items);
   filters = λ used before are. filters-turned c.args.works.items c.reverse.new.self.items c.reverse.ensures.items used g.P.PlugFilter before c.args.places.now.filters.items are;
   tallies = λ used before are. tallies-turned c.args.works.items c.reverse.new.self.items c.reverse.ensures.items used g.Q.PlugTally before c.args.places.now.tallies.items are;
 }
@@ -60,6 +63,7 @@ loop-work-preserved g c =
     let n = one_less c.loop-work.at (vec_len c.loop-work.works) (vec_len c.pop.new.self) (length c.args.works.items) now.count c.in-Some.ensures.cases in
     let at = slice_get_read c.args.stages.now (length c.args.stages.now) c.loop-work.at c.index-stages-at.result refl (let a = n.0 in let b = c.requires.count in omega (arith, a, b)) c.index-stages-at.is in
     let sum = sum-pop (λ w. there (op_of w)) c.loop-work.works.items c.pop.new.self.items c.in-Some.work c.in-Some.ensures.items in
+    let turned : reverse c.loop-work.works.items ≡ c.in-Some.work ∷ reverse c.pop.new.self.items = ap reverse c.in-Some.ensures.items ∙ reverse-append c.pop.new.self.items (c.in-Some.work ∷ []) in
     record {
       left = p.1;
       count = n.1;
@@ -67,6 +71,8 @@ loop-work-preserved g c =
           (role_of c.index-stages-at.result.options) (role-is c.args.stages.now c.loop-work.at c.index-stages-at.result at) p.0 now.kept c.in-Ok.ensures.ok;
       lent = λ others e. (let a = now.lent others e in c.keep_work.ensures.lent (others + all_held c.pop.new.self.items) (omega (arith, a, sum)));
       later = (let a = now.later in let b = c.keep_work.ensures.later in omega (arith, a, b));
+      put_filters = ap (with_filters (reverse c.pop.new.self.items)) c.keep_work.ensures.filters ∙ ap (λ ws. with_filters ws c.loop-work.places.filters.items) (sym turned) ∙ now.put_filters;
+      put_tallies = ap (with_tallies (reverse c.pop.new.self.items)) c.keep_work.ensures.tallies ∙ ap (λ ws. with_tallies ws c.loop-work.places.tallies.items) (sym turned) ∙ now.put_tallies;
       filters = λ used before are. filter-back c.loop-work.works.items c.pop.new.self.items c.in-Some.work c.in-Some.ensures.items used g.P.PlugFilter before c.loop-work.places.filters.items
           c.keep_work.new.places.filters.items c.keep_work.ensures.filters (now.filters used before are);
       tallies = λ used before are. tally-back c.loop-work.works.items c.pop.new.self.items c.in-Some.work c.in-Some.ensures.items used g.Q.PlugTally before c.loop-work.places.tallies.items
@@ -92,6 +98,15 @@ pub returns-clause-tallies : goal.returns-clause-tallies
 returns-clause-tallies g c = λ used before are. tallies-done c.args.works.items c.loop-work.works.items
     (none-there c.loop-work.works.items (let z = c.in_default.ensures.cases.0 in let k = c.loop-work.works.ok in omega (arith, z, k))) used g.Q.PlugTally
     c.args.places.now.tallies.items c.loop-work.places.tallies.items before c.loop-work.invariant.tallies are
+
+pub returns-clause-put : goal.returns-clause-put
+returns-clause-put g c =
+    let now = c.loop-work.invariant in
+    let none = none-there c.loop-work.works.items (let z = c.in_default.ensures.cases.0 in let k = c.loop-work.works.ok in omega (arith, z, k)) in
+    record {
+      filters = ap (λ ws. with_filters (reverse ws) c.loop-work.places.filters.items) (sym none) ∙ now.put_filters;
+      tallies = ap (λ ws. with_tallies (reverse ws) c.loop-work.places.tallies.items) (sym none) ∙ now.put_tallies;
+    }
 
 pub returns-clause-lent : goal.returns-clause-lent
 returns-clause-lent g c = λ others e.

@@ -1,5 +1,6 @@
-use Rattle.std.proofs.Common.{◌+◌, IsOkAnd, option_map, ap, sym, subst, ◌∙◌, arith}
+use Rattle.std.proofs.Common.{◌+◌, IsOkAnd, option_map, refl, ap, sym, subst, ◌∙◌, arith}
 use Rattle.answer_model.specs.Runs.{run_of}
+use Rattle.run_ending.proofs.Taken.{on-ok-more}
 use Rattle.run_outcome.specs.Cause.{IsLeft, IsRun}
 use Rattle.run_outcome.proofs.Results.{if-ok, if-err}
 use Rattle.run_outcome.proofs.Causes.{rose-within}
@@ -57,6 +58,16 @@ returns-clause-left g c =
     if-err c.close.result c.close.ensures.left (λ refusal left m told.
     subst (λ old. IsLeft refusal old (files.map c.close.new.files) (run_of handed m stages)) c.prepare.ensures.map
     (left stop handed m (subst (λ first. HasRun g.F.In.Source g.F.Out.Sink g.P.PlugFilter g.Q.PlugTally stop handed first stages c.run-enough.new.self) told ran)))
+
+pub returns-clause-remembered : goal.returns-clause-remembered
+returns-clause-remembered g c =
+    let map = g.F.Files.map c.args.files.now in
+    let handed = handed_by g.P.PlugFilter g.Q.PlugTally c.args.places.now in
+    let stop = ends_at c.args.engine (g.T.Scheduler.stop c.args.scheduler.now) in
+    let ran = c.run-enough.ensures.ran c.args.engine handed map c.in_ok-job.ensures.ready in
+    on-ok-more c.close.result c.close.ensures.remembered (λ remembered m told. remembered stop handed m c.args.places.now
+    (subst (λ first. HasRun g.F.In.Source g.F.Out.Sink g.P.PlugFilter g.Q.PlugTally stop handed first c.args.stages.now c.run-enough.new.self) told ran) refl c.requires.named
+    (c.run-enough.ensures.out c.args.places.now c.prepare.new.places c.in_ok-job.ensures.out))
 
 pub returns-clause-lent : goal.returns-clause-lent
 returns-clause-lent g c = c.close.ensures.lent (g.F.Files.lent c.args.files.now)

@@ -29,7 +29,7 @@ loop-i-init g c = record {
   after = all-stay g.P.PlugFilter g.Q.PlugTally (faults_of g.S.Source.faults g.K.Sink.faults) c.args.works.now;
   rest = λ j le. refl;
   caused = λ j o e. absurd (let none = sym (ap (λ found. fault_at found j) c.new-faults.ensures) ∙ e in cc);
-  up_to = λ none opened told. (rw (c.in_ok-values.ensures.items, c.new-report.ensures, c.new-faults.ensures) (none-yet g.K.Sink.bytes c.args.stages.now c.requires.tree opened c.args.works.now c.args.works.now));
+  up_to = λ none opened told. (rw (c.in_ok-values.ensures.items, c.new-report.ensures, c.new-faults.ensures) (none-yet g.K.Sink.bytes g.P.PlugFilter g.Q.PlugTally c.args.stages.now c.requires.tree opened c.args.works.now c.args.works.now));
 }
 
 pub take_joined-requires-clause-inside : goal.take_joined-requires-clause-inside
@@ -126,9 +126,9 @@ loop-i-preserved g c =
       caused = subst (AreCaused (faults_of g.S.Source.faults g.K.Sink.faults) old (set works i w)) (sym told) (caused-more (faults_of g.S.Source.faults g.K.Sink.faults) old works found i v w given.fault now.told was at c.in_ok-views.ensures.caused now.caused);
       up_to = λ none opened tell.
           let calm = none-with found given.fault (subst NoneFailed told none) in
-          let gave : IsGivenBy g.K.Sink.bytes ts (role_at stages i) (row_at stages opened i) (las_at stages opened i) c.in_ok-taken.taken w given =
+          let gave : IsGivenBy g.K.Sink.bytes fs ts (role_at stages i) (row_at stages opened i) (las_at stages opened i) c.in_ok-taken.taken w given =
           c.in_ok-views.ensures.ok calm.1 (role_at stages i) (row_at stages opened i) (las_at stages opened i) (all-fit g.S.Source fs ts g.K.Sink.bytes stages old c.requires.starts opened tell i v was) (las-told g.S.Source fs ts g.K.Sink.bytes stages old c.requires.starts opened i v tell.told was) in
-          one-more g.K.Sink.bytes stages c.requires.tree opened old i lt values c.loop-i.report.items found works (now.up_to calm.0 opened tell) size ts t there-now c.in_ok-taken.taken input w given gave
+          one-more g.K.Sink.bytes fs ts stages c.requires.tree opened old i lt values c.loop-i.report.items found works (now.up_to calm.0 opened tell) size t there-now c.in_ok-taken.taken input w given gave
           c.take_joined.new.values c.push_reserved.new.self.items c.push.new.self.items c.push-in-loop-i.new.self.items (set works i w) left
           (λ j away. c.in_ok-taken.ensures.others j (ap (λ js. has js j) (sym ins) ∙ away) ∙ ap (λ vs. slice_get vs j) c.as_mut_slice.ensures.value)
           (c.push_reserved.ensures.items ∙ ap (λ vs. vs ++ given.views ∷ []) (front c.take_joined.new.values (drop (length c.take_joined.new.values) values) c.loop-i.values.len (left ∙ sym now.values)))
@@ -159,5 +159,5 @@ returns-clause-ended g c =
       caused = now.caused;
       faulty = λ none opened tell i lt. (now.up_to none opened tell).faults i (omega (arith, all, lt));
       sound = λ quiet opened tell. came s g.P.PlugFilter g.Q.PlugTally k.bytes stages old c.requires.starts (faults_of s.faults k.faults) works now.after opened counts tell.told
-          (all-done k.bytes stages c.requires.tree opened old c.loop-i.i c.loop-i.values.items counts found works all now.counts size (now.up_to (λ j. ap is_device (quiet j)) opened tell) quiet);
+          (all-done k.bytes g.P.PlugFilter g.Q.PlugTally stages c.requires.tree opened old c.loop-i.i c.loop-i.values.items counts found works all now.counts size (now.up_to (λ j. ap is_device (quiet j)) opened tell) quiet);
     }

@@ -22,5 +22,5 @@ invariant-loop-i g l =
       after : AreAfter g.P.PlugFilter g.Q.PlugTally faults l.fn.works l.works;
       rest : (j : ℕ) → l.i ≤ j → slice_get l.works j ≡ slice_get l.fn.works j;
       caused : AreCaused faults l.fn.works l.works found;
-      up_to : NoneFailed found → (opened : Opened) → AreGiven g.S.Source g.P.PlugFilter g.Q.PlugTally l.stages l.fn.works opened → AreUpTo g.K.Sink.bytes l.stages opened l.fn.works l.i l.values.items l.report.items found l.works;
+      up_to : NoneFailed found → (opened : Opened) → AreGiven g.S.Source g.P.PlugFilter g.Q.PlugTally l.stages l.fn.works opened → AreUpTo g.K.Sink.bytes g.P.PlugFilter g.Q.PlugTally l.stages opened l.fn.works l.i l.values.items l.report.items found l.works;
     }

@@ -2,9 +2,10 @@ use Rattle.std.proofs.Common.{◌≡◌, ◌+◌, Err, refl, ap, sym, subst, ◌
 use Rattle.std.specs.Prelude.{None, Some}
 use Rattle.file_devices.specs.Counts.{Rose}
 use Rattle.stage_kinds.specs.Held.{faults_of}
+use Rattle.answer_model.specs.Naming.{AreNamed}
 use Rattle.answer_model.specs.Values.{Opened}
 use Rattle.answer_model.specs.Runs.{run_of, opened_in}
-use Rattle.stage_forms.specs.Starts.{AreGiven}
+use Rattle.stage_forms.specs.Starts.{AreGiven, AreHandedIn}
 use Rattle.run_outcome.specs.Outcomes.{refusal_for}
 use Rattle.run_outcome.proofs.Outcomes.{not-refused}
 use Rattle.run_outcome.proofs.Results.{on-ok, err-of}
@@ -20,6 +21,7 @@ use Rattle.run_engine.proofs.Blamed.{failed-first, failed-finish, failed-all}
 use Rattle.run_engine.proofs.Ran.{later-on, done-on}
 use Rattle.run_engine.proofs.Answers.{early-left, fault-cause, fault-early, unfinished-to-cause, unfinished-early, same-held, fit, is-run, unkept-cause, unkept-left, unkept-no-data}
 use Rattle.run_engine.proofs.Given.{later-out, released-back}
+use Rattle.run_engine.proofs.Remembered.{are-remembered}
 use Rattle.run_engine.proofs.job.Job.close.Goals as goal
 
 pub returns-in-Err-clause-err : goal.returns-in-Err-clause-err
@@ -203,6 +205,21 @@ returns-in-Ok-clause-ok g c = λ stop handed m ran.
     let ended : (opened : Opened) → AreGiven s fs ts stages ran.before opened → AreDone k.bytes stages opened done counts = λ opened tell.
     done-on faults ran.before works done ran.later c.finish-works.ensures.later k.bytes stages opened counts (on-ok c.finish-works.result.outcome c.in_default-outcome.field-0 c.in_default-outcome.is c.finish-works.ensures.finished) c.finish-works.ensures.kept (came.sound sound opened tell) in
     is-run s k fs ts handed (Some m) stages ran.before done ran.ready faults later counts ended m refl (files.map c.args.files.now) (files.map c.keep_all.new.files) c.keep_all.ensures.untold c.in-Ok.ensures.ok
+
+pub returns-in-Ok-clause-remembered : goal.returns-in-Ok-clause-remembered
+returns-in-Ok-clause-remembered g c = λ stop handed m before ran is named out.
+    let s = g.S.Source in
+    let k = g.K.Sink in
+    let fs = g.P.PlugFilter in
+    let ts = g.Q.PlugTally in
+    let stages = c.args.stages.now in
+    let works = c.args.self.works.items in
+    let came = subst (HaveCome s k fs ts stop stages ran.before works) c.in-Done.is ran.came in
+    let none : refusal_for c.in-Done.ended.faults.items ≡ None = subst (λ fs. refusal_for fs ≡ None) c.as_slice.ensures.value c.in_default.ensures.ok in
+    let ended = came.sound (not-refused c.in-Done.ended.faults.items none) (opened_in handed m stages) (ran.ready.tell m refl) in
+    are-remembered fs ts stages before (subst (λ h. AreNamed h stages) is named) (faults_of s.faults k.faults) ran.before works c.finish-works.result.works.items ran.ready.count ran.later
+    c.finish-works.ensures.later c.finish-works.ensures.others (subst (AreHandedIn fs ts stages ran.before) is ran.ready.handed) (opened_in handed m stages) is
+    c.args.places.now c.keep_all.new.places out c.in-Ok.ensures.put ended.leaves
 
 pub returns-in-Ok-clause-refused : goal.returns-in-Ok-clause-refused
 returns-in-Ok-clause-refused g c = λ refusal came.
