@@ -4,10 +4,10 @@ ghost use Rattle.std.specs.Prelude.{◌≡◌, ◌≤ℤ◌, pos, false, [], IfO
 ghost use Rattle.whole_filters.specs.Whole.{whole_set};
 ghost use Rattle.tile_filters.specs.Tiles.{squares, voxels};
 
-use crate::cells::cell_of;
+use crate::cells::CellLength;
 use cloud_points::Point;
 use std::alloc::{AllocError, Global};
-use whole_filters::{EdgeLength, PointKey, Squares, Views, first_of_each, group_by};
+use whole_filters::{PointKey, Views, first_of_each, group_by};
 
 /// A square, by its cells.
 #[derive(PartialEq, Eq, Hash, Drop)]
@@ -19,50 +19,54 @@ pub struct Square {
 /// A voxel, by its cells.
 #[derive(PartialEq, Eq, Hash, Drop)]
 pub struct Voxel {
-    x: i128,
-    y: i128,
-    z: i128,
+    x: i64,
+    y: i64,
+    z: i64,
 }
 
-/// Points are told apart by the squares in which they lie.
+/// Points are told apart by the squares in which they lie. The squares have a corner at an X and a Y.
 #[derive(Clone, Copy)]
-struct BySquare(Squares);
+struct BySquare {
+    length: CellLength,
+    x: i64,
+    y: i64,
+}
 
 impl PointKey for BySquare {
+    ghost use Rattle.std.specs.Prelude.{pos};
     ghost use Rattle.tile_filters.specs.Tiles.{square_of};
 
     type Key = Square;
 
-    ghost key = { λ by. square_of by.0.length by.0.x by.0.y };
+    ghost key = { λ by. square_of (pos by.length.by) by.x by.y };
 
     #[inline(always)]
     fn key(&self, p: &Point) -> Square {
-        let length = self.0.length.nano();
         Square {
-            x: cell_of(p.x, self.0.x, length),
-            y: cell_of(p.y, self.0.y, length),
+            x: self.length.cell(p.x, self.x),
+            y: self.length.cell(p.y, self.y),
         }
     }
 }
 
-/// Points are told apart by the voxels in which they lie.
+/// Points are told apart by the voxels in which they lie. The voxels have a corner at 0.
 #[derive(Clone, Copy)]
-struct ByVoxel(EdgeLength);
+struct ByVoxel(CellLength);
 
 impl PointKey for ByVoxel {
+    ghost use Rattle.std.specs.Prelude.{pos};
     ghost use Rattle.tile_filters.specs.Tiles.{voxel_of};
 
     type Key = Voxel;
 
-    ghost key = { λ by. voxel_of by.0 };
+    ghost key = { λ by. voxel_of (pos by.0.by) };
 
     #[inline(always)]
     fn key(&self, p: &Point) -> Voxel {
-        let cell = self.0.nano();
         Voxel {
-            x: cell_of(p.x, 0, cell),
-            y: cell_of(p.y, 0, cell),
-            z: cell_of(p.z, 0, cell),
+            x: self.0.floor(p.x),
+            y: self.0.floor(p.y),
+            z: self.0.floor(p.z),
         }
     }
 }
@@ -77,12 +81,12 @@ pub fn splitter(alloc: Global, v: Views, length: i64, ox: i64, oy: i64) -> Resul
     requires open { v.cut ≡ false → v.open_view ≡ [] }
     ensures { IfOk result (λ made. made ≡ whole_set (squares length ox oy) v) }
 {
-    let squares = Squares {
-        length: EdgeLength::new(length),
+    let squares = BySquare {
+        length: CellLength::new(length),
         x: ox,
         y: oy,
     };
-    group_by(alloc, v, &BySquare(squares))
+    group_by(alloc, v, &squares)
 }
 
 /// Keeps of each view the points that have no earlier point in it in their voxel, that is with the same cells of X, of Y and of
@@ -94,5 +98,5 @@ pub fn voxel_first(alloc: Global, v: Views, cell: i64) -> Result<Views, AllocErr
     requires open { v.cut ≡ false → v.open_view ≡ [] }
     ensures { IfOk result (λ made. made ≡ whole_set (voxels cell) v) }
 {
-    first_of_each(alloc, v, &ByVoxel(EdgeLength::new(cell)))
+    first_of_each(alloc, v, &ByVoxel(CellLength::new(cell)))
 }
