@@ -1,5 +1,5 @@
 -- What the end of a command says of the call.
-use Rattle.std.proofs.Common.{◌≡◌, ◌⊎◌, ◌≤◌, ℕ, List, Result, Ok, Err, IsOkAnd, refl, ap, subst, sym, ◌∙◌, inl, inr}
+use Rattle.std.proofs.Common.{◌≡◌, ◌⊎◌, ◌≤◌, ℕ, true, List, Result, Ok, Err, IsOkAnd, refl, ap, subst, sym, ◌∙◌, inl, inr}
 use Rattle.file_devices.specs.Content.{Appends, AppendsPart}
 use Rattle.file_devices.specs.Named.{Names}
 use Rattle.file_devices.specs.declared.devices.Op.{Op}
@@ -19,13 +19,14 @@ use Rattle.lasline_top.specs.declared.status.Status.{Status}
 use Rattle.lasline_top.specs.declared.status.Status.TheVariants as ends
 use Rattle.lasline_top.specs.Words.{Task, Run_file, Plan_file, Make_file, Trial, Print, stop_in, task_of}
 use Rattle.lasline_top.specs.Answer.{answer, runnable_in, runnable_of, trial_text, with_trial}
-use Rattle.lasline_top.specs.Calls.{Seen, FilesRose, OutRose, Told, HasAnswered}
+use Rattle.lasline_top.specs.Calls.{Seen, FilesRose, OutRose, Told, HasAnswered, HasReadAhead}
 use Rattle.lasline_top.specs.Cause.{AtTask, Risen, ToldWhy}
 use Rattle.lasline_top.specs.Ends.{WasDone, WasRefused}
 use Rattle.lasline_top.specs.Left.{IsLeftBy}
 use Rattle.lasline_top.specs.Reading.{IsReadAhead, IsReadBy}
 use Rattle.lasline_top.specs.Refusals.{status_for}
 use Rattle.lasline_top.specs.Stopping.{IsSeen, IsSeenBy, MayEnd}
+use Rattle.lasline_top.specs.Threads.{goes_alone}
 use Rattle.lasline_top.proofs.Failing.{answer_or_memory}
 use Rattle.lasline_top.proofs.Printed.{done_put, done_report}
 use Rattle.lasline_top.proofs.Statuses.{status_tells}
@@ -46,6 +47,11 @@ ends-ok handed words m P h = go (answer handed words m) refl h
     go : (r : Result Run Refusal) → answer handed words m ≡ r → IsOkAnd r P → MayEnd handed (task_of words) m ends.Ok
     go (Ok run) is h = (Ok run, is, refl)
     go (Err refusal) is h = absurd h
+
+-- how far it has read
+pub read_so : (words : List (List ℕ)) (before after : Seen) (refusal : Refusal) (status : Status) → status ≡ status_for refusal
+    → ((m : Names) → Told words before after m → IsReadAhead (task_of words) m before.read_to after.read_to refusal) → HasReadAhead words before after status
+read_so words before after refusal status is ahead r e m t = subst (IsReadAhead (task_of words) m before.read_to after.read_to) (status_tells status refusal r is e) (ahead m t)
 
 -- why a command was refused
 abbrev Cause : Handed → List (List ℕ) → Seen → Seen → Names → Refusal → Type 0
@@ -101,7 +107,7 @@ module _ (handed : Handed) (words : List (List ℕ)) (before after : Seen) (lent
     lent = lent;
     later = later;
     opened = opened;
-    ahead = λ r e. absurd (never-ok r e);
+    ahead = λ alone r e. absurd (never-ok r e);
   }
 
   -- it was refused
@@ -109,7 +115,7 @@ module _ (handed : Handed) (words : List (List ℕ)) (before after : Seen) (lent
       → WasRefused handed (task_of words) (FilesRose before after) (OutRose before after) before.map after.map before.out after.out refusal
       → ((text : List ℕ) → task_of words ≡ Ok (Print text) → AppendsPart before.out text after.out) → ((r : Refusal) → task_of words ≡ Err r → refusal ≡ r)
       → ((k : ℕ) → refusal ≡ of.Usage k → task_of words ≡ Err (of.Usage k)) → ToldWhy before.err after.err before.err_faults after.err_faults (fault_line refusal)
-      → ((m : Names) → Told words before after m → IsReadAhead (task_of words) m before.read_to after.read_to refusal)
+      → (goes_alone words ≡ true → (m : Names) → Told words before after m → IsReadAhead (task_of words) m before.read_to after.read_to refusal)
       → HasAnswered handed words before after status
   refused_answered refusal status is was part words_first of_words told ahead = record {
     kept = λ e. absurd (not_ok e);
@@ -131,7 +137,7 @@ module _ (handed : Handed) (words : List (List ℕ)) (before after : Seen) (lent
     lent = lent;
     later = later;
     opened = opened;
-    ahead = λ r e m t. subst (IsReadAhead (task_of words) m before.read_to after.read_to) (same r e) (ahead m t);
+    ahead = λ alone. read_so words before after refusal status is (ahead alone);
   }
     where
       not_ok : status ≡ ends.Ok → ⊥

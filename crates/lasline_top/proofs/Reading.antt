@@ -1,7 +1,6 @@
 -- How far commands read files.
-use Rattle.std.proofs.Common.{◌≡◌, ◌+◌, ◌≤◌, ℕ, List, length, Option, Some, None, option_map, IfSome, Result, Ok, Err, IfOk, IfErr, refl, ap, subst, sym, ◌∙◌, arith}
+use Rattle.std.proofs.Common.{◌≡◌, ◌+◌, ℕ, List, length, Option, Some, None, option_map, IfSome, Result, Ok, Err, IfOk, IfErr, refl, ap, subst, sym, ◌∙◌, arith}
 use Rattle.file_devices.specs.Named.{Names}
-use Rattle.file_devices.specs.declared.devices.Op.{Op}
 use Rattle.cloud_points.specs.declared.faults.PointFault.{PointFault}
 use Rattle.cloud_points.specs.declared.faults.StageFault.{StageFault}
 use Rattle.cloud_points.specs.declared.faults.StageFault.TheVariants as stage
@@ -19,7 +18,7 @@ use Rattle.run_engine.specs.declared.engine.Engine.{Engine as Chosen}
 use Rattle.run_engine.specs.declared.engine.Engine.TheVariants as chosen
 use Rattle.run_engine.specs.declared.shape.Shape.{Shape}
 use Rattle.lasline_top.specs.Answer.{stages_in}
-use Rattle.lasline_top.specs.Cause.{IsOfPlan, IsOfText}
+use Rattle.lasline_top.specs.Cause.{IsOfText}
 use Rattle.lasline_top.specs.Reading.{IsReadAhead, IsTextAhead}
 use Rattle.lasline_top.specs.Tasks.{engine_view}
 use Rattle.lasline_top.specs.Words.{Engine, Queues, Whole, Run_file}
@@ -47,20 +46,20 @@ pub text-refused : (engine : Engine) (m : Names) (text : List ℕ) (old new : Op
 text-refused engine m text old new r h = at-points engine m text old new r (λ chunk queue i f engine_is is. absurd (subst IsOfText is h))
 
 -- the run of a text reads as the run of its stages
-pub text-ahead : {T : Type 0} (engine : Chosen) (stop : Stop) (map : Option Names) (text : List ℕ) (stages : List StageSpec) (old new : Option ℕ) (result : Result T Refusal) → stages_in text ≡ Ok stages
-    → ((shape : Shape) (m : Names) (i : ℕ) (f : PointFault) → engine ≡ chosen.Queues shape → stop ≡ First → map ≡ Some m → result ≡ Err (of.Data i (Point f)) → HasReadNoMore m stages shape.queue shape.chunk i (stage.Point f) old new)
-    → IfErr result (λ r. (m : Names) → map ≡ Some m → IsTextAhead (engine_view stop engine) m text old new r)
-text-ahead engine stop map text stages old new (Ok x) is ahead = tt
-text-ahead chosen.Whole stop map text stages old new (Err r) is ahead = λ m told. tt
-text-ahead (chosen.Queues shape) Last map text stages old new (Err r) is ahead = λ m told. tt
-text-ahead (chosen.Queues shape) First map text stages old new (Err r) is ahead = λ m told.
+pub text-ahead : {T : Type 0} (bounded : Type 0) (engine : Chosen) (stop : Stop) (map : Option Names) (text : List ℕ) (stages : List StageSpec) (old new : Option ℕ) (result : Result T Refusal) → stages_in text ≡ Ok stages
+    → (bounded → (shape : Shape) (m : Names) (i : ℕ) (f : PointFault) → engine ≡ chosen.Queues shape → stop ≡ First → map ≡ Some m → result ≡ Err (of.Data i (Point f)) → HasReadNoMore m stages shape.queue shape.chunk i (stage.Point f) old new)
+    → IfErr result (λ r. bounded → (m : Names) → map ≡ Some m → IsTextAhead (engine_view stop engine) m text old new r)
+text-ahead bounded engine stop map text stages old new (Ok x) is ahead = tt
+text-ahead bounded chosen.Whole stop map text stages old new (Err r) is ahead = λ near m told. tt
+text-ahead bounded (chosen.Queues shape) Last map text stages old new (Err r) is ahead = λ near m told. tt
+text-ahead bounded (chosen.Queues shape) First map text stages old new (Err r) is ahead = λ near m told.
     at-points (Queues shape.chunk shape.queue First) m text old new r (λ chunk queue i f engine_is refusal_is.
     subst (λ p. IfOk p (λ ss. HasReadNoMore m ss queue chunk i (stage.Point f) old new)) (sym is)
     (let same_chunk : shape.chunk ≡ chunk = (let e = engine_is in cc) in
     let same_queue : shape.queue ≡ queue = (let e = engine_is in cc) in
     subst (λ c. HasReadNoMore m stages queue c i (stage.Point f) old new) same_chunk
     (subst (λ q. HasReadNoMore m stages q shape.chunk i (stage.Point f) old new) same_queue
-    (ahead shape m i f refl refl told (ap (λ x. Err x) refusal_is)))))
+    (ahead near shape m i f refl refl told (ap (λ x. Err x) refusal_is)))))
 
 -- ---- of a file
 

@@ -1,5 +1,5 @@
 -- What a command leaves of what the caller handed in.
-use Rattle.std.specs.Prelude.{◌≡◌, ℕ, List, Option, Result, Ok}
+use Rattle.std.specs.Prelude.{◌≡◌, List, Option, Result, Ok}
 use Rattle.answer_model.specs.Naming.{AreBack, AreRemembered}
 use Rattle.answer_model.specs.Runs.{opened_in}
 use Rattle.file_devices.specs.Named.{Names}

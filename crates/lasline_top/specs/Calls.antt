@@ -1,5 +1,5 @@
 -- What an answer of the top call says.
-use Rattle.std.specs.Prelude.{◌≡◌, ◌≤◌, ◌⊎◌, ℕ, List, Option, Ok, Err, IsOkAnd}
+use Rattle.std.specs.Prelude.{◌≡◌, ◌≤◌, ◌⊎◌, ℕ, true, List, Option, Ok, Err, IsOkAnd}
 use Rattle.file_devices.specs.Counts.{Rose}
 use Rattle.file_devices.specs.Content.{Appends, AppendsPart}
 use Rattle.file_devices.specs.Named.{Names}
@@ -25,6 +25,7 @@ use Rattle.lasline_top.specs.Left.{AreTold, IsLeftBy}
 use Rattle.lasline_top.specs.Reading.{IsReadAhead, IsReadBy}
 use Rattle.lasline_top.specs.Refusals.{status_for}
 use Rattle.lasline_top.specs.Stopping.{MayCome, MayEnd}
+use Rattle.lasline_top.specs.Threads.{goes_alone}
 use Rattle.plug_stages.specs.Handed.{Handed}
 
 -- what can be seen at one time: of the files what names have, how often they failed, how far they were read and how many objects
@@ -63,6 +64,11 @@ OutRose before after = Rose before.out_faults after.out_faults
 -- the files told this map, as long as the command of these words needs it
 abbrev pub Told : List (List ℕ) → Seen → Seen → Names → Type 0
 Told words before after m = AreTold (task_of words) before.map after.map m
+
+-- a run whose turns end at the first fault, that of a point, has read its text and no more of the points than it may by then
+abbrev pub HasReadAhead : List (List ℕ) → Seen → Seen → Status → Type 0
+HasReadAhead words before after status = (refusal : Refusal) → status ≡ status_for refusal → (m : Names) → Told words before after m
+    → IsReadAhead (task_of words) m before.read_to after.read_to refusal
 
 -- a call with these words, over what was seen before, has answered this and left what is seen after it
 pub record HasAnswered (handed : Handed) (words : List (List ℕ)) (before after : Seen) (status : Status) : Type 0 where
@@ -108,9 +114,8 @@ pub record HasAnswered (handed : Handed) (words : List (List ℕ)) (before after
   pub later : before.faults ≤ after.faults
   -- a plan reads no more than the pipeline's file may have, and one byte; a page reads nothing
   pub opened : IsReadBy (task_of words) before.read_to after.read_to
-  -- a run whose turns end at the first fault, that of a point, reads its text and no more of the points than it may by then
-  pub ahead : (refusal : Refusal) → status ≡ status_for refusal → (m : Names) → Told words before after m
-      → IsReadAhead (task_of words) m before.read_to after.read_to refusal
+  -- how far is read is bounded where one thread takes all turns
+  pub ahead : goes_alone words ≡ true → HasReadAhead words before after status
 
 -- it has answered some status, and this is the code of that
 abbrev pub HasExited : Handed → List (List ℕ) → Seen → Seen → ℕ → Type 0

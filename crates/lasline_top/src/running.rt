@@ -45,7 +45,7 @@ fn run_text<F: Files, P: PlugFilter, Q: PlugTally, T: Scheduler<StageWork<F::In,
     ensures err { IfErr result (WasStopped (handed_by P.PlugFilter Q.PlugTally places.old)
         (stop_in (engine_view (T.stop scheduler.now) engine))
         (Rose (F.faults files.old) (F.faults files.new)) (F.map files.old) (F.map files.new) text.now) }
-    ensures ahead { IfErr result (λ refusal. (m : Names) → F.map files.old ≡ Some m
+    ensures ahead { IfErr result (λ refusal. T.bounded scheduler.now → (m : Names) → F.map files.old ≡ Some m
         → IsTextAhead (engine_view (T.stop scheduler.now) engine) m text.now (F.read_to files.old)
         (F.read_to files.new) refusal) }
     ensures back { AreBack P.PlugFilter Q.PlugTally
@@ -92,7 +92,7 @@ pub(crate) fn run_file<
     ensures remembered { OnOk result (IsRemembered P.PlugFilter Q.PlugTally
         (Ok (Run_file name.now (engine_view (T.stop scheduler.now) engine)))
         (F.map files.old) (F.map files.new) places.old places.new) }
-    ensures ahead { IfErr result (λ refusal. (m : Names) → F.map files.old ≡ Some m
+    ensures ahead { IfErr result (λ refusal. T.bounded scheduler.now → (m : Names) → F.map files.old ≡ Some m
         → IsReadAhead (Ok (Run_file name.now (engine_view (T.stop scheduler.now) engine))) m
         (F.read_to files.old)
         (F.read_to files.new) refusal) }

@@ -1,6 +1,6 @@
 //! The top call on one thread.
 
-ghost use Rattle.std.specs.Prelude.{◌≡◌, ◌≤◌, ℕ, List, map, Ok, Err, IfErr, OnOk, OnErr, string_bytes};
+ghost use Rattle.std.specs.Prelude.{◌≡◌, ◌≤◌, ℕ, List, map, true, Ok, Err, IfErr, OnOk, OnErr, string_bytes};
 ghost use Rattle.file_devices.specs.Counts.{Rose};
 ghost use Rattle.file_devices.specs.Content.{Appends, AppendsPart};
 ghost use Rattle.file_devices.specs.Named.{Names};
@@ -15,7 +15,8 @@ ghost use Rattle.lasline_top.specs.Reading.{IsReadAhead, IsReadBy};
 ghost use Rattle.lasline_top.specs.Back.{IsHandedBack, IsRemembered};
 ghost use Rattle.lasline_top.specs.declared.status.Status.{Status};
 ghost use Rattle.plug_stages.specs.Handed.{handed_by, none_handed};
-ghost use Rattle.lasline_top.specs.Calls.{HasAnswered, seen};
+ghost use Rattle.lasline_top.specs.Calls.{HasAnswered, HasReadAhead, seen};
+ghost use Rattle.lasline_top.specs.Threads.{goes_alone};
 
 use crate::generating::make_file;
 use crate::planning::plan_file;
@@ -70,7 +71,7 @@ fn run_command<
     ensures later { F.faults files.old ≤ F.faults files.new }
     ensures opened { IsReadBy (task_of (map string_bytes words.now)) (F.read_to files.old)
         (F.read_to files.new) }
-    ensures ahead { IfErr result (λ refusal. (m : Names)
+    ensures ahead { IfErr result (λ refusal. T.bounded scheduler.now → (m : Names)
         → AreTold (task_of (map string_bytes words.now)) (F.map files.old) (F.map files.new) m
         → IsReadAhead (task_of (map string_bytes words.now)) m (F.read_to files.old)
         (F.read_to files.new) refusal) }
@@ -119,6 +120,7 @@ pub(crate) fn do_command<
 ) -> Status
     requires sound { T.sound scheduler.now }
     requires stop { T.stop scheduler.now ≡ stop_for (task_of (map string_bytes words.now)) }
+    requires alone { goes_alone (map string_bytes words.now) ≡ true → T.bounded scheduler.now }
     ensures answered { HasAnswered (handed_by P.PlugFilter Q.PlugTally places.old)
         (map string_bytes words.now)
         (seen F.Files K.Sink E.Sink files.old out.old err.old)
@@ -128,6 +130,10 @@ pub(crate) fn do_command<
         (F.map files.old) (F.map files.new) places.old places.new }
     ensures remembered { result ≡ Status.Ok → IsRemembered P.PlugFilter Q.PlugTally
         (task_of (map string_bytes words.now)) (F.map files.old) (F.map files.new) places.old places.new }
+    ensures ahead { T.bounded scheduler.now → HasReadAhead (map string_bytes words.now)
+        (seen F.Files K.Sink E.Sink files.old out.old err.old)
+        (seen F.Files K.Sink E.Sink files.new out.new err.new)
+        result }
 {
     match run_command(alloc, scheduler, words, files, places, out) {
         Ok(()) => Status::Ok,
@@ -168,6 +174,10 @@ pub fn lasline_solo<F: Files, K: Sink, E: Sink>(
     err: &mut E,
 ) -> Status
     ensures answered { HasAnswered none_handed (map string_bytes words.now)
+        (seen F.Files K.Sink E.Sink files.old out.old err.old)
+        (seen F.Files K.Sink E.Sink files.new out.new err.new)
+        result }
+    ensures ahead { HasReadAhead (map string_bytes words.now)
         (seen F.Files K.Sink E.Sink files.old out.old err.old)
         (seen F.Files K.Sink E.Sink files.new out.new err.new)
         result }

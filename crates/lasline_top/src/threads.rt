@@ -1,22 +1,21 @@
 //! The top call on several threads.
 
-ghost use Rattle.std.specs.Prelude.{◌≡◌, ◌<◌, ◌≤◌, map, string_bytes};
-ghost use Rattle.network_core.specs.declared.stop.Stop.TheVariants.{Last};
+ghost use Rattle.std.specs.Prelude.{◌≡◌, ◌<◌, ◌≤◌, false, map, string_bytes};
 ghost use Rattle.network_workers.specs.Crews.{HasRun, MayRun};
 ghost use Rattle.stage_runs.specs.Works.{as_works};
 ghost use Rattle.plug_stages.specs.Handed.{handed_by, none_handed};
 ghost use Rattle.lasline_top.specs.declared.status.Status.{Status};
 ghost use Rattle.lasline_top.specs.Back.{IsHandedBack, IsRemembered};
 ghost use Rattle.lasline_top.specs.Calls.{HasAnswered, seen};
-ghost use Rattle.lasline_top.specs.Threads.{are_several};
-ghost use Rattle.lasline_top.specs.Words.{stop_for, task_of};
+ghost use Rattle.lasline_top.specs.Threads.{are_several, goes_alone};
+ghost use Rattle.lasline_top.specs.Words.{task_of};
 
 use crate::solo::do_command;
 use crate::status::Status;
 use crate::words::{options_of, stop_for};
 use command_words::RunOptions;
 use file_devices::{FileSink, Files, Gate, Sink, Source};
-use network_core::{InsList, NodeList};
+use network_core::{InsList, NodeList, Stop};
 use network_solo::OneThread;
 use network_workers::{Crew, WorkerRoom, run_tree_by};
 use plug_stages::{BoxedFilter, BoxedTally, Places, PlugFilter, PlugTally, Plugs};
@@ -25,12 +24,11 @@ use std::alloc::Global;
 use std::sync::Wait;
 use std::thread::Threads;
 
-/// Whether the stages of a run with these options go on at once: with more than one worker, unless they are evaluated whole or end at
-/// the first fault.
+/// Whether the stages of a run with these options go on at once: with more than one worker, unless they are evaluated whole.
 fn are_several(options: RunOptions) -> bool
     ensures { result ≡ are_several options }
 {
-    !options.whole && !options.stop_first && options.workers != 1
+    !options.whole && options.workers != 1
 }
 
 /// Lets the nodes of a run take turns on several threads.
@@ -48,11 +46,12 @@ fn run_nodes<
     room: WorkerRoom<StageWork<S, O, P, Q>>,
     patience: u64,
     gate: &G,
+    stop: Stop,
 ) -> NodeList<StageWork<S, O, P, Q>>
     requires { MayRun (as_works S.Source O.Sink P.PlugFilter Q.PlugTally) nodes ins room }
-    ensures { HasRun (as_works S.Source O.Sink P.PlugFilter Q.PlugTally) nodes ins result }
+    ensures { HasRun (as_works S.Source O.Sink P.PlugFilter Q.PlugTally) stop nodes ins result }
 {
-    run_tree_by(rt, nodes, ins, room, patience, gate)
+    run_tree_by(rt, nodes, ins, room, patience, gate, stop)
 }
 
 /// Does a command whose stages are turned by so many workers.
@@ -79,7 +78,7 @@ fn do_by_crew<
 ) -> Status
     requires some { 0 < options.workers }
     requires most { options.workers ≤ 32 }
-    requires last { stop_for (task_of (map string_bytes words.now)) ≡ Last }
+    requires several { goes_alone (map string_bytes words.now) ≡ false }
     ensures answered { HasAnswered (handed_by P.PlugFilter Q.PlugTally places.old)
         (map string_bytes words.now)
         (seen F.Files K.Sink E.Sink files.old out.old err.old)
@@ -91,14 +90,16 @@ fn do_by_crew<
         (task_of (map string_bytes words.now)) (F.map files.old) (F.map files.new) places.old places.new }
 {
     let patience = options.patience as u64;
+    let stop = stop_for(words);
     let crew = Crew {
         workers: options.workers,
+        stop,
         run: |nodes: NodeList<StageWork<S, O, P, Q>>, ins: InsList, room: WorkerRoom<
             StageWork<S, O, P, Q>,
         >| -> NodeList<StageWork<S, O, P, Q>>
             requires { MayRun (as_works S.Source O.Sink P.PlugFilter Q.PlugTally) nodes ins room }
-            ensures { HasRun (as_works S.Source O.Sink P.PlugFilter Q.PlugTally) nodes ins result }
-        { run_nodes(rt, nodes, ins, room, patience, gate) },
+            ensures { HasRun (as_works S.Source O.Sink P.PlugFilter Q.PlugTally) stop nodes ins result }
+        { run_nodes(rt, nodes, ins, room, patience, gate, stop) },
     };
     do_command(alloc, &crew, words, files, places, out, err)
 }
@@ -146,14 +147,15 @@ where
     }
 }
 
-/// Does a command as `lasline_solo` does. Only where `--workers` of a run or a trial asks for more than one, and neither `--whole` nor
-/// `--stop first` stands with it, its stages go on at once on so many threads, or as many as there are stages: stage j is turned by
-/// worker j modulo their number. Before each turn the worker asks the gate with its own number and that of the stage. After
-/// `--patience` rounds in a row without work it stops, and what is left to do then is done on the thread of the caller.
+/// Does a command as `lasline_solo` does. Only where `--workers` of a run or a trial asks for more than one, and `--whole` doesn't stand
+/// with it, its stages go on at once on so many threads, or as many as there are stages: stage j is turned by worker j modulo their
+/// number. Before each turn the worker asks the gate with its own number and that of the stage. After `--patience` rounds in a row
+/// without work it stops, and what is left to do then is done on the thread of the caller. With `--stop first` a worker also stops once
+/// one of its own stages has a fault, and the thread of the caller does no more once any has.
 ///
 /// What is said of `lasline_solo` is said of it, whatever the number of workers, the patience and the gate, and in
-/// whichever order the threads come to their turns. But it may wait for them, so that it returns isn't promised. Where
-/// a thread can't be started, another one does its turns.
+/// whichever order the threads come to their turns; only how far a run with `--stop first` reads isn't bounded by several workers. But
+/// it may wait for them, so that it returns isn't promised. Where a thread can't be started, another one does its turns.
 pub fn lasline<F: Files, K: Sink, E: Sink, R: Threads + Wait + Sync, G: Gate>(
     rt: &R,
     alloc: Global,

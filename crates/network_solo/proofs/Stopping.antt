@@ -114,7 +114,7 @@ after-keeps m c [] f e = e
 after-keeps m c (t ∷ ts) f e = after-keeps m (next m c t) ts f (next-keeps m c t f e)
 
 -- a node that has a fault ends with it
-seen-stays : {S P F : Type 0} (n : net.Node S P F) (input : List (Mark P)) (f : F) → n.machine.fault ≡ Some f → (net.last_of n input).fault ≡ Some f
+pub seen-stays : {S P F : Type 0} (n : net.Node S P F) (input : List (Mark P)) (f : F) → n.machine.fault ≡ Some f → (net.last_of n input).fault ≡ Some f
 seen-stays n input f e = go n.leaf
   where
     go : (b : Bool) → cond b (first_fault n.machine.fault n.told_fault) (after_all n.work n.machine input).fault ≡ Some f

@@ -30,6 +30,9 @@ pub trait Scheduler<W: Work> {
     /// These lie between so many nodes, each queue with room for so many items.
     ghost fits: { ℕ → ℕ → Self.Edges → Type 0 };
 
+    /// Where the turns of nodes end at the first fault, what was read by then is bounded.
+    ghost bounded: { Self → Type 0 };
+
     /// What nodes come to besides over queues with room for so many items, by the numbers of their children.
     ghost besides: { ℕ → List (List ℕ) → List (NodeValue W) → List (NodeValue W) → Type 0 };
 
@@ -59,7 +62,7 @@ pub trait Scheduler<W: Work> {
         ensures besides { CameToEnd W.Work (Self.stop self.now) result → (capacity : ℕ)
             → Self.fits (length nodes) capacity edges → Self.besides capacity ins nodes result }
         ensures stopped { Self.stop self.now ≡ First → IsStoppedTree W.Work ins nodes result }
-        ensures ahead { Self.stop self.now ≡ First → (capacity : ℕ)
+        ensures ahead { Self.bounded self.now → Self.stop self.now ≡ First → (capacity : ℕ)
             → Self.fits (length nodes) capacity edges → IsReadAhead W.Work ins capacity nodes result };
 
     /// Gives back what no nodes took turns over.
@@ -89,6 +92,8 @@ impl<W: Work> Scheduler<W> for OneThread {
 
     ghost stop = { λ one. one.stop };
 
+    ghost bounded = { λ _. ⊤ };
+
     ghost fits = { λ nodes capacity queues. (length queues.edges.items + 1 ≡ nodes) × (queues.capacity ≡ capacity) };
 
     ghost besides = { λ capacity ins old new. IsRanOver W.Work ins capacity old new };
@@ -114,7 +119,7 @@ impl<W: Work> Scheduler<W> for OneThread {
             → (length edges.edges.items + 1 ≡ length nodes) × (edges.capacity ≡ capacity)
             → IsRanOver W.Work ins capacity nodes result }
         ensures stopped { self.now.stop ≡ First → IsStoppedTree W.Work ins nodes result }
-        ensures ahead { self.now.stop ≡ First → (capacity : ℕ)
+        ensures ahead { ⊤ → self.now.stop ≡ First → (capacity : ℕ)
             → (length edges.edges.items + 1 ≡ length nodes) × (edges.capacity ≡ capacity)
             → IsReadAhead W.Work ins capacity nodes result }
     {

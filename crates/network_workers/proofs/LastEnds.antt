@@ -7,29 +7,29 @@ use Rattle.std.proofs.lemmas.List.{length-set, length-take-le, get_or-take, get_
 use Rattle.chunk_queue.specs.Ends.{InSeen, OutSeen}
 use Rattle.network_theory.specs.Forest.{one_if, count_in}
 use Rattle.network_workers.specs.declared.seats.SeatIn.{SeatIn}
-use Rattle.network_workers.specs.Gathered.{AreOver, IsSettled, EdgesFrom, without, AreOnce}
+use Rattle.network_workers.specs.Gathered.{AreOfOne, IsSettled, EdgesFrom, without, AreOnce}
 
--- an end that is over is in the list
-pub over-within : (outs : List (Option OutSeen)) (c : ℕ) (inn : InSeen) → AreOver (get_or outs c None) inn → c < length outs
-over-within [] c inn h = absurd h
-over-within (o ∷ outs) zero inn h = omega arith
-over-within (o ∷ outs) (suc c) inn h = let l = over-within outs c inn h in omega (arith, l)
+-- an end of a queue is in the list
+pub one-within : (outs : List (Option OutSeen)) (c : ℕ) (inn : InSeen) → AreOfOne (get_or outs c None) inn → c < length outs
+one-within [] c inn h = absurd h
+one-within (o ∷ outs) zero inn h = omega arith
+one-within (o ∷ outs) (suc c) inn h = let l = one-within outs c inn h in omega (arith, l)
 
 -- the last end and that of its child
 one_end : {a b : SeatIn} → Some a ≡ Some b → a ≡ b
 one_end e = cc
 
 module _ (outs : List (Option OutSeen)) (child : ℕ) (ins : List SeatIn) (size : ℕ) (last : SeatIn) (same : size ≡ length ins) (some : 0 < length ins)
-    (value : (d : SeatIn) → 0 < size → Some last ≡ Some (get_or ins (size - 1) d)) (over : (e : SeatIn) → AreOver (get_or outs child None) (get_or ins (length ins - 1) e).end) where
-  last-over : AreOver (get_or outs child None) last.end
-  last-over = subst (λ (i : SeatIn). AreOver (get_or outs child None) i.end)
-      (ap (λ n. get_or ins (n - 1) last) (sym same) ∙ sym (one_end (value last (omega (arith, same, some))))) (over last)
+    (value : (d : SeatIn) → 0 < size → Some last ≡ Some (get_or ins (size - 1) d)) (one : (e : SeatIn) → AreOfOne (get_or outs child None) (get_or ins (length ins - 1) e).end) where
+  last-one : AreOfOne (get_or outs child None) last.end
+  last-one = subst (λ (i : SeatIn). AreOfOne (get_or outs child None) i.end)
+      (ap (λ n. get_or ins (n - 1) last) (sym same) ∙ sym (one_end (value last (omega (arith, same, some))))) (one last)
 
   pub child-within : child < length outs
-  child-within = over-within outs child last.end last-over
+  child-within = one-within outs child last.end last-one
 
-  pub child-over : (o out : Option OutSeen) → o ≡ get_or outs child o → out ≡ o → AreOver out last.end
-  child-over o out e f = subst (λ z. AreOver z last.end) (sym (f ∙ e ∙ get_or_default outs child o None child-within)) last-over
+  pub child-one : (o out : Option OutSeen) → o ≡ get_or outs child o → out ≡ o → AreOfOne out last.end
+  child-one o out e f = subst (λ z. AreOfOne z last.end) (sym (f ∙ e ∙ get_or_default outs child o None child-within)) last-one
 
 -- a number that stands once doesn't stand behind its place
 counted-self : (c : ℕ) → one_if (c == c) ≡ 1
@@ -79,9 +79,9 @@ module _ (outs : List (Option OutSeen)) (cs : List ℕ) (first : ℕ) (ins : Lis
         ∙ ap (λ xs. get_or xs (first + k) e) h.ins_are ∙ get_or-take (first + left) ins (first + k) e (omega (arith, next))
 
     -- the last end that is left, and that of its child
-    pub over-left : EdgesFrom AreOver outs cs first ins → (e : SeatIn) → AreOver (get_or outs_left (get_or cs k 0) None) (get_or ins_left (length ins_left - 1) e).end
-    over-left over e = subst (λ o. AreOver o (get_or ins_left (length ins_left - 1) e).end) (sym out-is)
-        (subst (λ (i : SeatIn). AreOver (get_or outs (get_or cs k 0) None) i.end) (sym (in-is e)) (over k e inside))
+    pub one-left : EdgesFrom AreOfOne outs cs first ins → (e : SeatIn) → AreOfOne (get_or outs_left (get_or cs k 0) None) (get_or ins_left (length ins_left - 1) e).end
+    one-left one e = subst (λ o. AreOfOne o (get_or ins_left (length ins_left - 1) e).end) (sym out-is)
+        (subst (λ (i : SeatIn). AreOfOne (get_or outs (get_or cs k 0) None) i.end) (sym (in-is e)) (one k e inside))
 
     pub settled-next : (ins_next : List SeatIn) (outs_next : List (Option OutSeen)) → ins_next ≡ take (length ins_left - 1) ins_left → outs_next ≡ set outs_left (get_or cs k 0) None
         → ((e : SeatIn) → IsSettled (get_or outs_left (get_or cs k 0) None) (get_or ins_left (length ins_left - 1) e).end) → AreSettled outs cs first ins k ins_next outs_next

@@ -2,7 +2,6 @@ pub mod Lists
 pub mod EndsOf
 pub mod Carrying
 pub mod SeatTurns
-pub mod Joined
 pub mod Paying
 pub mod InTime
 pub mod Joining
@@ -15,7 +14,9 @@ pub mod NewEnds
 pub mod HandsBack
 pub mod Children
 pub mod LastEnds
+pub mod OverBack
+pub mod JoinPart
+pub mod Joined
 pub mod TakingBack
-pub mod JoinedTree
 pub mod NewRoom
 pub mod AllDealt

@@ -1,20 +1,20 @@
 -- A node is taken back from its worker, and the queues to its children are settled.
-use Rattle.std.proofs.Common.{◌≡◌, ◌≢◌, ℕ, zero, suc, ◌+◌, ◌-◌, ◌%◌, ◌<◌, ◌≤◌, inl, inr, true, cond, List, [], ◌∷◌, ◌++◌, length, take, drop, Option, Some, None, is_none, get_or, set, map, replicate, refl, ap, subst, sym, ◌∙◌, arith, length-append, drop-cons}
-use Rattle.std.proofs.Math.Path.{fun_ext}
+use Rattle.std.proofs.Common.{◌≡◌, ◌≢◌, ℕ, suc, ◌+◌, ◌-◌, ◌%◌, ◌<◌, ◌≤◌, ◌⊎◌, inl, inr, true, cond, List, [], ◌∷◌, ◌++◌, length, take, drop, Option, Some, None, is_none, get_or, set, map, replicate, refl, ap, subst, sym, ◌∙◌, arith, length-append, drop-cons}
 use Rattle.std.specs.Prelude.{◌==◌, vec_len, slice_get}
 use Rattle.std.proofs.lemmas.Bool.Decides.{eqb_tells}
-use Rattle.std.proofs.lemmas.Bool.{eq-eqb, cases_lt}
-use Rattle.std.proofs.lemmas.List.{drop_all, get_or-replicate, length-map, get_or-map, length-set, length_push, get_or_append_left, get_or_push, take_at, same_from_push, get_or-append-add}
+use Rattle.std.proofs.lemmas.Bool.{eq-eqb}
+use Rattle.std.proofs.lemmas.List.{map-append, drop_all, get_or-replicate, length-map, get_or-map, length-set, length_push, get_or_append_left, get_or_push, take_at, same_from_push, get_or-append-add}
 use Rattle.std.proofs.lemmas.Option.{slice_get_within, get_or_from_slice_get}
 use Rattle.cloud_points.specs.declared.point.Point.{Point}
+use Rattle.cloud_points.specs.declared.item.Item as code
 use Rattle.cloud_points.specs.declared.work.Work.{Ghosts}
-use Rattle.cloud_points.specs.Bodies.{bodies}
+use Rattle.cloud_points.specs.Bodies.{bodies, seen}
 use Rattle.cloud_points.specs.Marks.{Mark, all_marks}
 use Rattle.chunk_queue.specs.Ends.{InSeen, OutSeen, ended}
 use Rattle.network_theory.specs.Shape as shape
 use Rattle.network_theory.specs.Forest.{children, count_all, IsForest}
-use Rattle.network_theory.proofs.JoinTree.{of_child}
 use Rattle.network_core.specs.declared.node.Node.{Node}
+use Rattle.network_core.specs.declared.stop.Stop.{Stop}
 use Rattle.network_core.proofs.Opened.{some_at}
 use Rattle.network_solo.specs.Trees.{AreFresh}
 use Rattle.network_workers.specs.declared.seats.Seat.{Seat}
@@ -23,60 +23,32 @@ use Rattle.network_workers.specs.declared.seats.Deal.{Deal}
 use Rattle.network_workers.specs.Dealt.{Place, Hand, hand_of, empty_hand, seat_of, entries, with_place, dealt, places, picked, AreOpened, HandsCarry}
 use Rattle.network_workers.specs.Ends.{end_of, got_on, got_of, sent_on, EntryGrew, InGrew, OutGrew}
 use Rattle.network_workers.specs.Lists.{Each}
-use Rattle.network_workers.specs.Gathered.{marks_of, child_sent, NodeCarries, AreCarried, Opened, IsStart, IsKept, AreTakenBack, AreOver, IsSettled, EdgesFrom, without, AreOnce}
-use Rattle.network_workers.specs.Seats.{node_of, IsFit, SeatsCarry, DealFits, DealsFit, DealsCarry, AreDone, DealsDone}
+use Rattle.network_workers.specs.Gathered.{NodeCarries, Carriage, AreParts, AreCarried, Opened, IsStart, IsKept, AreTakenBack, AreOfOne, IsFirstPart, IsSettled, EdgesFrom, without, AreOnce}
+use Rattle.network_workers.specs.Seats.{node_of, IsFit, SeatsCarry, DealFits, DealsFit, DealsCarry}
+use Rattle.network_workers.specs.Stopping.{DealsOver}
 use Rattle.network_workers.proofs.Carrying.{fit-still}
 use Rattle.network_workers.proofs.Children.{counted-more, IsOnlyChild, only-child}
 use Rattle.network_workers.proofs.Counted.{dealt-length}
 use Rattle.network_workers.proofs.Dealing.{TakenBack, append-none, entries-other, grew-none}
-use Rattle.network_workers.proofs.EndsOf.{end-grew, ne-eqb}
+use Rattle.network_workers.proofs.EndsOf.{all_marks-append, end-grew, ne-eqb}
 use Rattle.network_workers.proofs.Fits.{append-second}
 use Rattle.network_workers.proofs.HandsBack.{each-at, each-from, picked-unread, entries-unread, picked-length, picked-at, grew-length, grew-at, end-here, end-past, dealt-own, last-back, rest-back}
-use Rattle.network_workers.proofs.Joining.{all-closed, seat-joins}
+use Rattle.network_workers.proofs.Joining.{all-closed, got_marks, seat-joins}
 use Rattle.network_workers.proofs.Lists.{each-one}
 use Rattle.network_workers.proofs.LastEnds.{without-other, length-without}
+use Rattle.network_workers.proofs.OverBack.{get-before, get-behind, one_thing, not-both, over-none, over-back}
 
--- lists with one element more
-get-before : {X : Type 0} (xs : List X) (y : X) (k : ℕ) → k < length xs → slice_get (xs ++ y ∷ []) k ≡ slice_get xs k
-get-before [] y k l = absurd (omega (arith, l))
-get-before (x ∷ xs) y zero l = refl
-get-before (x ∷ xs) y (suc k) l = get-before xs y k (omega (arith, l))
-
-get-behind : {X : Type 0} (xs : List X) (y : X) → slice_get (xs ++ y ∷ []) (length xs) ≡ Some y
-get-behind [] y = refl
-get-behind (x ∷ xs) y = get-behind xs y
-
-not-both : {X : Type 0} {B : Type 0} (o : Option X) (x : X) → o ≡ None → o ≡ Some x → B
-not-both None x e f = cc
-not-both (Some y) x e f = cc
-
-one_thing : {X : Type 0} {a b : X} → Some a ≡ Some b → a ≡ b
-one_thing e = cc
-
--- what the child at an input sent
-child-same : (a b : ℕ → List (Mark Point)) (cs : List ℕ) (i : ℕ) → ((c : ℕ) → slice_get cs i ≡ Some c → a c ≡ b c) → child_sent a cs i ≡ child_sent b cs i
-child-same a b cs i h = by_child (slice_get cs i) refl
-  where
-    by_child : (o : Option ℕ) → slice_get cs i ≡ o → marks_of a o ≡ marks_of b o
-    by_child None e = refl
-    by_child (Some c) e = h c e
-
-child-of : (sent : ℕ → List (Mark Point)) (cs : List ℕ) (i : ℕ) → child_sent sent cs i ≡ of_child sent cs i
-child-of sent [] i = refl
-child-of sent (c ∷ cs) zero = refl
-child-of sent (c ∷ cs) (suc i) = child-of sent cs i
-
-pub all-children : (sent : ℕ → List (Mark Point)) (cs : List ℕ) → child_sent sent cs ≡ of_child sent cs
-all-children sent cs = fun_ext (λ i. child-of sent cs i)
+bodies-append : (a b : List code.Item) → bodies (a ++ b) ≡ bodies a ++ bodies b
+bodies-append a b = map-append (λ i. seen i.body) a b
 
 -- the two ends of a queue since its start
-over-grew : (o : OutSeen) (i : InSeen) (out : Option OutSeen) (inn : InSeen) → OutGrew (Some o) out → InGrew i inn → o.queue ≡ i.queue → ended inn.got ≡ true → AreOver out inn
-over-grew o i None inn h j q e = absurd h
-over-grew o i (Some out) inn h j q e = (ap (λ (z : OutSeen). z.queue) h ∙ q ∙ sym (ap (λ (z : InSeen). z.queue) j), e)
+one-grew : (o : OutSeen) (i : InSeen) (out : Option OutSeen) (inn : InSeen) → OutGrew (Some o) out → InGrew i inn → o.queue ≡ i.queue → AreOfOne out inn
+one-grew o i None inn h j q = absurd h
+one-grew o i (Some out) inn h j q = ap (λ (z : OutSeen). z.queue) h ∙ q ∙ sym (ap (λ (z : InSeen). z.queue) j)
 
-module _ {W S : Type 0} (g : Ghosts W S) (start : Opened W) (ins : List (List ℕ)) (root place : ℕ) (opened : AreOpened root start.outs start.inns) (size : length start.nodes ≡ root + 1)
+module _ {W S : Type 0} (g : Ghosts W S) (stop : Stop) (start : Opened W) (ins : List (List ℕ)) (root place : ℕ) (opened : AreOpened root start.outs start.inns) (size : length start.nodes ≡ root + 1)
     (fresh : AreFresh g ins start.nodes) (forest : IsForest ins root) (deals : List (Deal W)) (workers : 0 < length deals) (nodes : List (Node W)) (outs : List (Option OutSeen))
-    (h : AreTakenBack g start ins place deals nodes outs) (n : Node W) (node : slice_get start.nodes place ≡ Some n) (d : Deal W) where
+    (h : AreTakenBack g stop start ins place deals nodes outs) (n : Node W) (node : slice_get start.nodes place ≡ Some n) (d : Deal W) where
   abbrev cs : List ℕ
   cs = children ins place
 
@@ -181,33 +153,29 @@ module _ {W S : Type 0} (g : Ghosts W S) (start : Opened W) (ins : List (List �
   seat-fit : IsFit g deal.ins.items (length hand.seats) back.seat
   seat-fit = subst (λ (s : Seat W). IsFit g deal.ins.items (length hand.seats) s) (seat-is back.seat) (h.fit w d in-deals (length hand.seats) back.seat in-seats)
 
-  seat-done : (node_of back.seat).done ≡ true
-  seat-done = subst (λ (s : Seat W). (node_of s).done ≡ true) (seat-is back.seat) (h.done w d in-deals (length hand.seats) back.seat in-seats)
-
   seat-inputs : (node_of back.seat).inputs ≡ length cs
   seat-inputs = back.here.calm.inputs ∙ (fresh place n node).inputs
 
-  ended-here : (k : ℕ) (e : SeatIn) → k < length cs → ended (get_or back.ends k e).end.got ≡ true
-  ended-here k e l =
-      ap (λ o. ended (got_on o)) (sym (end-of-input k e l))
-      ∙ all-closed g deal.ins.items (length hand.seats) back.seat seat-fit seat-done k (let i = seat-inputs in omega (arith, l, i))
+  -- a done node got an End on each of its inputs
+  ended-here : (node_of back.seat).done ≡ true → (k : ℕ) → k < length cs → ended (got_of deal.ins.items (length hand.seats) k) ≡ true
+  ended-here done k l = all-closed g deal.ins.items (length hand.seats) back.seat seat-fit done k (let i = seat-inputs in omega (arith, l, i))
 
-  kept-child : (k : ℕ) → k < length cs → IsKept (slice_get start.outs (get_or cs k 0)) (get_or outs (get_or cs k 0) None) (h.sent (get_or cs k 0))
+  kept-child : (k : ℕ) → k < length cs → IsKept (slice_get start.outs (get_or cs k 0)) (get_or outs (get_or cs k 0) None) (h.carriage.sent (get_or cs k 0))
   kept-child k l = h.kept (get_or cs k 0) (child-at k l).below (child-at k l).none
 
-  pub over : EdgesFrom AreOver outs cs (length deal.ins.items - length cs) deal.ins.items
-  over k e l =
+  pub one : EdgesFrom AreOfOne outs cs (length deal.ins.items - length cs) deal.ins.items
+  one k e l =
       let b = (child-at k l).inside in
       let o = some_at start.outs (get_or cs k 0) (let z = opened.count.0 in omega (arith, b, z)) in
       let i = some_at start.inns (get_or cs k 0) (let z = opened.count.1 in omega (arith, b, z)) in
       let first : get_or (picked start.inns cs) k i.0 ≡ i.0 = picked-at start.inns cs children-in k i.0 l ∙ get_or_from_slice_get start.inns (get_or cs k 0) i.0 i.0 i.1 in
       let grew : EntryGrew (record { seat = length hand.seats; input = 0 + k; end = get_or (picked start.inns cs) k i.0 }) (get_or back.ends k e) =
       grew-at (length hand.seats) 0 (picked start.inns cs) back.ends back.grew k i.0 e (let c = count-ins in omega (arith, l, c)) in
-      subst (λ (y : SeatIn). AreOver (get_or outs (get_or cs k 0) None) y.end) (sym (end-is k e))
-      (over-grew o.0 i.0 (get_or outs (get_or cs k 0) None) (get_or back.ends k e).end
+      subst (λ (y : SeatIn). AreOfOne (get_or outs (get_or cs k 0) None) y.end) (sym (end-is k e))
+      (one-grew o.0 i.0 (get_or outs (get_or cs k 0) None) (get_or back.ends k e).end
       (subst (λ z. OutGrew z (get_or outs (get_or cs k 0) None)) o.1 (kept-child k l).grew)
       (subst (λ z. InGrew z (get_or back.ends k e).end) first grew.end)
-      (opened.same (get_or cs k 0) o.0 i.0 o.1 i.1) (ended-here k e l))
+      (opened.same (get_or cs k 0) o.0 i.0 o.1 i.1))
 
   pub once : AreOnce cs
   once k l = (child-at k l).once
@@ -256,90 +224,150 @@ module _ {W S : Type 0} (g : Ghosts W S) (start : Opened W) (ins : List (List �
     same-ins : y.ins.items ≡ back.rest.ins
     same-ins = ends ∙ ap (take (length deal.ins.items - length cs)) back.ins_are ∙ take_at back.rest.ins back.ends (length deal.ins.items - length cs) (sym first-is)
 
-    abbrev sent_now : ℕ → List (Mark Point)
-    sent_now k = cond (k == place) (all_marks (bodies (sent_on seat.out))) (h.sent k)
-
-    sent-before : (k : ℕ) → k < place → sent_now k ≡ h.sent k
-    sent-before k l = ap (λ b. cond b (all_marks (bodies (sent_on seat.out))) (h.sent k)) (ne-eqb k place (λ e. absurd (omega (arith, l, e))))
-
-    sent-here : sent_now place ≡ all_marks (bodies (sent_on seat.out))
-    sent-here = ap (λ b. cond b (all_marks (bodies (sent_on seat.out))) (h.sent place)) (eq-eqb place place refl)
+    last-node : slice_get (nodes ++ seat.node ∷ []) place ≡ Some seat.node
+    last-node = ap (slice_get (nodes ++ seat.node ∷ [])) (sym h.counts.0) ∙ get-behind nodes seat.node
 
     child-below : (k i c : ℕ) → slice_get (children ins k) i ≡ Some c → c < k
     child-below k i c e =
         subst (λ z. z < k) (get_or_from_slice_get (children ins k) i c 0 e)
         (each-at (λ j. j < k) (children ins k) i (forest.below k) (slice_get_within (children ins k) i c e))
 
-    children-before : (k : ℕ) → k ≤ place → child_sent h.sent (children ins k) ≡ child_sent sent_now (children ins k)
-    children-before k l = fun_ext (λ i. child-same h.sent sent_now (children ins k) i (λ c e. sym (sent-before c (let b = child-below k i c e in omega (arith, b, l)))))
+    -- what the node got of an input is a first part of what the child there sent
+    at-input : (i : ℕ) → i < length cs → IsFirstPart (got_of deal.ins.items (length hand.seats) i) (sent_on (get_or outs (get_or cs i 0) None))
+    at-input i l =
+        let e = some_at back.ends i (let n = count-ends in omega (arith, l, n)) in
+        subst (λ got. IsFirstPart got (sent_on (get_or outs (get_or cs i 0) None)))
+        (ap (λ (z : SeatIn). z.end.got) (end-is i e.0) ∙ ap got_on (sym (end-of-input i e.0 l))) (settled i e.0 l)
 
-    -- what was got of each child is what it sent
-    got-sent : (k : ℕ) (e : SeatIn) → k < length cs → (get_or back.ends k e).end.got ≡ sent_on (get_or outs (get_or cs k 0) None)
-    got-sent k e l = ap (λ (z : SeatIn). z.end.got) (sym (end-is k e)) ∙ settled k e l
+    abbrev left_by : (i : ℕ) (o : Option ℕ) → slice_get cs i ≡ o → List (Mark Point)
+    left_by i None e = []
+    left_by i (Some c) e = all_marks (bodies (at-input i (slice_get_within cs i c e)).left)
 
-    brought : (k : ℕ) → all_marks (bodies (got_of deal.ins.items (length hand.seats) k)) ≡ of_child h.sent cs k
-    brought k = by_child (slice_get cs k) refl ∙ child-of h.sent cs k
+    abbrev left_here : ℕ → List (Mark Point)
+    left_here i = left_by i (slice_get cs i) refl
+
+    abbrev took_here : ℕ → List (Mark Point)
+    took_here i = got_marks deal.ins.items (length hand.seats) i
+
+    part-here : (i c : ℕ) → slice_get cs i ≡ Some c → took_here i ++ left_here i ≡ h.carriage.sent c
+    part-here i c f = by_child (slice_get cs i) refl f
       where
-        by_child : (o : Option ℕ) → slice_get cs k ≡ o → all_marks (bodies (got_of deal.ins.items (length hand.seats) k)) ≡ child_sent h.sent cs k
-        by_child None e =
-            ap (λ o. all_marks (bodies (got_on o))) (end-of-past k (past e)) ∙ ap (marks_of h.sent) (sym e)
-          where
-            past : slice_get cs k ≡ None → length cs ≤ k
-            past e = elim (cases_lt k (length cs)) [ inl l ↦ (let s = some_at cs k l in not-both (slice_get cs k) s.0 e s.1) | inr l ↦ l ]
-        by_child (Some c) e =
-            let l = slice_get_within cs k c e in
-            let i = some_at back.ends k (let n = count-ends in omega (arith, l, n)) in
-            let same : get_or cs k 0 ≡ c = get_or_from_slice_get cs k c 0 e in
-            ap (λ o. all_marks (bodies (got_on o))) (end-of-input k i.0 l) ∙ ap (λ xs. all_marks (bodies xs)) (got-sent k i.0 l)
-            ∙ sym (kept-child k l).all ∙ ap h.sent same ∙ ap (marks_of h.sent) (sym e)
+        by_child : (o : Option ℕ) (e : slice_get cs i ≡ o) → o ≡ Some c → took_here i ++ left_by i o e ≡ h.carriage.sent c
+        by_child None e q = cc
+        by_child (Some d) e q =
+            let l = slice_get_within cs i d e in
+            let p = at-input i l in
+            let same : get_or cs i 0 ≡ d = get_or_from_slice_get cs i d 0 e in
+            sym (all_marks-append (bodies (got_of deal.ins.items (length hand.seats) i)) (bodies p.left))
+            ∙ ap all_marks (sym (bodies-append (got_of deal.ins.items (length hand.seats) i) p.left)) ∙ ap (λ xs. all_marks (bodies xs)) p.part
+            ∙ sym (kept-child i l).all ∙ ap h.carriage.sent (same ∙ one_thing q)
 
-    carried-here : NodeCarries g (place + 1 == length start.nodes) n seat.node (child_sent sent_now cs) (sent_now place)
+    whole-here : seat.node.done ≡ true → (i : ℕ) → left_here i ≡ []
+    whole-here done i = by_child (slice_get cs i) refl
+      where
+        by_child : (o : Option ℕ) (e : slice_get cs i ≡ o) → left_by i o e ≡ []
+        by_child None e = refl
+        by_child (Some c) e =
+            let l = slice_get_within cs i c e in
+            ap (λ xs. all_marks (bodies xs)) ((at-input i l).whole (ended-here (ap (λ (s : Seat W). s.node.done) (sym same-seats.1) ∙ done) i l))
+
+    abbrev carriage_now : Carriage
+    carriage_now = record {
+      sent = λ k. cond (k == place) (all_marks (bodies (sent_on seat.out))) (h.carriage.sent k);
+      took = λ k. cond (k == place) took_here (h.carriage.took k);
+      left = λ k. cond (k == place) left_here (h.carriage.left k);
+    }
+
+    at-once : {X : Type 0} (a b : X) → cond (place == place) a b ≡ a
+    at-once a b = ap (λ z. cond z a b) (eq-eqb place place refl)
+
+    as-before : {X : Type 0} (a b : X) (k : ℕ) → k < place → cond (k == place) a b ≡ b
+    as-before a b k l = ap (λ z. cond z a b) (ne-eqb k place (λ e. absurd (omega (arith, l, e))))
+
+    sent-before : (k : ℕ) → k < place → carriage_now.sent k ≡ h.carriage.sent k
+    sent-before k l = as-before (all_marks (bodies (sent_on seat.out))) (h.carriage.sent k) k l
+
+    took-before : (k : ℕ) → k < place → carriage_now.took k ≡ h.carriage.took k
+    took-before k l = as-before took_here (h.carriage.took k) k l
+
+    left-before : (k : ℕ) → k < place → carriage_now.left k ≡ h.carriage.left k
+    left-before k l = as-before left_here (h.carriage.left k) k l
+
+    sent-here : carriage_now.sent place ≡ all_marks (bodies (sent_on seat.out))
+    sent-here = at-once (all_marks (bodies (sent_on seat.out))) (h.carriage.sent place)
+
+    below-now : (k : ℕ) → k < suc place → (k ≡ place) ⊎ (k < place)
+    below-now k l = elim (eqb_tells k place) [ inl p ↦ inl p.1 | inr p ↦ inr (let ne : k ≢ place = p.1 in omega (arith, l, ne)) ]
+
+    parts-next : AreParts carriage_now ins (suc place)
+    parts-next k i c l e = elim (below-now k l) [ inl p ↦ here p | inr p ↦ before p ]
+      where
+        here : k ≡ place → carriage_now.took k i ++ carriage_now.left k i ≡ carriage_now.sent c
+        here p =
+            let f : slice_get cs i ≡ Some c = ap (λ j. slice_get (children ins j) i) (sym p) ∙ e in
+            ap (λ j. carriage_now.took j i ++ carriage_now.left j i) p
+            ∙ ap (λ z. z i ++ carriage_now.left place i) (at-once took_here (h.carriage.took place)) ∙ ap (λ z. took_here i ++ z i) (at-once left_here (h.carriage.left place))
+            ∙ part-here i c f ∙ sym (sent-before c (child-below place i c f))
+
+        before : k < place → carriage_now.took k i ++ carriage_now.left k i ≡ carriage_now.sent c
+        before p =
+            ap (λ z. z i ++ carriage_now.left k i) (took-before k p) ∙ ap (λ z. h.carriage.took k i ++ z i) (left-before k p)
+            ∙ h.parts k i c p e ∙ sym (sent-before c (let b = child-below k i c e in omega (arith, b, p)))
+
+    carried-here : NodeCarries g (place + 1 == length start.nodes) n seat.node (carriage_now.took place) (carriage_now.sent place)
     carried-here =
-        let c : NodeCarries g (is_none x.out) n back.seat.node (of_child h.sent cs) (all_marks (bodies (sent_on back.seat.out))) =
-        seat-joins g (hand.ins ++ entries (length hand.seats) 0 x.ins) deal.ins.items (length hand.seats) (seat_of x) back.seat back.here seat-fit seat-done unread unsent h.sent cs brought in
-        subst (λ r. NodeCarries g r n seat.node (child_sent sent_now cs) (sent_now place)) root-is
-        (subst (λ t. NodeCarries g (is_none x.out) n seat.node t (sent_now place)) (sym (all-children h.sent cs) ∙ children-before place (omega arith))
-        (subst (λ s. NodeCarries g (is_none x.out) n seat.node (of_child h.sent cs) s) (sym sent-here)
-        (subst (λ (s : Seat W). NodeCarries g (is_none x.out) n s.node (of_child h.sent cs) (all_marks (bodies (sent_on s.out)))) (sym same-seats.1) c)))
+        let c : NodeCarries g (is_none x.out) n back.seat.node took_here (all_marks (bodies (sent_on back.seat.out))) =
+        seat-joins g (hand.ins ++ entries (length hand.seats) 0 x.ins) deal.ins.items (length hand.seats) (seat_of x) back.seat back.here seat-fit unread unsent in
+        subst (λ r. NodeCarries g r n seat.node (carriage_now.took place) (carriage_now.sent place)) root-is
+        (subst (λ t. NodeCarries g (is_none x.out) n seat.node t (carriage_now.sent place)) (sym (at-once took_here (h.carriage.took place)))
+        (subst (λ s. NodeCarries g (is_none x.out) n seat.node took_here s) (sym sent-here)
+        (subst (λ (s : Seat W). NodeCarries g (is_none x.out) n s.node took_here (all_marks (bodies (sent_on s.out)))) (sym same-seats.1) c)))
+
+    -- a node that is back is this one or an earlier one
+    which-back : (k : ℕ) (b : Node W) → slice_get (nodes ++ seat.node ∷ []) k ≡ Some b → ((k ≡ place) × (seat.node ≡ b)) ⊎ ((k < place) × (slice_get nodes k ≡ Some b))
+    which-back k b f = elim (below-now k (let i = slice_get_within (nodes ++ seat.node ∷ []) k b f in let m = length_push nodes seat.node in let c = h.counts.0 in omega (arith, i, m, c))) [
+      | inl p ↦ inl (p, one_thing (sym last-node ∙ ap (slice_get (nodes ++ seat.node ∷ [])) (sym p) ∙ f))
+      | inr p ↦ inr (p, sym (get-before nodes seat.node k (let c = h.counts.0 in omega (arith, p, c))) ∙ f)
+    ]
 
     carried-next : (k : ℕ) (a b : Node W) → slice_get start.nodes k ≡ Some a → slice_get (nodes ++ seat.node ∷ []) k ≡ Some b
-        → NodeCarries g (k + 1 == length start.nodes) a b (child_sent sent_now (children ins k)) (sent_now k)
-    carried-next k a b e f = elim (eqb_tells k place) [ inl p ↦ at-place p.1 | inr p ↦ before p.1 ]
+        → NodeCarries g (k + 1 == length start.nodes) a b (carriage_now.took k) (carriage_now.sent k)
+    carried-next k a b e f = elim (which-back k b f) [ inl p ↦ at-place p.0 p.1 | inr p ↦ before p.0 p.1 ]
       where
-        last-is : slice_get (nodes ++ seat.node ∷ []) place ≡ Some seat.node
-        last-is = ap (slice_get (nodes ++ seat.node ∷ [])) (sym h.counts.0) ∙ get-behind nodes seat.node
-
-        at-place : k ≡ place → NodeCarries g (k + 1 == length start.nodes) a b (child_sent sent_now (children ins k)) (sent_now k)
-        at-place p =
+        at-place : k ≡ place → seat.node ≡ b → NodeCarries g (k + 1 == length start.nodes) a b (carriage_now.took k) (carriage_now.sent k)
+        at-place p new =
             let old : n ≡ a = one_thing (sym node ∙ ap (slice_get start.nodes) (sym p) ∙ e) in
-            let new : seat.node ≡ b = one_thing (sym last-is ∙ ap (slice_get (nodes ++ seat.node ∷ [])) (sym p) ∙ f) in
-            subst (λ j. NodeCarries g (j + 1 == length start.nodes) a b (child_sent sent_now (children ins j)) (sent_now j)) (sym p)
-            (subst (λ z. NodeCarries g (place + 1 == length start.nodes) z b (child_sent sent_now cs) (sent_now place)) old
-            (subst (λ z. NodeCarries g (place + 1 == length start.nodes) n z (child_sent sent_now cs) (sent_now place)) new carried-here))
+            subst (λ j. NodeCarries g (j + 1 == length start.nodes) a b (carriage_now.took j) (carriage_now.sent j)) (sym p)
+            (subst (λ z. NodeCarries g (place + 1 == length start.nodes) z b (carriage_now.took place) (carriage_now.sent place)) old
+            (subst (λ z. NodeCarries g (place + 1 == length start.nodes) n z (carriage_now.took place) (carriage_now.sent place)) new carried-here))
 
-        before : k ≢ place → NodeCarries g (k + 1 == length start.nodes) a b (child_sent sent_now (children ins k)) (sent_now k)
-        before p =
-            let l : k < place = (let i = slice_get_within (nodes ++ seat.node ∷ []) k b f in let m = length_push nodes seat.node in let c = h.counts.0 in let ne : k ≢ place = p in omega (arith, i, m, c, ne)) in
-            let c = h.carried k a b e (sym (get-before nodes seat.node k (let c = h.counts.0 in omega (arith, l, c))) ∙ f) in
-            subst (λ t. NodeCarries g (k + 1 == length start.nodes) a b t (sent_now k)) (children-before k (omega (arith, l)))
-            (subst (λ s. NodeCarries g (k + 1 == length start.nodes) a b (child_sent h.sent (children ins k)) s) (sym (sent-before k l)) c)
+        before : k < place → slice_get nodes k ≡ Some b → NodeCarries g (k + 1 == length start.nodes) a b (carriage_now.took k) (carriage_now.sent k)
+        before l f' =
+            subst (λ t. NodeCarries g (k + 1 == length start.nodes) a b t (carriage_now.sent k)) (sym (took-before k l))
+            (subst (λ s. NodeCarries g (k + 1 == length start.nodes) a b (h.carriage.took k) s) (sym (sent-before k l)) (h.carried k a b e f'))
 
-    kept-next : (k : ℕ) → k < suc place → count_all k (take (suc place) ins) ≡ 0 → IsKept (slice_get start.outs k) (get_or (without outs cs ++ seat.out ∷ []) k None) (sent_now k)
+    whole-next : (k : ℕ) (m : Node W) → slice_get (nodes ++ seat.node ∷ []) k ≡ Some m → m.done ≡ true → (i : ℕ) → carriage_now.left k i ≡ []
+    whole-next k m f done i = elim (which-back k m f) [
+      | inl p ↦ ap (λ j. carriage_now.left j i) p.0 ∙ ap (λ l. l i) (at-once left_here (h.carriage.left place)) ∙ whole-here (ap (λ (z : Node W). z.done) p.1 ∙ done) i
+      | inr p ↦ ap (λ l. l i) (left-before k p.0) ∙ h.whole k m p.1 done i
+    ]
+
+    kept-next : (k : ℕ) → k < suc place → count_all k (take (suc place) ins) ≡ 0 → IsKept (slice_get start.outs k) (get_or (without outs cs ++ seat.out ∷ []) k None) (carriage_now.sent k)
     kept-next k l none = elim (eqb_tells k place) [ inl p ↦ at-place p.1 | inr p ↦ before p.1 ]
       where
         size-left : length (without outs cs) ≡ place
         size-left = length-without outs cs ∙ h.counts.1
 
-        at-place : k ≡ place → IsKept (slice_get start.outs k) (get_or (without outs cs ++ seat.out ∷ []) k None) (sent_now k)
+        at-place : k ≡ place → IsKept (slice_get start.outs k) (get_or (without outs cs ++ seat.out ∷ []) k None) (carriage_now.sent k)
         at-place p =
             let last : get_or (without outs cs ++ seat.out ∷ []) place None ≡ seat.out = get_or_push (without outs cs) seat.out None place size-left in
-            subst (λ j. IsKept (slice_get start.outs j) (get_or (without outs cs ++ seat.out ∷ []) j None) (sent_now j)) (sym p)
+            subst (λ j. IsKept (slice_get start.outs j) (get_or (without outs cs ++ seat.out ∷ []) j None) (carriage_now.sent j)) (sym p)
             (record {
               grew = subst (OutGrew (slice_get start.outs place)) (sym last) (subst (λ (s : Seat W). OutGrew (slice_get start.outs place) s.out) (sym same-seats.1) back.here.out);
               all = sent-here ∙ ap (λ o. all_marks (bodies (sent_on o))) (sym last);
             })
 
-        before : k ≢ place → IsKept (slice_get start.outs k) (get_or (without outs cs ++ seat.out ∷ []) k None) (sent_now k)
+        before : k ≢ place → IsKept (slice_get start.outs k) (get_or (without outs cs ++ seat.out ∷ []) k None) (carriage_now.sent k)
         before p =
             let b : k < place = (let ne : k ≢ place = p in omega (arith, l, ne)) in
             let more = counted-more k ins place (let s = forest.nodes in let i = within in omega (arith, s, i)) in
@@ -374,32 +402,31 @@ module _ {W S : Type 0} (g : Ghosts W S) (start : Opened W) (ins : List (List �
         subst (λ (s : Seat W). IsFit g y.ins.items k s) (seats-left k e l)
         (fit-still g deal.ins.items y.ins.items k (get_or deal.seats.items k e) (λ i. ends-left k i m.1) (h.fit w d in-deals k e m.0))
 
-    done-left : AreDone y.seats.items
-    done-left k e l = subst (λ (s : Seat W). (node_of s).done ≡ true) (seats-left k e l) (h.done w d in-deals k e (more-seats k l).0)
-
     hands-left : HandsCarry g (dealt (length (set deals w y)) (suc place) (places (suc place) (drop (suc place) start.nodes) ins start.outs start.inns)) (set deals w y)
     hands-left =
         subst (λ l. HandsCarry g (dealt l (suc place) (places (suc place) (drop (suc place) start.nodes) ins start.outs start.inns)) (set deals w y)) (sym (length-set deals w y))
         (rest-back g hands w x deals in-hands carried-hands d y
         (subst (λ es. SeatsCarry g hand.ins es hand.seats y.seats.items) (sym same-ins) (subst (λ ss. SeatsCarry g hand.ins back.rest.ins hand.seats ss) (sym same-seats.0) back.others)))
 
-    pub one-more-back : AreTakenBack g start ins (suc place) (set deals w y) (nodes ++ seat.node ∷ []) (without outs cs ++ seat.out ∷ [])
+    pub one-more-back : AreTakenBack g stop start ins (suc place) (set deals w y) (nodes ++ seat.node ∷ []) (without outs cs ++ seat.out ∷ [])
     one-more-back = record {
       hands = hands-left;
       fit = each-one (λ j e. DealFits g e) deals w y fit-left (λ j e l ne. h.fit j e l);
-      done = each-one (λ j (e : Deal W). AreDone e.seats.items) deals w y done-left (λ j e l ne. h.done j e l);
+      over = over-back g stop deals w y d in-deals seat seats nodes h.over;
       counts = (
         (let a = length_push nodes seat.node in let b = h.counts.0 in omega (arith, a, b)),
         (let a = length_push (without outs cs) seat.out in let b = h.counts.1 in let c = length-without outs cs in omega (arith, a, b, c)),
       );
-      sent = sent_now;
+      carriage = carriage_now;
+      parts = parts-next;
       carried = carried-next;
+      whole = whole-next;
       kept = kept-next;
     }
 
 -- the same as the code meets it
-module _ {W S : Type 0} (g : Ghosts W S) (start : Opened W) (ins : List (List ℕ)) (ok : IsStart g ins start) (place : ℕ) (inside : place < length start.nodes) (deals : List (Deal W))
-    (workers : 0 < length deals) (nodes : List (Node W)) (outs : List (Option OutSeen)) (h : AreTakenBack g start ins place deals nodes outs) (count : ℕ) (counted : count ≡ length deals)
+module _ {W S : Type 0} (g : Ghosts W S) (stop : Stop) (start : Opened W) (ins : List (List ℕ)) (ok : IsStart g ins start) (place : ℕ) (inside : place < length start.nodes) (deals : List (Deal W))
+    (workers : 0 < length deals) (nodes : List (Node W)) (outs : List (Option OutSeen)) (h : AreTakenBack g stop start ins place deals nodes outs) (count : ℕ) (counted : count ≡ length deals)
     (deal : Deal W) (here : deal ≡ get_or deals (place % count) deal) (cs : List ℕ) (childs : cs ≡ children ins place) where
   root : ℕ
   root = length start.nodes - 1
@@ -415,56 +442,64 @@ module _ {W S : Type 0} (g : Ghosts W S) (start : Opened W) (ins : List (List �
 
   pub seat-there : 0 < length deal.seats.items
   seat-there = subst (λ (z : Deal W). 0 < length z.seats.items) there
-      (some-seat g start ins (length start.nodes - 1) place ok.opened size ok.fresh ok.forest deals workers nodes outs h node_at.0 node_at.1 deal)
+      (some-seat g stop start ins (length start.nodes - 1) place ok.opened size ok.fresh ok.forest deals workers nodes outs h node_at.0 node_at.1 deal)
 
   pub ends-there : length cs ≤ length deal.ins.items
   ends-there = subst (λ xs. length xs ≤ length deal.ins.items) (sym childs) (subst (λ (z : Deal W). length (children ins place) ≤ length z.ins.items) there
-      (room g start ins (length start.nodes - 1) place ok.opened size ok.fresh ok.forest deals workers nodes outs h node_at.0 node_at.1 deal))
+      (room g stop start ins (length start.nodes - 1) place ok.opened size ok.fresh ok.forest deals workers nodes outs h node_at.0 node_at.1 deal))
 
   pub children-once : AreOnce cs
   children-once = subst (λ xs. AreOnce xs) (sym childs)
-      (once g start ins (length start.nodes - 1) place ok.opened size ok.fresh ok.forest deals workers nodes outs h node_at.0 node_at.1 deal)
+      (once g stop start ins (length start.nodes - 1) place ok.opened size ok.fresh ok.forest deals workers nodes outs h node_at.0 node_at.1 deal)
 
-  pub edges-over : EdgesFrom AreOver outs cs (length deal.ins.items - length cs) deal.ins.items
-  edges-over = subst (λ xs. EdgesFrom AreOver outs xs (length deal.ins.items - length xs) deal.ins.items) (sym childs)
-      (subst (λ (z : Deal W). EdgesFrom AreOver outs (children ins place) (length z.ins.items - length (children ins place)) z.ins.items) there
-      (over g start ins (length start.nodes - 1) place ok.opened size ok.fresh ok.forest deals workers nodes outs h node_at.0 node_at.1 deal))
+  pub edges-one : EdgesFrom AreOfOne outs cs (length deal.ins.items - length cs) deal.ins.items
+  edges-one = subst (λ xs. EdgesFrom AreOfOne outs xs (length deal.ins.items - length xs) deal.ins.items) (sym childs)
+      (subst (λ (z : Deal W). EdgesFrom AreOfOne outs (children ins place) (length z.ins.items - length (children ins place)) z.ins.items) there
+      (one g stop start ins (length start.nodes - 1) place ok.opened size ok.fresh ok.forest deals workers nodes outs h node_at.0 node_at.1 deal))
 
   pub place-back : (y : Deal W) (seat : Seat W) (nodes_now : List (Node W)) (outs_left outs_now : List (Option OutSeen)) → deal.seats.items ≡ y.seats.items ++ seat ∷ []
       → y.ins.items ≡ take (length deal.ins.items - length cs) deal.ins.items → EdgesFrom IsSettled outs cs (length deal.ins.items - length cs) deal.ins.items
       → outs_left ≡ without outs cs → nodes_now ≡ nodes ++ seat.node ∷ [] → outs_now ≡ outs_left ++ seat.out ∷ []
-      → AreTakenBack g start ins (place + 1) (set deals (place % count) y) nodes_now outs_now
+      → AreTakenBack g stop start ins (place + 1) (set deals (place % count) y) nodes_now outs_now
   place-back y seat nodes_now outs_left outs_now seats ends settled left a b =
-      let back : AreTakenBack g start ins (suc place) (set deals (place % length deals) y) (nodes ++ seat.node ∷ []) (without outs (children ins place) ++ seat.out ∷ []) =
-      one-more-back g start ins (length start.nodes - 1) place ok.opened size ok.fresh ok.forest deals workers nodes outs h node_at.0 node_at.1 deal y seat
+      let back : AreTakenBack g stop start ins (suc place) (set deals (place % length deals) y) (nodes ++ seat.node ∷ []) (without outs (children ins place) ++ seat.out ∷ []) =
+      one-more-back g stop start ins (length start.nodes - 1) place ok.opened size ok.fresh ok.forest deals workers nodes outs h node_at.0 node_at.1 deal y seat
       (ap (λ (z : Deal W). z.seats.items) there ∙ seats)
       (subst (λ xs. y.ins.items ≡ take (length (get_or deals (place % length deals) deal).ins.items - length xs) (get_or deals (place % length deals) deal).ins.items) childs
       (subst (λ (z : Deal W). y.ins.items ≡ take (length z.ins.items - length cs) z.ins.items) (sym there) ends))
       (subst (λ xs. EdgesFrom IsSettled outs xs (length (get_or deals (place % length deals) deal).ins.items - length xs) (get_or deals (place % length deals) deal).ins.items) childs
       (subst (λ (z : Deal W). EdgesFrom IsSettled outs cs (length z.ins.items - length cs) z.ins.items) (sym there) settled)) in
-      subst (λ p. AreTakenBack g start ins p (set deals (place % count) y) nodes_now outs_now) {x = suc place} {y = place + 1} (omega arith)
-      (subst (λ k. AreTakenBack g start ins (suc place) (set deals (place % k) y) nodes_now outs_now) (sym counted)
-      (subst (λ ns. AreTakenBack g start ins (suc place) (set deals (place % length deals) y) ns outs_now) (sym a)
-      (subst (λ os. AreTakenBack g start ins (suc place) (set deals (place % length deals) y) (nodes ++ seat.node ∷ []) os)
+      subst (λ p. AreTakenBack g stop start ins p (set deals (place % count) y) nodes_now outs_now) {x = suc place} {y = place + 1} (omega arith)
+      (subst (λ k. AreTakenBack g stop start ins (suc place) (set deals (place % k) y) nodes_now outs_now) (sym counted)
+      (subst (λ ns. AreTakenBack g stop start ins (suc place) (set deals (place % length deals) y) ns outs_now) (sym a)
+      (subst (λ os. AreTakenBack g stop start ins (suc place) (set deals (place % length deals) y) (nodes ++ seat.node ∷ []) os)
       (sym (b ∙ ap (λ os. os ++ seat.out ∷ []) (left ∙ ap (without outs) childs))) back)))
 
 -- before the first and after the last
-module _ {W S : Type 0} (g : Ghosts W S) (start : Opened W) (ins : List (List ℕ)) (deals : List (Deal W)) (nodes : List (Node W)) (outs : List (Option OutSeen)) where
-  pub none-back : HandsCarry g (dealt (length deals) 0 (places 0 start.nodes ins start.outs start.inns)) deals → DealsFit g deals → DealsDone deals → nodes ≡ [] → outs ≡ []
-      → AreTakenBack g start ins 0 deals nodes outs
-  none-back hands fit done no_nodes no_outs = record {
+module _ {W S : Type 0} (g : Ghosts W S) (stop : Stop) (start : Opened W) (ins : List (List ℕ)) (deals : List (Deal W)) (nodes : List (Node W)) (outs : List (Option OutSeen)) where
+  pub none-back : HandsCarry g (dealt (length deals) 0 (places 0 start.nodes ins start.outs start.inns)) deals → DealsFit g deals → DealsOver stop deals → nodes ≡ [] → outs ≡ []
+      → AreTakenBack g stop start ins 0 deals nodes outs
+  none-back hands fit over no_nodes no_outs = record {
     hands = hands;
     fit = fit;
-    done = done;
+    over = over-none g stop deals nodes no_nodes over;
     counts = (ap (λ (ys : List (Node W)). length ys) no_nodes, ap (λ (ys : List (Option OutSeen)). length ys) no_outs);
-    sent = λ k. [];
+    carriage = record { sent = λ k. []; took = λ k input. []; left = λ k input. [] };
+    parts = λ k input child l. absurd (omega (arith, l));
     carried = λ k n m e f. not-both (slice_get nodes k) m (ap (λ ys. slice_get ys k) no_nodes) f;
+    whole = λ k m f. not-both (slice_get nodes k) m (ap (λ ys. slice_get ys k) no_nodes) f;
     kept = λ k l. absurd (omega (arith, l));
   }
 
-  module _ (place : ℕ) (h : AreTakenBack g start ins place deals nodes outs) (all : place ≡ length start.nodes) where
+  module _ (place : ℕ) (h : AreTakenBack g stop start ins place deals nodes outs) (all : place ≡ length start.nodes) where
     pub all-carried : AreCarried g ins start.nodes nodes
-    all-carried = record { count = h.counts.0 ∙ all; sent = h.sent; nodes = h.carried }
+    all-carried = record {
+      count = h.counts.0 ∙ all;
+      carriage = h.carriage;
+      parts = λ k input child l. h.parts k input child (omega (arith, l, all));
+      nodes = h.carried;
+      whole = h.whole;
+    }
 
     pub deals-empty : Each (λ i (deal : Deal W). vec_len deal.seats ≡ 0) deals
     deals-empty i d l =

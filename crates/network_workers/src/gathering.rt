@@ -2,12 +2,13 @@
 
 ghost use Rattle.std.specs.Prelude.{◌≡◌, ◌<◌, ◌≤◌, ◌+◌, ◌^◌, ◌++◌, ◌∷◌, [], None};
 ghost use Rattle.std.specs.Prelude.{length, slice_index_or, slice_set, vec_capacity};
-ghost use Rattle.network_solo.specs.Trees.{IsRanTree};
+ghost use Rattle.network_workers.specs.Crews.{HasRun};
 ghost use Rattle.network_workers.specs.Dealt.{dealt, places, HandsCarry};
-ghost use Rattle.network_workers.specs.Gathered.{AreOver, IsSettled, LastEdge, LastEdges, AreOnce};
+ghost use Rattle.network_workers.specs.Gathered.{AreOfOne, IsSettled, LastEdge, LastEdges, AreOnce};
 ghost use Rattle.network_workers.specs.Gathered.{without, but_last};
-ghost use Rattle.network_workers.specs.Gathered.{Opened, IsStart, AreTakenBack, AreCarried};
-ghost use Rattle.network_workers.specs.Seats.{DealsFit, DealsDone};
+ghost use Rattle.network_workers.specs.Gathered.{Turned, IsStart, AreTakenBack};
+ghost use Rattle.network_workers.specs.Seats.{DealsFit};
+ghost use Rattle.network_workers.specs.Stopping.{DealsOver};
 
 use crate::rooms::WorkerRoom;
 use crate::seats::{Deal, Seat, SeatIn};
@@ -19,7 +20,7 @@ use network_core::{InsList, Node, NodeList};
 /// Settles the queue of which the last of these ends takes, and that of this child sends.
 fn settle_last(ins: &mut Vec<SeatIn>, child: usize, outs: &mut Vec<Option<RuledOut>>)
     requires some { 0 < length ins.old.items }
-    requires over { LastEdge AreOver (slice_index_or outs.old.items child None) ins.old.items }
+    requires one { LastEdge AreOfOne (slice_index_or outs.old.items child None) ins.old.items }
     ensures settled { LastEdge IsSettled (slice_index_or outs.old.items child None) ins.old.items }
     ensures ins { ins.new.items ≡ but_last 1 ins.old.items }
     ensures outs { outs.new.items ≡ slice_set outs.old.items child None }
@@ -31,15 +32,14 @@ fn settle_last(ins: &mut Vec<SeatIn>, child: usize, outs: &mut Vec<Option<RuledO
     let Some(out) = outs[child].take() else {
         unreachable!()
     };
-    let settled = settle_ends(out, input.end);
-    prove!(settled);
+    settle_ends(out, input.end);
 }
 
-/// Settles the queues between a node that is done and its children. The ends that it read are the last ones.
+/// Settles the queues between a node and its children. The ends that it read are the last ones.
 fn settle_inputs(ins: &mut Vec<SeatIn>, children: &[u32], outs: &mut Vec<Option<RuledOut>>)
     requires room { length children.now ≤ length ins.old.items }
     requires once { AreOnce children.now }
-    requires over { LastEdges AreOver outs.old.items children.now ins.old.items }
+    requires one { LastEdges AreOfOne outs.old.items children.now ins.old.items }
     ensures settled { LastEdges IsSettled outs.old.items children.now ins.old.items }
     ensures ins { ins.new.items ≡ but_last (length children.now) ins.old.items }
     ensures outs { outs.new.items ≡ without outs.old.items children.now }
@@ -60,7 +60,7 @@ fn take_seat<W: Work>(
     requires some { 0 < length seats.old.items }
     requires room { length children.now ≤ length ins.old.items }
     requires once { AreOnce children.now }
-    requires over { LastEdges AreOver outs.old.items children.now ins.old.items }
+    requires one { LastEdges AreOfOne outs.old.items children.now ins.old.items }
     ensures seats { seats.old.items ≡ seats.new.items ++ result ∷ [] }
     ensures settled { LastEdges IsSettled outs.old.items children.now ins.old.items }
     ensures ins { ins.new.items ≡ but_last (length children.now) ins.old.items }
@@ -82,17 +82,18 @@ fn take_back<W: Work>(
     nodes: &mut Vec<Node<W>>,
     outs: &mut Vec<Option<RuledOut>>,
 )
-    ghost start: { Opened W }
-    requires tree { IsStart W.Work ins.now start }
-    requires place { place < length start.nodes }
+    ghost turned: { Turned W }
+    requires tree { IsStart W.Work ins.now turned.start }
+    requires place { place < length turned.start.nodes }
     requires workers { 0 < length deals.old.items }
-    requires nodes { length start.nodes ≤ vec_capacity nodes.old }
-    requires outs { length start.nodes ≤ vec_capacity outs.old }
-    requires back { AreTakenBack W.Work start ins.now place deals.old.items nodes.old.items outs.old.items }
+    requires nodes { length turned.start.nodes ≤ vec_capacity nodes.old }
+    requires outs { length turned.start.nodes ≤ vec_capacity outs.old }
+    requires back { AreTakenBack W.Work turned.stop turned.start ins.now place deals.old.items nodes.old.items
+        outs.old.items }
     ensures workers { length deals.new.items ≡ length deals.old.items }
     ensures nodes { vec_capacity nodes.new ≡ vec_capacity nodes.old }
     ensures outs { vec_capacity outs.new ≡ vec_capacity outs.old }
-    ensures back { AreTakenBack W.Work start ins.now (place + 1) deals.new.items nodes.new.items
+    ensures back { AreTakenBack W.Work turned.stop turned.start ins.now (place + 1) deals.new.items nodes.new.items
         outs.new.items }
 {
     let worker = place % deals.len();
@@ -107,8 +108,8 @@ fn take_back<W: Work>(
     outs.push_reserved(out);
 }
 
-/// Takes all nodes back from the workers, and settles the queue above each but the root: all that was sent
-/// was got. The two lists are empty and have room.
+/// Takes all nodes back from the workers, and settles the queue above each but the root: what was got is a first part of what
+/// was sent, and all of it where the node that took it is done. The two lists are empty and have room.
 pub(crate) fn gather<W: Work>(
     deals: Vec<Deal<W>>,
     count: usize,
@@ -116,19 +117,18 @@ pub(crate) fn gather<W: Work>(
     nodes: Vec<Node<W>>,
     outs: Vec<Option<RuledOut>>,
 ) -> NodeList<W>
-    ghost start: { Opened W }
-    requires tree { IsStart W.Work ins.now start }
-    requires count { count ≡ length start.nodes }
+    ghost turned: { Turned W }
+    requires tree { IsStart W.Work ins.now turned.start }
+    requires count { count ≡ length turned.start.nodes }
     requires few { count < 2 ^ 32 }
     requires workers { 0 < length deals.items }
     requires nodes { (nodes.items ≡ []) × (count ≤ vec_capacity nodes) }
     requires outs { (outs.items ≡ []) × (count ≤ vec_capacity outs) }
-    requires carried { HandsCarry W.Work
-        (dealt (length deals.items) 0 (places 0 start.nodes ins.now start.outs start.inns)) deals.items }
+    requires carried { HandsCarry W.Work (dealt (length deals.items) 0
+        (places 0 turned.start.nodes ins.now turned.start.outs turned.start.inns)) deals.items }
     requires fit { DealsFit W.Work deals.items }
-    requires done { DealsDone deals.items }
-    ensures ran { IsRanTree W.Work ins.now start.nodes result }
-    ensures settled { AreCarried W.Work ins.now start.nodes result }
+    requires over { DealsOver turned.stop deals.items }
+    ensures { HasRun W.Work turned.stop turned.start.nodes ins.now result }
 {
     let mut deals = deals;
     let mut nodes = nodes;

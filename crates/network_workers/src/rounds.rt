@@ -1,6 +1,6 @@
 //! Rounds of one worker.
 
-ghost use Rattle.std.specs.Prelude.{◌≡◌, ◌<◌, ◌^◌, true, length};
+ghost use Rattle.std.specs.Prelude.{◌≡◌, ◌<◌, ◌^◌, true, false, length};
 ghost use Rattle.network_workers.specs.Seats.{AreFit, AreDone, SeatsCarry};
 ghost use Rattle.network_workers.specs.Stopping.{stops_in, Somewhere, Nowhere, AtMostOnce, OtherSeatsStay};
 
@@ -11,6 +11,7 @@ use cloud_points::Work;
 use file_devices::Gate;
 use network_core::Stop;
 use std::sync::Wait;
+use std::sync::atomic::{AtomicBool, Ordering};
 use std::thread::Parker;
 use std::time::Duration;
 use std::{hint, thread};
@@ -108,8 +109,20 @@ fn pause<R: Wait>(rt: &R, idle: u64) {
     }
 }
 
+/// Whether a worker's rounds are over: turns end behind one of its seats, which it then tells the others, another told it so, or all
+/// its nodes are done.
+fn are_over<W: Work>(seats: &[Seat<W>], stop: Stop, told: &AtomicBool) -> bool
+    ensures { result ≡ false → Nowhere (stops_in stop seats.now) }
+{
+    if some_ends(seats, stop) {
+        told.store(true, Ordering::Relaxed);
+        return true;
+    }
+    told.load(Ordering::Relaxed) || are_done(seats)
+}
+
 /// Rounds of one worker, until all its nodes are done, `patience` rounds in a row did no work, or turns end
-/// behind one of its seats.
+/// behind one of its seats, or behind one of another worker's as it was told.
 pub(crate) fn work<W: Work, R: Wait, G: Gate>(
     rt: &R,
     worker: u32,
@@ -118,6 +131,7 @@ pub(crate) fn work<W: Work, R: Wait, G: Gate>(
     patience: u64,
     gate: &G,
     stop: Stop,
+    told: &AtomicBool,
 )
     requires few { length seats.old.items < 2 ^ 32 }
     requires fit { AreFit W.Work ins.old.items seats.old.items }
@@ -130,7 +144,7 @@ pub(crate) fn work<W: Work, R: Wait, G: Gate>(
     let patience = patience.max(1);
     let mut idle = 0;
     for _ in rt.forever() {
-        if idle >= patience || are_done(seats.as_slice()) || some_ends(seats.as_slice(), stop) {
+        if idle >= patience || are_over(seats.as_slice(), stop, told) {
             break;
         }
         if take_round(rt, worker, seats, ins, gate, stop) {

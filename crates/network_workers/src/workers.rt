@@ -11,6 +11,7 @@ use cloud_points::Work;
 use file_devices::Gate;
 use network_core::Stop;
 use std::sync::Wait;
+use std::sync::atomic::AtomicBool;
 use std::thread;
 use std::thread::Threads;
 
@@ -34,6 +35,8 @@ fn run_until<W: Work + Send, R: Threads + Wait + Sync, G: Gate>(
     if count == 0 {
         return;
     }
+    // Set once a worker saw a fault at which turns end, so that no other one waits out its patience then.
+    let told = AtomicBool::new(false);
     thread::for_each_mut(
         rt,
         deals,
@@ -51,6 +54,7 @@ fn run_until<W: Work + Send, R: Threads + Wait + Sync, G: Gate>(
                 patience,
                 gate,
                 stop,
+                &told,
             )
         },
     );
@@ -79,7 +83,7 @@ pub fn run_workers<W: Work + Send, R: Threads + Wait + Sync, G: Gate>(
 
 /// Lets each worker go round the nodes of its deal, as `run_workers` does. A worker also stops once one of its
 /// nodes has a fault: no turn of its own comes after that, and where one has a fault at the start it takes
-/// none. It knows nothing of the faults of other workers' nodes.
+/// none. The others are told, and stop before their next round.
 pub fn run_workers_first<W: Work + Send, R: Threads + Wait + Sync, G: Gate>(
     rt: &R,
     deals: &mut [Deal<W>],

@@ -102,7 +102,7 @@ fn evaluate<
     ensures gathers { OnErr result.outcome (TakesTurns step → SomeGathers stages.now) }
     ensures ahead { (shape : Shape) → IsWaiting S.Source K.Sink P.PlugFilter Q.PlugTally T.fits
         (Queues shape) stages.now step
-        → IfOk result.outcome (λ ended. T.stop scheduler.now ≡ First
+        → IfOk result.outcome (λ ended. T.bounded scheduler.now → T.stop scheduler.now ≡ First
         → AreReadAhead S.Source P.PlugFilter Q.PlugTally stages.now
         shape.queue shape.chunk works.items result.works.items ended.faults.items) }
 {
@@ -117,8 +117,8 @@ fn evaluate<
 impl<S: Source, K: FileSink, P: PlugFilter, Q: PlugTally, E> Job<S, K, P, Q, E> {
     /// Lets the points go through the stages, as the scheduler has it that it was prepared for: on the thread of the caller, or on
     /// several. Each stage comes to its end, and what that is `close` tells. Refuses only where memory is wanting; where the stages take
-    /// turns, and none needs whole views, all memory is there already. Where turns end at the first fault, its readers have read no further
-    /// than a bound by the number of the faulty point, if all stages give on each point.
+    /// turns, and none needs whole views, all memory is there already. Where turns end at the first fault, and the scheduler bounds what is
+    /// read then, its readers have read no further than a bound by the number of the faulty point, if all stages give on each point.
     pub fn run<T: Scheduler<StageWork<S, K, P, Q>, Edges = E>>(
         &mut self,
         alloc: Global,
@@ -141,7 +141,7 @@ impl<S: Source, K: FileSink, P: PlugFilter, Q: PlugTally, E> Job<S, K, P, Q, E> 
         ensures enough { OnOk result (IsShort self.new.step → ⊥) }
         ensures short { OnErr result (IsShort self.new.step) }
         ensures gathers { OnErr result (TakesTurns self.old.step → SomeGathers stages.now) }
-        ensures ahead { T.stop scheduler.now ≡ First → (engine : Chosen)
+        ensures ahead { T.bounded scheduler.now → T.stop scheduler.now ≡ First → (engine : Chosen)
             → IsWaiting S.Source K.Sink P.PlugFilter Q.PlugTally T.fits engine stages.now self.old.step
             → HaveReadBy S.Source K.Sink P.PlugFilter Q.PlugTally engine stages.now self.old.works.items self.new.works.items
             self.new.step }

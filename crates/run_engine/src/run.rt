@@ -75,8 +75,8 @@ pub fn run_pipeline<
     ensures untold { F.map files.old ≡ None → F.map files.new ≡ None }
     ensures lent { F.lent files.new ≡ F.lent files.old }
     ensures later { F.faults files.old ≤ F.faults files.new }
-    ensures ahead { (shape : Shape) (m : Names) (i : ℕ) (f : PointFault) → engine ≡ Queues shape
-        → T.stop scheduler.now ≡ First → F.map files.old ≡ Some m → result ≡ Err (Data i (Point f))
+    ensures ahead { T.bounded scheduler.now → (shape : Shape) (m : Names) (i : ℕ) (f : PointFault)
+        → engine ≡ Queues shape → T.stop scheduler.now ≡ First → F.map files.old ≡ Some m → result ≡ Err (Data i (Point f))
         → HasReadNoMore m stages.now shape.queue shape.chunk i (stage.Point f) (F.read_to files.old)
         (F.read_to files.new) }
 {

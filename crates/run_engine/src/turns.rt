@@ -54,7 +54,7 @@ pub(crate) fn turn_works<
         (T.stop scheduler.now)
         stages.now works.items result.works.items ended.faults.items ended.report.items) }
     ensures gathers { OnErr result.outcome (SomeGathers stages.now) }
-    ensures ahead { IfOk result.outcome (λ ended. T.stop scheduler.now ≡ First
+    ensures ahead { IfOk result.outcome (λ ended. T.bounded scheduler.now → T.stop scheduler.now ≡ First
         → AreReadAhead S.Source P.PlugFilter Q.PlugTally stages.now room.shape.queue room.shape.chunk works.items
         result.works.items ended.faults.items) }
 {

@@ -127,8 +127,8 @@ module _ {S K P Q : Type 0} (s : source.Ghosts S) (k : sink.Ghosts K) (fs : plug
 
 module _ {S K P Q : Type 0} (s : source.Ghosts S) (k : sink.Ghosts K) (fs : plug_type.Ghosts P) (ts : tally_type.Ghosts Q) (stages : List StageSpec) (tree : IsTree (shapes stages)) (old : List (Node (StageWork S K P Q))) (new : AreNewStages s k fs ts stages old)
     (homes : List ℕ) (are : AreHomes (gathers_of stages) (ins_of stages) homes) (besides : Besides S K P Q) (now : List (Node (StageWork S K P Q))) (count : length now ≡ length stages)
-    (done : AreRunBefore s k fs ts stages homes old (length stages) now) (queue chunk : ℕ) (after : List (Node (StageWork S K P Q)))
-    (part : IsPartStopped s k fs ts queue chunk (part_ins (gathers_of stages) (ins_of stages) homes (length stages) (length stages - 1)) homes (length stages) (length stages - 1) now after)
+    (done : AreRunBefore s k fs ts stages homes old (length stages) now) (bounded : Type 0) (is_bounded : bounded) (queue chunk : ℕ) (after : List (Node (StageWork S K P Q)))
+    (part : IsPartStopped s k fs ts bounded queue chunk (part_ins (gathers_of stages) (ins_of stages) homes (length stages) (length stages - 1)) homes (length stages) (length stages - 1) now after)
     (cuts : (j : ℕ) (n : Node (StageWork S K P Q)) → slice_get old j ≡ Some n → n.chunk ≡ chunk)
     (keep : KeepPoints stages) (opened : Opened) (on : RunOn s fs ts stages old opened) (plain : HaveNoEvlrs (map work_of old)) (front : AreInFront s.reached (map work_of old))
     (i : ℕ) (f : StageFault) (over : EndedAtWriter stages (map (λ (n : Node (StageWork S K P Q)). n.fault) after) i f) where
@@ -319,7 +319,7 @@ module _ {S K P Q : Type 0} (s : source.Ghosts S) (k : sink.Ghosts K) (fs : plug
 
   law : sum_at under (told_by (as_works s k fs ts)) part.net + sum_at under (read_beyond (as_works s k fs ts)) part.ended
       ≤ sum_at under (told_by (as_works s k fs ts)) part.ended + number_of f + ((length part.net - 1) * queue + (length part.net - 1 + 2)) * chunk
-  law = part.turned.2 none-came tells-all near chunk (λ j n e. let b = (begins j n (within-net j n e) e).cut in omega (arith, b)) i under taken_in number_of f ended-so
+  law = part.turned.2 is_bounded none-came tells-all near chunk (λ j n e. let b = (begins j n (within-net j n e) e).cut in omega (arith, b)) i under taken_in number_of f ended-so
 
   -- ---- what each reader read
 

@@ -32,10 +32,10 @@ module _ {S K P Q : Type 0} (s : source.Ghosts S) (k : sink.Ghosts K) (fs : plug
   -- the nodes of a part, of this home and root, where those below it came to their end
   module _ (home root : ℕ) (is_root : IsRoot stages homes home root) (now : List (Node (StageWork S K P Q))) (count : length now ≡ length stages) (inside : root < length stages)
       (below : (i : ℕ) → i < root → i < home) (under : (i : ℕ) → i < length stages → home_at homes i ≡ home → i ≢ root → i < root) (done : AreRunBefore s k fs ts stages homes old home now)
-      (queue chunk : ℕ) (after : List (Node (StageWork S K P Q))) (part : IsPartStopped s k fs ts queue chunk (part_ins (gathers_of stages) (ins_of stages) homes home root) homes home root now after) where
+      (bounded : Type 0) (queue chunk : ℕ) (after : List (Node (StageWork S K P Q))) (part : IsPartStopped s k fs ts bounded queue chunk (part_ins (gathers_of stages) (ins_of stages) homes home root) homes home root now after) where
     pub part-stopped : AreStoppedStages s k fs ts stages old after
     part-stopped calm opened on = (
-      some-faulty s k fs ts stages old new down forest size homes are besides home root is_root now count inside below done after opened on sound quiet queue chunk part,
+      some-faulty s k fs ts stages old new down forest size homes are besides home root is_root now count inside below done after opened on sound quiet bounded queue chunk part,
       λ i m f e has. by_place i m f e has (within i m e),
     )
       where
@@ -82,7 +82,7 @@ module _ {S K P Q : Type 0} (s : source.Ghosts S) (k : sink.Ghosts K) (fs : plug
 
         by_home : (i : ℕ) (m : Node (StageWork S K P Q)) (f : StageFault) → slice_get after i ≡ Some m → m.fault ≡ Some f → i < length stages → i ≢ root → (b : Bool) → (home_at homes i == home) ≡ b
             → option_map stage.Point (stage_fault stages opened i) ≡ Some f
-        by_home i m f e has l n true h = home-faulty s k fs ts stages old new down forest size homes are besides home root is_root now count inside below done after opened on sound quiet queue chunk part
+        by_home i m f e has l n true h = home-faulty s k fs ts stages old new down forest size homes are besides home root is_root now count inside below done after opened on sound quiet bounded queue chunk part
             i m f (under i l (number-same (home_at homes i) home h) n) h e has
         by_home i m f e has l n false h = by_past (is_past s k fs ts stages homes old home i) refl
           where
@@ -96,7 +96,7 @@ module _ {S K P Q : Type 0} (s : source.Ghosts S) (k : sink.Ghosts K) (fs : plug
         by_place : (i : ℕ) (m : Node (StageWork S K P Q)) (f : StageFault) → slice_get after i ≡ Some m → m.fault ≡ Some f → i < length stages → option_map stage.Point (stage_fault stages opened i) ≡ Some f
         by_place i m f e has l = elim (eqb_tells i root) [
           | inl q ↦ subst (λ j. option_map stage.Point (stage_fault stages opened j) ≡ Some f) (sym q.1)
-              (root-faulty s k fs ts stages old new down forest size homes are besides home root is_root now count inside below done after opened on sound quiet queue chunk part m f (ap (slice_get after) (sym q.1) ∙ e) has)
+              (root-faulty s k fs ts stages old new down forest size homes are besides home root is_root now count inside below done after opened on sound quiet bounded queue chunk part m f (ap (slice_get after) (sym q.1) ∙ e) has)
           | inr q ↦ by_home i m f e has l q.1 (home_at homes i == home) refl
         ]
 

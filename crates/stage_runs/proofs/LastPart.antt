@@ -251,9 +251,9 @@ module _ {S K P Q : Type 0} (s : source.Ghosts S) (k : sink.Ghosts K) (fs : plug
   last-gathers now after count some gathers done run sound opened on i m e =
       all-end now after count some gathers done run (ran-turned s k fs ts ([] ∷ []) (run.was ∷ []) (run.is ∷ []) run.turned.0) sound opened on run.turned.0 i m e
 
-  pub last-leaf-stopped : (queue : ℕ) (now after : List (Node (StageWork S K P Q))) → length now ≡ length stages → 0 < length stages → is_gathering (role_at stages (length stages - 1)) ≡ true
-      → Done (length stages) now → IsLeafStopped s k fs ts queue (length stages - 1) now after → AreStoppedStages s k fs ts stages old after
-  last-leaf-stopped queue now after count some gathers done run sound opened on = (
+  pub last-leaf-stopped : (bounded : Type 0) (queue : ℕ) (now after : List (Node (StageWork S K P Q))) → length now ≡ length stages → 0 < length stages → is_gathering (role_at stages (length stages - 1)) ≡ true
+      → Done (length stages) now → IsLeafStopped s k fs ts bounded queue (length stages - 1) now after → AreStoppedStages s k fs ts stages old after
+  last-leaf-stopped bounded queue now after count some gathers done run sound opened on = (
     some-fault run.turned.1,
     λ i m f e has. all-faulty now after count some gathers done run (stopped-turned s k fs ts ([] ∷ []) (run.was ∷ []) (run.is ∷ []) run.turned.0) sound opened on run.turned.0 i m f e has,
   )

@@ -114,8 +114,8 @@ module _ {S K P Q E : Type 0} (s : source.Ghosts S) (k : sink.Ghosts K) (fs : pl
       pub last-waits : (n : Node (StageWork S K P Q)) → slice_get now root ≡ Some n → IsNewLeaf s k fs ts n
       last-waits n e = last-leaf s k fs ts stages old new down forest (ins-size stages) homes is.homes besides now some gathers done n e
 
-      pub leaf-stopped : {after : List (Node (StageWork S K P Q))} → IsLeafStopped s k fs ts queue root now after → AreStoppedStages s k fs ts stages old after
-      leaf-stopped {after} run = last-leaf-stopped s k fs ts stages old new down forest (ins-size stages) homes is.homes besides queue now after count some gathers done run
+      pub leaf-stopped : (bounded : Type 0) {after : List (Node (StageWork S K P Q))} → IsLeafStopped s k fs ts bounded queue root now after → AreStoppedStages s k fs ts stages old after
+      leaf-stopped bounded {after} run = last-leaf-stopped s k fs ts stages old new down forest (ins-size stages) homes is.homes besides bounded queue now after count some gathers done run
 
       module _ {after : List (Node (StageWork S K P Q))} (run : IsLeafRun s k fs ts besides root now after) where
         pub leaf-ran : AreRanStages s k fs ts stages old after
@@ -164,13 +164,13 @@ module _ {S K P Q E : Type 0} (s : source.Ghosts S) (k : sink.Ghosts K) (fs : pl
           (λ q. let m = some in omega (arith, m)) n f)
 
       -- the last part ended at a fault
-      pub last-stopped : (chunk : ℕ) {after : List (Node (StageWork S K P Q))} → IsPartStopped s k fs ts queue chunk part homes (length stages) root now after → AreStoppedStages s k fs ts stages old after
-      last-stopped chunk {after} stopped = part-stopped s k fs ts stages old new down forest (ins-size stages) homes is.homes besides (length stages) root at-last now count inside lower
-          (λ i l h n. omega (arith, l, n)) done queue chunk after (subst (λ xss. IsPartStopped s k fs ts queue chunk xss homes (length stages) root now after) same-part stopped)
+      pub last-stopped : (bounded : Type 0) (chunk : ℕ) {after : List (Node (StageWork S K P Q))} → IsPartStopped s k fs ts bounded queue chunk part homes (length stages) root now after → AreStoppedStages s k fs ts stages old after
+      last-stopped bounded chunk {after} stopped = part-stopped s k fs ts stages old new down forest (ins-size stages) homes is.homes besides (length stages) root at-last now count inside lower
+          (λ i l h n. omega (arith, l, n)) done bounded queue chunk after (subst (λ xss. IsPartStopped s k fs ts bounded queue chunk xss homes (length stages) root now after) same-part stopped)
 
-      pub last-known : (chunk : ℕ) {after : List (Node (StageWork S K P Q))} → IsPartStopped s k fs ts queue chunk part homes (length stages) root now after → SomeFault (as_works s k fs ts) after ⊎ SomeGathers stages
-      last-known chunk {after} stopped = part-known s k fs ts stages old new down forest (ins-size stages) homes is.homes besides (length stages) root at-last now count inside lower
-          (λ i l h n. omega (arith, l, n)) done queue chunk after (subst (λ xss. IsPartStopped s k fs ts queue chunk xss homes (length stages) root now after) same-part stopped) refl
+      pub last-known : (bounded : Type 0) (chunk : ℕ) {after : List (Node (StageWork S K P Q))} → IsPartStopped s k fs ts bounded queue chunk part homes (length stages) root now after → SomeFault (as_works s k fs ts) after ⊎ SomeGathers stages
+      last-known bounded chunk {after} stopped = part-known s k fs ts stages old new down forest (ins-size stages) homes is.homes besides (length stages) root at-last now count inside lower
+          (λ i l h n. omega (arith, l, n)) done bounded queue chunk after (subst (λ xss. IsPartStopped s k fs ts bounded queue chunk xss homes (length stages) root now after) same-part stopped) refl
 
       -- or came to its end, where turns end at a fault
       pub last-sound : (stops : Type 0) (after : List (Node (StageWork S K P Q))) → length after ≡ length now → (stops → AreSoundOwn homes (length stages) root after) → stops → KeepPoints stages → NoneFaulty (as_works s k fs ts) after
@@ -179,9 +179,9 @@ module _ {S K P Q E : Type 0} (s : source.Ghosts S) (k : sink.Ghosts K) (fs : pl
           sound first j m (omega (arith, l)) (own-last s k fs ts stages tree old new homes is.homes besides keep j l) e
 
       -- and its readers have read no further than so
-      pub last-read : (chunk : ℕ) {after : List (Node (StageWork S K P Q))} → IsPartStopped s k fs ts queue chunk part homes (length stages) root now after → HaveReadAhead s fs ts stages queue chunk old after
-      last-read chunk {after} stopped cuts keep opened given plain front i f over = last-ahead s k fs ts stages tree old new homes is.homes besides now count done queue chunk after
-          (subst (λ xss. IsPartStopped s k fs ts queue chunk xss homes (length stages) root now after) same-part stopped) cuts keep opened (record { tell = λ j n r e w. given.told j (work_of n) r (map-at work_of old j n e) w; handed = given.handed }) plain front i f over
+      pub last-read : (bounded : Type 0) → bounded → (chunk : ℕ) {after : List (Node (StageWork S K P Q))} → IsPartStopped s k fs ts bounded queue chunk part homes (length stages) root now after → HaveReadAhead s fs ts stages queue chunk old after
+      last-read bounded near chunk {after} stopped cuts keep opened given plain front i f over = last-ahead s k fs ts stages tree old new homes is.homes besides now count done bounded near queue chunk after
+          (subst (λ xss. IsPartStopped s k fs ts bounded queue chunk xss homes (length stages) root now after) same-part stopped) cuts keep opened (record { tell = λ j n r e w. given.told j (work_of n) r (map-at work_of old j n e) w; handed = given.handed }) plain front i f over
 
       module _ {after : List (Node (StageWork S K P Q))} (run : IsPartRun s k fs ts besides part homes (length stages) root now after) where
         ran : IsPartRun s k fs ts besides (part_ins (gathers_of stages) (ins_of stages) homes (length stages) root) homes (length stages) root now after

@@ -92,8 +92,8 @@ module _ {S K P Q : Type 0} (s : source.Ghosts S) (k : sink.Ghosts K) (fs : plug
   abbrev PartBy : (List (Node (StageWork S K P Q)) → List (Node (StageWork S K P Q)) → Type 0) → ℕ → ℕ → List (Node (StageWork S K P Q)) → List (Node (StageWork S K P Q)) → Type 0
   PartBy became home root now after = IsPart s k fs ts became (part_ins (gathers_of stages) (ins_of stages) homes home root) homes home root now after
 
-  abbrev PartStopped : ℕ → ℕ → ℕ → ℕ → List (Node (StageWork S K P Q)) → List (Node (StageWork S K P Q)) → Type 0
-  PartStopped queue chunk home root now after = IsPartStopped s k fs ts queue chunk (part_ins (gathers_of stages) (ins_of stages) homes home root) homes home root now after
+  abbrev PartStopped : Type 0 → ℕ → ℕ → ℕ → ℕ → List (Node (StageWork S K P Q)) → List (Node (StageWork S K P Q)) → Type 0
+  PartStopped bounded queue chunk home root now after = IsPartStopped s k fs ts bounded queue chunk (part_ins (gathers_of stages) (ins_of stages) homes home root) homes home root now after
 
   abbrev Sound : ℕ → List (Node (StageWork S K P Q)) → Type 0
   Sound done now = NoneFailedBefore s k fs ts stages homes old done now
@@ -230,7 +230,7 @@ module _ {S K P Q : Type 0} (s : source.Ghosts S) (k : sink.Ghosts K) (fs : plug
             opened on gives part.ended turned part.enough (quiet-ended after part quiet) part.turned.0 m (sym (at-root after part) ∙ e) g
 
       -- where turns ended at a fault
-      module _ (queue chunk : ℕ) (part : PartStopped queue chunk home root now after) where
+      module _ (bounded : Type 0) (queue chunk : ℕ) (part : PartStopped bounded queue chunk home root now after) where
         stopped-turned-nodes : AreTurnedNodes s k fs ts part.net part.ended
         stopped-turned-nodes = stopped-turned s k fs ts (part_ins (gathers_of stages) (ins_of stages) homes home root) part.net part.ended part.turned.0
 

@@ -149,9 +149,9 @@ module _ {S K P Q : Type 0} (s : source.Ghosts S) (k : sink.Ghosts K) (fs : plug
       under i l h n = let a = above s k fs ts stages old new down forest (ins-size stages) homes are besides i l in omega (arith, a, h)
 
       -- its part ended at a fault
-      pub turn-stopped : (queue chunk : ℕ) {after : List (Node (StageWork S K P Q))} → IsPartStopped s k fs ts queue chunk (part w w) homes w w now after → AreStoppedStages s k fs ts stages old after
-      turn-stopped queue chunk {after} stopped = part-stopped s k fs ts stages old new down forest (ins-size stages) homes are besides w w at-w now count inside (λ j m. m) under done queue chunk after
-          (subst (λ xss. IsPartStopped s k fs ts queue chunk xss homes w w now after) (same-part w w) stopped)
+      pub turn-stopped : (bounded : Type 0) (queue chunk : ℕ) {after : List (Node (StageWork S K P Q))} → IsPartStopped s k fs ts bounded queue chunk (part w w) homes w w now after → AreStoppedStages s k fs ts stages old after
+      turn-stopped bounded queue chunk {after} stopped = part-stopped s k fs ts stages old new down forest (ins-size stages) homes are besides w w at-w now count inside (λ j m. m) under done bounded queue chunk after
+          (subst (λ xss. IsPartStopped s k fs ts bounded queue chunk xss homes w w now after) (same-part w w) stopped)
 
       module _ {after : List (Node (StageWork S K P Q))} (run : IsPartRun s k fs ts besides (part w w) homes w w now after) where
         ran : IsPartRun s k fs ts besides (part_ins (gathers_of stages) (ins_of stages) homes w w) homes w w now after

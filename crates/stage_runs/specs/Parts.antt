@@ -144,13 +144,13 @@ module _ {S K P Q : Type 0} (s : source.Ghosts S) (k : sink.Ghosts K) (fs : plug
   abbrev pub Ran : Besides S K P Q → List (List ℕ) → List (Node (StageWork S K P Q)) → List (Node (StageWork S K P Q)) → Type 0
   Ran besides part net ended = IsRanTree (as_works s k fs ts) part net ended × besides part net ended
 
-  -- or until one had a fault, over queues of this capacity
-  abbrev pub Stopped : ℕ → List (List ℕ) → List (Node (StageWork S K P Q)) → List (Node (StageWork S K P Q)) → Type 0
-  Stopped queue part net ended = IsStoppedTree (as_works s k fs ts) part net ended × SomeFault (as_works s k fs ts) ended × IsReadAhead (as_works s k fs ts) part queue net ended
+  -- or until one had a fault, over queues of this capacity. What was read then is bounded where the scheduler bounds it
+  abbrev pub Stopped : Type 0 → ℕ → List (List ℕ) → List (Node (StageWork S K P Q)) → List (Node (StageWork S K P Q)) → Type 0
+  Stopped bounded queue part net ended = IsStoppedTree (as_works s k fs ts) part net ended × SomeFault (as_works s k fs ts) ended × (bounded → IsReadAhead (as_works s k fs ts) part queue net ended)
 
   -- the same of a net whose root makes chunks of so many points
-  abbrev pub StoppedOver : ℕ → ℕ → List (List ℕ) → List (Node (StageWork S K P Q)) → List (Node (StageWork S K P Q)) → Type 0
-  StoppedOver queue chunk part net ended = IsStoppedTree (as_works s k fs ts) part net ended × SomeFault (as_works s k fs ts) ended × IsReadAhead (as_works s k fs ts) part queue net ended
+  abbrev pub StoppedOver : Type 0 → ℕ → ℕ → List (List ℕ) → List (Node (StageWork S K P Q)) → List (Node (StageWork S K P Q)) → Type 0
+  StoppedOver bounded queue chunk part net ended = IsStoppedTree (as_works s k fs ts) part net ended × SomeFault (as_works s k fs ts) ended × (bounded → IsReadAhead (as_works s k fs ts) part queue net ended)
       × ((n : Node (StageWork S K P Q)) → slice_get net (length net - 1) ≡ Some n → n.chunk ≡ chunk)
 
   -- this became of the nodes of a part, and memory was wanting at none; each is back at its place
@@ -169,8 +169,8 @@ module _ {S K P Q : Type 0} (s : source.Ghosts S) (k : sink.Ghosts K) (fs : plug
   abbrev pub IsPartRun : Besides S K P Q → List (List ℕ) → List ℕ → ℕ → ℕ → List (Node (StageWork S K P Q)) → List (Node (StageWork S K P Q)) → Type 0
   IsPartRun besides part = IsPart (Ran besides part) part
 
-  abbrev pub IsPartStopped : ℕ → ℕ → List (List ℕ) → List ℕ → ℕ → ℕ → List (Node (StageWork S K P Q)) → List (Node (StageWork S K P Q)) → Type 0
-  IsPartStopped queue chunk part = IsPart (StoppedOver queue chunk part) part
+  abbrev pub IsPartStopped : Type 0 → ℕ → ℕ → List (List ℕ) → List ℕ → ℕ → ℕ → List (Node (StageWork S K P Q)) → List (Node (StageWork S K P Q)) → Type 0
+  IsPartStopped bounded queue chunk part = IsPart (StoppedOver bounded queue chunk part) part
 
   -- this became of the node at a place, a leaf, alone
   pub record IsLeaf (became : List (Node (StageWork S K P Q)) → List (Node (StageWork S K P Q)) → Type 0) (at : ℕ) (nodes after : List (Node (StageWork S K P Q))) : Type 0 where
@@ -187,8 +187,8 @@ module _ {S K P Q : Type 0} (s : source.Ghosts S) (k : sink.Ghosts K) (fs : plug
   abbrev pub IsLeafRun : Besides S K P Q → ℕ → List (Node (StageWork S K P Q)) → List (Node (StageWork S K P Q)) → Type 0
   IsLeafRun besides = IsLeaf (Ran besides ([] ∷ []))
 
-  abbrev pub IsLeafStopped : ℕ → ℕ → List (Node (StageWork S K P Q)) → List (Node (StageWork S K P Q)) → Type 0
-  IsLeafStopped queue = IsLeaf (Stopped queue ([] ∷ []))
+  abbrev pub IsLeafStopped : Type 0 → ℕ → ℕ → List (Node (StageWork S K P Q)) → List (Node (StageWork S K P Q)) → Type 0
+  IsLeafStopped bounded queue = IsLeaf (Stopped bounded queue ([] ∷ []))
 
   -- the stage at a place made of the views that it took what it is to make, and gives that
   pub record IsGatheredAt (at : ℕ) (nodes after : List (Node (StageWork S K P Q))) : Type 0 where

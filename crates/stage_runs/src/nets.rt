@@ -159,7 +159,8 @@ pub(crate) fn run_net<
     ensures enough { OnOk result.ended (NoneShort result.nodes.items) }
     ensures short { result.ended ≡ Err Halt.Memory → RanShort nodes.items result.nodes.items }
     ensures stopped { result.ended ≡ Err Halt.Fault → (queue : ℕ) → T.fits (length nodes.items) queue edges
-        → Stopped S.Source K.Sink P.PlugFilter Q.PlugTally queue ins nodes.items result.nodes.items }
+        → Stopped S.Source K.Sink P.PlugFilter Q.PlugTally (T.bounded scheduler.now) queue ins nodes.items
+        result.nodes.items }
     ensures stops { result.ended ≡ Err Halt.Fault → T.stop scheduler.now ≡ First }
     ensures enough_then { result.ended ≡ Err Halt.Fault → NoneShort result.nodes.items }
     ensures sound { OnOk result.ended (CameToEnd (as_works S.Source K.Sink P.PlugFilter Q.PlugTally)
@@ -198,7 +199,8 @@ pub(crate) fn run_alone<
         ([] ∷ []) (node ∷ []) (result.node ∷ [])) }
     ensures enough { OnOk result.ended (is_short result.node.work ≡ false) }
     ensures stopped { result.ended ≡ Err Halt.Fault
-        → Stopped S.Source K.Sink P.PlugFilter Q.PlugTally queue ([] ∷ []) (node ∷ []) (result.node ∷ []) }
+        → Stopped S.Source K.Sink P.PlugFilter Q.PlugTally (T.bounded scheduler.now) queue
+        ([] ∷ []) (node ∷ []) (result.node ∷ []) }
     ensures stops { result.ended ≡ Err Halt.Fault → T.stop scheduler.now ≡ First }
     ensures enough_then { result.ended ≡ Err Halt.Fault → is_short result.node.work ≡ false }
 {

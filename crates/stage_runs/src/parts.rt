@@ -97,7 +97,7 @@ pub(crate) fn run_part<
         (part_of plan.now home root) plan.now.homes.items home root nodes.old nodes.new) }
     ensures short { result ≡ Err Halt.Memory → RanShort nodes.old nodes.new }
     ensures stopped { result ≡ Err Halt.Fault → IsPartStopped S.Source K.Sink P.PlugFilter Q.PlugTally
-        sizes.queue sizes.chunk (part_of plan.now home root) plan.now.homes.items home root nodes.old nodes.new }
+        (T.bounded scheduler.now) sizes.queue sizes.chunk (part_of plan.now home root) plan.now.homes.items home root nodes.old nodes.new }
     ensures stops { result ≡ Err Halt.Fault → T.stop scheduler.now ≡ First }
     ensures sound { OnOk result (T.stop scheduler.now ≡ First
         → AreSoundOwn plan.now.homes.items home root nodes.new) }
@@ -140,7 +140,8 @@ pub(crate) fn run_leaf<
     ensures run { OnOk result
         (IsLeafRun S.Source K.Sink P.PlugFilter Q.PlugTally (T.besides sizes.queue) at nodes.old nodes.new) }
     ensures stopped { result ≡ Err Halt.Fault
-        → IsLeafStopped S.Source K.Sink P.PlugFilter Q.PlugTally sizes.queue at nodes.old nodes.new }
+        → IsLeafStopped S.Source K.Sink P.PlugFilter Q.PlugTally (T.bounded scheduler.now) sizes.queue at
+        nodes.old nodes.new }
     ensures stops { result ≡ Err Halt.Fault → T.stop scheduler.now ≡ First }
 {
     let empty = stand_in(alloc, sizes.chunk);

@@ -1,4 +1,4 @@
-use Rattle.std.proofs.Common.{◌≡◌, Ok, ap, subst, sym, ◌∙◌}
+use Rattle.std.proofs.Common.{subst, sym}
 use Rattle.answer_model.specs.Naming.{AreNamed, first_naming_fault}
 use Rattle.plug_naming.specs.First.{IsFirstFault}
 use Rattle.plug_stages.specs.Handed.{handed_by}
@@ -6,7 +6,7 @@ use Rattle.stage_options.specs.TreeShown.{specs_view}
 use Rattle.lasline_top.specs.Answer.{runnable_in}
 use Rattle.lasline_top.specs.Cause.{Never}
 use Rattle.run_outcome.specs.Cause.{Because}
-use Rattle.lasline_top.proofs.Runnable.{is-runnable, misnamed, of-names}
+use Rattle.lasline_top.proofs.Runnable.{is-runnable, misnamed}
 use Rattle.lasline_top.proofs.naming.runnable_stages.Goals as goal
 
 pub returns-in-Ok-clause-ok : goal.returns-in-Ok-clause-ok

@@ -33,9 +33,9 @@ returns-in_err-report-clause-ahead g c =
     let refusal = c.in_err-report.field-0.0 in
     let refused : c.from_residual-in_err-report.result ≡ Err refusal = search rules in
     let first = subst (λ text. ReadAtMost (length text) (files.read_to c.args.files.now) (files.read_to c.read_text.new.files)) (sym c.deref.ensures.value) c.in_ok-text.ensures.no_further in
-    subst (λ r. IfErr r (λ r. (m : Names) → files.map c.args.files.now ≡ Some m → IsReadAhead (Ok (Run_file c.args.name.now engine)) m (files.read_to c.args.files.now) (files.read_to c.run_text.new.files) r)) (sym refused)
-    (λ m told. file-ahead c.args.name.now engine m c.deref.result.now (files.read_to c.args.files.now) (files.read_to c.read_text.new.files) (files.read_to c.run_text.new.files) refusal
-    (c.in_ok-text.ensures.ok m told ∙ ap (λ text. Ok text) (sym c.deref.ensures.value)) first (c.in_err-report.ensures.ahead m (c.in_ok-text.ensures.settled.map_same ∙ told)))
+    subst (λ r. IfErr r (λ r. g.T.Scheduler.bounded c.args.scheduler.now → (m : Names) → files.map c.args.files.now ≡ Some m → IsReadAhead (Ok (Run_file c.args.name.now engine)) m (files.read_to c.args.files.now) (files.read_to c.run_text.new.files) r)) (sym refused)
+    (λ bounded m told. file-ahead c.args.name.now engine m c.deref.result.now (files.read_to c.args.files.now) (files.read_to c.read_text.new.files) (files.read_to c.run_text.new.files) refusal
+    (c.in_ok-text.ensures.ok m told ∙ ap (λ text. Ok text) (sym c.deref.ensures.value)) first (c.in_err-report.ensures.ahead bounded m (c.in_ok-text.ensures.settled.map_same ∙ told)))
 
 pub returns-clause-remembered : goal.returns-clause-remembered
 returns-clause-remembered g c =
@@ -46,5 +46,5 @@ returns-clause-remembered g c =
     (λ m e. c.in_ok-report.ensures.remembered m (c.in_ok-text.ensures.settled.map_same ∙ e)))
 
 pub returns-clause-ahead : goal.returns-clause-ahead
-returns-clause-ahead g c = if-err c.print_report.result c.print_report.ensures.err (λ r is m told.
+returns-clause-ahead g c = if-err c.print_report.result c.print_report.ensures.err (λ r is bounded m told.
     file-refused c.args.name.now (engine_view (g.T.Scheduler.stop c.args.scheduler.now) c.args.engine) m _ _ r (λ i f e. cc))

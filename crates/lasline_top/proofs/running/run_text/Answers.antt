@@ -28,5 +28,5 @@ returns-clause-remembered g c =
 pub returns-clause-ahead : goal.returns-clause-ahead
 returns-clause-ahead g c =
     let files = g.F.Files in
-    text-ahead c.args.engine (g.T.Scheduler.stop c.args.scheduler.now) (files.map c.args.files.now) c.args.text.now c.as_slice.result.now (files.read_to c.args.files.now) (files.read_to c.run_pipeline.new.files) c.run_pipeline.result
+    text-ahead (g.T.Scheduler.bounded c.args.scheduler.now) c.args.engine (g.T.Scheduler.stop c.args.scheduler.now) (files.map c.args.files.now) c.args.text.now c.as_slice.result.now (files.read_to c.args.files.now) (files.read_to c.run_pipeline.new.files) c.run_pipeline.result
     (c.in_ok-tree.ensures.read ∙ ap (λ tree. Ok tree) (sym c.as_slice.ensures.stages)) c.run_pipeline.ensures.ahead

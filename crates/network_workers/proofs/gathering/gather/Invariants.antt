@@ -3,8 +3,8 @@ use Rattle.network_workers.specs.Gathered.{AreTakenBack}
 use Rattle.network_workers.proofs.gathering.gather.Given as goal
 
 abbrev pub invariant-loop-place : goal.invariant-loop-place
-invariant-loop-place g l = AreTakenBack g.W.Work g.start l.ins l.place l.deals.items l.nodes.items l.outs.items × (0 < length l.deals.items)
-    × (length g.start.nodes ≤ vec_capacity l.nodes) × (length g.start.nodes ≤ vec_capacity l.outs)
+invariant-loop-place g l = AreTakenBack g.W.Work g.turned.stop g.turned.start l.ins l.place l.deals.items l.nodes.items l.outs.items × (0 < length l.deals.items)
+    × (length g.turned.start.nodes ≤ vec_capacity l.nodes) × (length g.turned.start.nodes ≤ vec_capacity l.outs)
 
 abbrev pub ghost-take_back : goal.ghost-take_back
-ghost-take_back g a = g.start
+ghost-take_back g a = g.turned

@@ -49,7 +49,7 @@ returns-in-Whole-clause-ended g c = λ chosen waits.
 pub returns-in-Turns-clause-ahead : goal.returns-in-Turns-clause-ahead
 returns-in-Turns-clause-ahead g c = λ shape waits.
     let waits-so = subst (IsWaiting g.S.Source g.K.Sink g.P.PlugFilter g.Q.PlugTally g.T.Scheduler.fits (Queues shape) c.args.stages.now) c.in-Turns.is waits in
-    subst (λ x. IfOk c.turn_works.result.outcome (λ ended. g.T.Scheduler.stop c.args.scheduler.now ≡ First
+    subst (λ x. IfOk c.turn_works.result.outcome (λ ended. g.T.Scheduler.bounded c.args.scheduler.now → g.T.Scheduler.stop c.args.scheduler.now ≡ First
     → AreReadAhead g.S.Source g.P.PlugFilter g.Q.PlugTally c.args.stages.now x.queue x.chunk c.args.works.items c.turn_works.result.works.items ended.faults.items)) waits-so.cut c.turn_works.ensures.ahead
 
 pub returns-in-Whole-clause-ahead : goal.returns-in-Whole-clause-ahead

@@ -74,7 +74,7 @@ returns-clause-lent g c = c.close.ensures.lent (g.F.Files.lent c.args.files.now)
     (c.in_ok-job.ensures.lent_ok ∙ ap (λ n. g.F.Files.lent c.args.files.now + n) (sym c.run-enough.ensures.held))
 
 pub returns-clause-ahead : goal.returns-clause-ahead
-returns-clause-ahead g c = λ shape m i f is first told refused.
+returns-clause-ahead g c = λ bounded shape m i f is first told refused.
     let files = g.F.Files in
     let s = g.F.In.Source in
     let k = g.F.Out.Sink in
@@ -89,7 +89,7 @@ returns-clause-ahead g c = λ shape m i f is first told refused.
     let works = subst (λ map. AreReady s k fs ts handed map stages c.in_ok-job.job.works.items) told ready.works in
     let read = subst (λ o. IsAsTold (files.read_to c.close.new.files) (option_map (λ n. n + sum_by (reached_of s.reached) c.run-enough.new.self.works.items) o)) c.in_ok-job.ensures.read
     (c.close.ensures.read (Data i (Point f)) came) in
-    let ahead = subst (λ e. HaveReadBy s k fs ts e stages c.in_ok-job.job.works.items c.run-enough.new.self.works.items c.run-enough.new.self.step) is (c.run-enough.ensures.ahead first c.args.engine ready.waits) in
+    let ahead = subst (λ e. HaveReadBy s k fs ts e stages c.in_ok-job.job.works.items c.run-enough.new.self.works.items c.run-enough.new.self.step) is (c.run-enough.ensures.ahead bounded first c.args.engine ready.waits) in
     read-no-more g.row.T-Edges.Denot s k fs ts handed m stages shape c.in_ok-job.job.works.items c.run-enough.new.self.works.items works stop ran.before c.run-enough.new.self.step i f ran.came ahead came
     (files.read_to c.args.files.now) (files.read_to c.close.new.files) read
 

@@ -161,15 +161,15 @@ returns-clause-ahead g c =
     elim c.match-ran.branch [
       | in-Ok w ↦ (
           let report = w.ended.result in
-          ok-same _ c.match-ran.outcome (Ok report) w.outcome-is (λ first.
+          ok-same _ c.match-ran.outcome (Ok report) w.outcome-is (λ bounded first.
           none-ahead s k fs ts stages queue chunk new works c.works_in-works.result.items report.faults.items (w.in-Ok.ensures.sound first)
           (subst (λ (ns : List (Node _)). AreFaultsOf ns report.faults.items) (w.deref.ensures.value ∙ back) w.ended.ensures.faults)))
       | in-Err w ↦ (
           let result = w.halted-outcome.result in
           let ensures = w.halted-outcome.ensures in
           ok-same _ c.match-ran.outcome result w.outcome-is
-          (three-if-ok result _ _ _ _ ensures.fault ensures.faults ensures.faulty (λ report fault faults faulty first.
-          let ahead = subst (λ xs. HaveReadAhead s fs ts stages c.args.room.stages.sizes.queue c.args.room.stages.sizes.chunk xs new) c.as_mut_slice.ensures.value (w.in-Err.ensures.ahead (ap Err fault)) in
+          (three-if-ok result _ _ _ _ ensures.fault ensures.faults ensures.faulty (λ report fault faults faulty bounded first.
+          let ahead = subst (λ xs. HaveReadAhead s fs ts stages c.args.room.stages.sizes.queue c.args.room.stages.sizes.chunk xs new) c.as_mut_slice.ensures.value (w.in-Err.ensures.ahead bounded (ap Err fault)) in
           let shaped = subst (λ q. HaveReadAhead s fs ts stages q chunk old new) room.queue (subst (λ n. HaveReadAhead s fs ts stages c.args.room.stages.sizes.queue n old new) room.chunk ahead) in
           subst (λ ws. AreReadAhead s fs ts stages queue chunk works ws report.faults.items) (sym is-works)
           (some-ahead s k fs ts stages queue chunk old new works report.faults.items shaped (λ j n e. made.chunk j n e ∙ c.chunk.ensures.value) made.works

@@ -62,9 +62,9 @@ returns-clause-stopped g c = λ halted.
     let ins : c.new-2.result ≡ [] ∷ [] = c.new-2.ensures ∙ ap (map (λ v. v.items)) (c.push_reserved.ensures.items ∙ ap (λ xs. xs ++ c.new.result ∷ []) c.in-Ok.ensures.items) ∙ ap (λ xs. xs ∷ []) c.new.ensures.items in
     let size = ap (λ (ns : List (Node _)). length ns) one in
     let back : c.run_net-nodes.result.nodes.items ≡ c.in-Some.node ∷ [] = only-one c.pop.new.self.items c.run_net-nodes.result.nodes.items c.in-Some.node c.in-Some.ensures.items (c.run_net-nodes.ensures.later.count ∙ size) in
-    subst (λ (ns : List (Node _)). Stopped g.S.Source g.K.Sink g.P.PlugFilter g.Q.PlugTally c.args.queue ([] ∷ []) (c.args.node ∷ []) ns) back
-    (subst (λ (ns : List (Node _)). Stopped g.S.Source g.K.Sink g.P.PlugFilter g.Q.PlugTally c.args.queue ([] ∷ []) ns c.run_net-nodes.result.nodes.items) one
-    (subst (λ xss. Stopped g.S.Source g.K.Sink g.P.PlugFilter g.Q.PlugTally c.args.queue xss c.push_reserved-2.new.self.items c.run_net-nodes.result.nodes.items) ins
+    subst (λ (ns : List (Node _)). Stopped g.S.Source g.K.Sink g.P.PlugFilter g.Q.PlugTally (g.T.Scheduler.bounded c.args.scheduler.now) c.args.queue ([] ∷ []) (c.args.node ∷ []) ns) back
+    (subst (λ (ns : List (Node _)). Stopped g.S.Source g.K.Sink g.P.PlugFilter g.Q.PlugTally (g.T.Scheduler.bounded c.args.scheduler.now) c.args.queue ([] ∷ []) ns c.run_net-nodes.result.nodes.items) one
+    (subst (λ xss. Stopped g.S.Source g.K.Sink g.P.PlugFilter g.Q.PlugTally (g.T.Scheduler.bounded c.args.scheduler.now) c.args.queue xss c.push_reserved-2.new.self.items c.run_net-nodes.result.nodes.items) ins
     (c.run_net-nodes.ensures.stopped halted c.args.queue (subst (λ n. g.T.Scheduler.fits n c.args.queue c.in-Ok-edges.edges) (sym size) c.in-Ok-edges.ensures))))
 
 pub returns-clause-enough_then : goal.returns-clause-enough_then

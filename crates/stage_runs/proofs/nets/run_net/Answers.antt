@@ -50,9 +50,9 @@ returns-clause-stopped g c = λ halted queue fits. (
   subst (λ (ns : List (Node _)). IsStoppedTree (as_works g.S.Source g.K.Sink g.P.PlugFilter g.Q.PlugTally) c.args.ins c.args.nodes.items ns) (sym c.into_vec-nodes.ensures)
       (subst (λ (ns : List (Node _)). IsStoppedTree (as_works g.S.Source g.K.Sink g.P.PlugFilter g.Q.PlugTally) c.args.ins ns c.run.result) c.new.ensures (c.run.ensures.stopped (c.how_ended-ended.ensures.stops halted))),
   subst (λ (ns : List (Node _)). SomeFault (as_works g.S.Source g.K.Sink g.P.PlugFilter g.Q.PlugTally) ns) c.deref.ensures.value (c.how_ended-ended.ensures.fault halted),
-  subst (λ (ns : List (Node _)). IsReadAhead (as_works g.S.Source g.K.Sink g.P.PlugFilter g.Q.PlugTally) c.args.ins queue c.args.nodes.items ns) (sym c.into_vec-nodes.ensures)
+  λ bounded. subst (λ (ns : List (Node _)). IsReadAhead (as_works g.S.Source g.K.Sink g.P.PlugFilter g.Q.PlugTally) c.args.ins queue c.args.nodes.items ns) (sym c.into_vec-nodes.ensures)
       (subst (λ (ns : List (Node _)). IsReadAhead (as_works g.S.Source g.K.Sink g.P.PlugFilter g.Q.PlugTally) c.args.ins queue ns c.run.result) c.new.ensures
-      (c.run.ensures.ahead (c.how_ended-ended.ensures.stops halted) queue (subst (λ (ns : List (Node _)). g.T.Scheduler.fits (length ns) queue c.args.edges) (sym c.new.ensures) fits))),
+      (c.run.ensures.ahead bounded (c.how_ended-ended.ensures.stops halted) queue (subst (λ (ns : List (Node _)). g.T.Scheduler.fits (length ns) queue c.args.edges) (sym c.new.ensures) fits))),
 )
 
 pub returns-clause-sound : goal.returns-clause-sound

@@ -46,7 +46,7 @@ returns-clause-stopped g c = λ halted.
     let nodes = c.args.nodes.now in
     let n = c.index-nodes-at.result in
     let now = c.run_alone-node.result.node in
-    let became = Stopped g.S.Source g.K.Sink g.P.PlugFilter g.Q.PlugTally c.args.sizes.queue ([] ∷ []) in
+    let became = Stopped g.S.Source g.K.Sink g.P.PlugFilter g.Q.PlugTally (g.T.Scheduler.bounded c.args.scheduler.now) c.args.sizes.queue ([] ∷ []) in
     subst (λ x. IsLeaf g.S.Source g.K.Sink g.P.PlugFilter g.Q.PlugTally became c.args.at nodes (slice_set (slice_set nodes c.args.at x) c.args.at c.replace.new.dest)) (sym c.replace-node.ensures.after)
     (subst (λ x. IsLeaf g.S.Source g.K.Sink g.P.PlugFilter g.Q.PlugTally became c.args.at nodes (slice_set (slice_set nodes c.args.at c.stand_in-empty.result) c.args.at x)) (sym c.replace.ensures.after)
     (lent-became g.S.Source g.K.Sink g.P.PlugFilter g.Q.PlugTally nodes c.args.at c.requires.inside n c.index-nodes-at.is c.stand_in-empty.result c.stand_in-empty.ensures.leaf now became

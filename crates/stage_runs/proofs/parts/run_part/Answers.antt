@@ -101,7 +101,7 @@ returns-clause-stopped g c = λ halted.
     let edges = net-edges g.S.Source g.K.Sink g.P.PlugFilter g.Q.PlugTally g.T.Scheduler.fits c.args.plan.now c.args.room c.args.home c.args.root c.args.sizes.queue c.args.nodes.now c.requires.room c.requires.root c.requires.fresh c.as_slice-homes.ensures.value c.lend.ensures c.children.ensures c.renew_root.ensures.renewed in
     let stopped = c.run_net-net.ensures.stopped halted c.args.sizes.queue edges in
     part-became g.S.Source g.K.Sink g.P.PlugFilter g.Q.PlugTally g.T.Scheduler.fits c.args.plan.now c.args.room c.args.home c.args.root c.args.sizes.queue c.args.nodes.now c.requires.room c.requires.root c.requires.fresh c.as_slice-homes.ensures.value c.lend.ensures c.children.ensures c.renew_root.ensures.renewed c.run_net-net.ensures.later c.lend-2.ensures
-    (λ xss. StoppedOver g.S.Source g.K.Sink g.P.PlugFilter g.Q.PlugTally c.args.sizes.queue c.args.sizes.chunk xss) (stopped.0, stopped.1, stopped.2, λ n e. c.renew_root.ensures.cut n (ap (λ m. slice_get c.renew_root.new.net.items (m - 1)) (sym c.renew_root.ensures.renewed.count) ∙ e)) (c.run_net-net.ensures.enough_then halted)
+    (λ xss. StoppedOver g.S.Source g.K.Sink g.P.PlugFilter g.Q.PlugTally (g.T.Scheduler.bounded c.args.scheduler.now) c.args.sizes.queue c.args.sizes.chunk xss) (stopped.0, stopped.1, stopped.2, λ n e. c.renew_root.ensures.cut n (ap (λ m. slice_get c.renew_root.new.net.items (m - 1)) (sym c.renew_root.ensures.renewed.count) ∙ e)) (c.run_net-net.ensures.enough_then halted)
 
 pub returns-clause-sound : goal.returns-clause-sound
 returns-clause-sound g c = on-ok c.run_net-net.result.ended _ _

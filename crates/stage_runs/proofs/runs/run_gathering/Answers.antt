@@ -117,7 +117,7 @@ pub returns-in_err-run_part-clause-gathers : goal.returns-in_err-run_part-clause
 returns-in_err-run_part-clause-gathers g c = λ halted. gathers-one g.S.Source g.K.Sink g.P.PlugFilter g.Q.PlugTally c.args.stages.now c.requires.tree c.requires.new c.args.plan.now c.requires.gathers c.requires.ins c.requires.homes (g.T.Scheduler.besides c.args.sizes.queue) c.loop-at.at c.loop-at.invariant.later c.loop-at.invariant.done c.loop-at-test.true c.index.ensures c.if-index.true
 
 pub returns-in_err-run_part-clause-stopped : goal.returns-in_err-run_part-clause-stopped
-returns-in_err-run_part-clause-stopped g c = λ halted. turn-stopped g.S.Source g.K.Sink g.P.PlugFilter g.Q.PlugTally c.args.stages.now c.requires.tree c.requires.new c.args.plan.now c.requires.gathers c.requires.ins c.requires.homes (g.T.Scheduler.besides c.args.sizes.queue) c.loop-at.at c.loop-at.invariant.later c.loop-at.invariant.done c.loop-at-test.true c.index.ensures c.if-index.true c.args.sizes.queue c.args.sizes.chunk (c.run_part.ensures.stopped (
+returns-in_err-run_part-clause-stopped g c = λ halted. turn-stopped g.S.Source g.K.Sink g.P.PlugFilter g.Q.PlugTally c.args.stages.now c.requires.tree c.requires.new c.args.plan.now c.requires.gathers c.requires.ins c.requires.homes (g.T.Scheduler.besides c.args.sizes.queue) c.loop-at.at c.loop-at.invariant.later c.loop-at.invariant.done c.loop-at-test.true c.index.ensures c.if-index.true (g.T.Scheduler.bounded c.args.scheduler.now) c.args.sizes.queue c.args.sizes.chunk (c.run_part.ensures.stopped (
     let p = err_from_is_err_and c.from_residual-in_err-run_part.result c.from_residual-in_err-run_part.ensures.1 in
     c.in_err-run_part.was ∙ ap Err (sym p.2) ∙ sym p.1 ∙ halted))
 

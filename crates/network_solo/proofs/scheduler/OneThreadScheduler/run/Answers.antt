@@ -8,5 +8,5 @@ returns-clause-besides g c = λ came capacity fits.
     subst (λ (k : ℕ). IsRanOver g.W.Work c.args.ins k c.args.nodes c.run_tree.result) fits.1 (c.run_tree.ensures.over came)
 
 pub returns-clause-ahead : goal.returns-clause-ahead
-returns-clause-ahead g c = λ first capacity fits.
+returns-clause-ahead g c = λ bounded first capacity fits.
     subst (λ (k : ℕ). IsReadAhead g.W.Work c.args.ins k c.args.nodes c.run_tree.result) fits.1 (c.run_tree.ensures.ahead first)

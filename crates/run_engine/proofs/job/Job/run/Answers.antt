@@ -104,11 +104,11 @@ returns-clause-held g c =
     ∙ ap (λ works. all_held works.items) c.replace-works.ensures.value
 
 pub returns-in_err-ended-clause-ahead : goal.returns-in_err-ended-clause-ahead
-returns-in_err-ended-clause-ahead g c = λ first engine waits. subst (HaveReadBy g.S.Source g.K.Sink g.P.PlugFilter g.Q.PlugTally engine c.args.stages.now c.args.self.now.works.items c.replace-blank.new.dest.items) (sym c.replace-step.ensures.after)
+returns-in_err-ended-clause-ahead g c = λ bounded first engine waits. subst (HaveReadBy g.S.Source g.K.Sink g.P.PlugFilter g.Q.PlugTally engine c.args.stages.now c.args.self.now.works.items c.replace-blank.new.dest.items) (sym c.replace-step.ensures.after)
     (read-short g.row.E.Denot g.S.Source g.K.Sink g.P.PlugFilter g.Q.PlugTally c.args.stages.now c.args.self.now.works.items c.replace-blank.new.dest.items engine)
 
 pub returns-clause-ahead : goal.returns-clause-ahead
-returns-clause-ahead g c = λ first engine waits.
+returns-clause-ahead g c = λ bounded first engine waits.
     let s = g.S.Source in
     let k = g.K.Sink in
     let fs = g.P.PlugFilter in
@@ -119,9 +119,9 @@ returns-clause-ahead g c = λ first engine waits.
     let new = c.evaluate-works.result.works.items in
     let waits-so = subst (IsWaiting s k fs ts g.T.Scheduler.fits engine stages) (sym c.replace-step.ensures.value) waits in
     let ahead : (shape : Shape) → engine ≡ Queues shape → AreReadAhead s fs ts stages shape.queue shape.chunk old new done.faults.items = λ shape is.
-    ok-of (λ e. g.T.Scheduler.stop c.args.scheduler.now ≡ First → AreReadAhead s fs ts stages shape.queue shape.chunk old new e.faults.items) c.evaluate-works.result.outcome done (search rules)
-    (subst (λ works. IfOk c.evaluate-works.result.outcome (λ e. g.T.Scheduler.stop c.args.scheduler.now ≡ First → AreReadAhead s fs ts stages shape.queue shape.chunk works.items new e.faults.items)) c.replace-works.ensures.value
-    (c.evaluate-works.ensures.ahead shape (subst (λ x. IsWaiting s k fs ts g.T.Scheduler.fits x stages c.replace-step.result) is waits-so))) first in
+    ok-of (λ e. g.T.Scheduler.bounded c.args.scheduler.now → g.T.Scheduler.stop c.args.scheduler.now ≡ First → AreReadAhead s fs ts stages shape.queue shape.chunk old new e.faults.items) c.evaluate-works.result.outcome done (search rules)
+    (subst (λ works. IfOk c.evaluate-works.result.outcome (λ e. g.T.Scheduler.bounded c.args.scheduler.now → g.T.Scheduler.stop c.args.scheduler.now ≡ First → AreReadAhead s fs ts stages shape.queue shape.chunk works.items new e.faults.items)) c.replace-works.ensures.value
+    (c.evaluate-works.ensures.ahead shape (subst (λ x. IsWaiting s k fs ts g.T.Scheduler.fits x stages c.replace-step.result) is waits-so))) bounded first in
     subst (λ works. HaveReadBy s k fs ts engine stages old works.items c.replace.new.dest) (sym c.replace-blank.ensures.after)
     (subst (HaveReadBy s k fs ts engine stages old new) (sym c.replace.ensures.after) (read-done g.row.E.Denot s k fs ts stages old new engine done ahead))
 
