@@ -117,7 +117,7 @@ fn is_made(alloc: Global, count: u32, size: usize, pieces: &[Piece]) -> Option<b
 
 #[test]
 fn files_have_their_header_and_records(rt: HostRuntime) {
-    for (count, size, pieces) in FILES {
+    for &(count, size, pieces) in &FILES {
         let is_made = is_made(rt.alloc(), count, size, pieces);
         assert!(rt; is_made == Some(true));
     }
@@ -146,7 +146,7 @@ fn refused(alloc: Global, call: (u64, u64)) -> Option<(Op, bool)> {
 
 #[test]
 fn a_failed_call_keeps_no_file(rt: HostRuntime) {
-    for (call, op) in REFUSALS {
+    for &(call, op) in &REFUSALS {
         let came = refused(rt.alloc(), call);
         assert!(rt; came == Some((op, true)));
     }

@@ -1,7 +1,6 @@
 //! Texts of limits, each with the place of its fault where it has one.
 
 use limits_text::{TextErr, TextFault, parse_bounds, parse_point, parse_polygon, parse_ranges};
-use std::test::Fail;
 
 /// Texts of ranges.
 const RANGES: [(&str, Option<usize>); 40] = [
@@ -196,33 +195,29 @@ fn error_at(at: usize) -> TextErr {
 }
 
 #[test]
-fn ranges_are_read(rt: HostRuntime) -> Result<(), Fail> {
-    for (text, fault) in RANGES {
+fn ranges_are_read(rt: HostRuntime) {
+    for &(text, fault) in &RANGES {
         assert!(rt; parse_ranges(rt.alloc(), text).err() == fault.map(error_at));
     }
-    Ok(())
 }
 
 #[test]
-fn boxes_are_read(rt: HostRuntime) -> Result<(), Fail> {
-    for (text, fault) in BOXES {
+fn boxes_are_read(rt: HostRuntime) {
+    for &(text, fault) in &BOXES {
         assert!(rt; parse_bounds(text).err() == fault.map(fault_at));
     }
-    Ok(())
 }
 
 #[test]
-fn polygons_are_read(rt: HostRuntime) -> Result<(), Fail> {
-    for (text, fault) in POLYGONS {
+fn polygons_are_read(rt: HostRuntime) {
+    for &(text, fault) in &POLYGONS {
         assert!(rt; parse_polygon(rt.alloc(), text).err() == fault.map(error_at));
     }
-    Ok(())
 }
 
 #[test]
-fn points_are_read(rt: HostRuntime) -> Result<(), Fail> {
-    for (text, fault) in POINTS {
+fn points_are_read(rt: HostRuntime) {
+    for &(text, fault) in &POINTS {
         assert!(rt; parse_point(text).err() == fault.map(fault_at));
     }
-    Ok(())
 }

@@ -3,6 +3,7 @@
 mod blocks;
 mod fields;
 
+use crate::pieces::put_bytes;
 use blocks::BLOCKS;
 use fields::*;
 use las_header::{
@@ -13,11 +14,7 @@ use std::test::Fail;
 
 /// Puts a number into its field.
 fn put(bytes: &mut [u8; 375], field: Field, number: u64) {
-    for (i, byte) in number.to_le_bytes().iter().enumerate() {
-        if i < field.bytes && field.at < 375 && i < 375 - field.at {
-            bytes[field.at + i] = *byte;
-        }
-    }
+    let _ = put_bytes(bytes, field.at, &number.to_le_bytes()[..field.bytes.min(8)]);
 }
 
 /// The header block of a file of format 0 without points, and no more.

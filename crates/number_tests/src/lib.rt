@@ -9,6 +9,8 @@ mod headers;
 #[cfg(test)]
 mod lists;
 #[cfg(test)]
+mod pieces;
+#[cfg(test)]
 mod readers;
 #[cfg(test)]
 mod records;

@@ -3,6 +3,7 @@
 ghost use Rattle.std.specs.Prelude.{◌+◌, ◌≤◌, All, IfOk};
 ghost use Rattle.cloud_points.specs.ExtraFields.{kind_size};
 
+use crate::pieces::put_bytes;
 use cloud_points::{Dim, ExtraField, ExtraKind, FieldList, Make, PointFault, Spread, StageFault};
 use decimal_coords::Scale;
 use file_devices::{MemIn, Name};
@@ -18,11 +19,12 @@ use std::test::Fail;
 /// The file with bytes of its own in some places.
 fn patched(alloc: Global, file: &[u8], patches: &[(usize, &[u8])]) -> Result<Vec<u8>, Fail> {
     let mut bytes = Vec::from_slice(alloc, file)?;
+    let mut has_room = true;
     for (place, piece) in patches {
-        for (k, byte) in piece.iter().enumerate() {
-            let cell = bytes.get_mut(place.wrapping_add(k)).ok_or("past the end")?;
-            *cell = *byte;
-        }
+        has_room &= put_bytes(bytes.as_mut_slice(), *place, piece);
+    }
+    if !has_room {
+        return Err(Fail::from("past the end"));
     }
     Ok(bytes)
 }
@@ -33,28 +35,29 @@ fn source(alloc: Global, bytes: &[u8]) -> Result<MemIn, AllocError> {
     Ok(MemIn::new(content, 7, Vec::new(alloc)))
 }
 
+/// The X of the only point of a file's first chunk of one.
+fn first_x(alloc: Global, las: &[u8]) -> Option<i64> {
+    let Ok(mut reader) = LasReader::begin(alloc, source(alloc, las).ok()?) else {
+        return None;
+    };
+    let mut points = Spread::new();
+    let made = reader.next(1, &mut points);
+    drop(reader.release());
+    match points.as_slice() {
+        [point] if made == Make::Points => Some(point.x),
+        _ => None,
+    }
+}
+
 #[test]
 fn an_offset_may_be_a_third(rt: HostRuntime) -> Result<(), Fail> {
-    let alloc = rt.alloc();
     let patches: [(usize, &[u8]); 3] = [
         (131, &0x3FF0_0000_0000_0000u64.to_le_bytes()),
         (155, &0x3FD5_5555_5555_5555u64.to_le_bytes()),
         (375, &1i32.to_le_bytes()),
     ];
-    let las = patched(alloc, &two_points(), &patches)?;
-    let Ok(mut reader) = LasReader::begin(alloc, source(alloc, &las)?) else {
-        return Err(Fail::from("refused"));
-    };
-    let mut points = Spread::new();
-    let made = reader.next(1, &mut points);
-    drop(reader.release());
-    assert!(rt; made == Make::Points);
-    let mut found = 0u32;
-    for point in &points {
-        assert!(rt; point.x == 1_333_333_333);
-        found = found.wrapping_add(1);
-    }
-    assert!(rt; found == 1);
+    let las = patched(rt.alloc(), &two_points(), &patches)?;
+    assert!(rt; first_x(rt.alloc(), &las) == Some(1_333_333_333));
     steps_give_file();
     steps_come_to_the_end();
     cut_is_the_first();
@@ -66,25 +69,27 @@ fn an_offset_may_be_a_third(rt: HostRuntime) -> Result<(), Fail> {
 /// A file of two points with one VLR and one EVLR.
 fn with_lists(alloc: Global) -> Result<Vec<u8>, Fail> {
     let whole = two_points();
-    let counts: [(usize, &[u8]); 4] = [(96, &[0xB0]), (100, &[1]), (235, &[0xD8, 1]), (243, &[1])];
-    let mut las = patched(alloc, &whole, &counts)?;
-    las.truncate(375);
-    let head = patched(
-        alloc,
-        &[0; 54],
-        &[(2, b"lasline"), (18, &[7]), (20, &[3]), (22, b"plain")],
-    )?;
-    las.extend_from_slice(&head)?;
-    las.extend_from_slice(b"abc")?;
-    las.extend_from_slice(whole.get(375..).ok_or("no records")?)?;
-    let head = patched(
-        alloc,
-        &[0; 60],
-        &[(2, b"lasline"), (18, &[8]), (20, &[2]), (28, b"extended")],
-    )?;
-    las.extend_from_slice(&head)?;
-    las.extend_from_slice(b"de")?;
-    Ok(las)
+    let pieces: [(usize, &[u8]); 16] = [
+        (0, &whole[..375]),
+        (96, &[0xB0]),
+        (100, &[1]),
+        (235, &[0xD8, 1]),
+        (243, &[1]),
+        // the VLR
+        (377, b"lasline"),
+        (393, &[7]),
+        (395, &[3]),
+        (397, b"plain"),
+        (429, b"abc"),
+        (432, &whole[375..]),
+        // the EVLR
+        (474, b"lasline"),
+        (490, &[8]),
+        (492, &[2]),
+        (500, b"extended"),
+        (532, b"de"),
+    ];
+    patched(alloc, &[0; 534], &pieces)
 }
 
 /// The only record of a list, as its id, the beginning of its description and its payload.

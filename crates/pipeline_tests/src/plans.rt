@@ -64,15 +64,31 @@ const FILES: &[(&str, u64, &str)] = &[
     ("#/#", 12, "12/12"),
 ];
 
+/// Whether each pipeline has its plan.
+fn all_planned(alloc: Global, rows: &[(&str, &str)]) -> Result<bool, AllocError> {
+    for (text, steps) in rows {
+        if shown_plan(alloc, text)?.as_str() != *steps {
+            return Ok(false);
+        }
+    }
+    Ok(true)
+}
+
+/// Whether the file of each view has its name.
+fn all_named(alloc: Global, rows: &[(&str, u64, &str)]) -> Result<bool, AllocError> {
+    for &(name, number, file) in rows {
+        if numbered(alloc, name, number)?.as_str() != file {
+            return Ok(false);
+        }
+    }
+    Ok(true)
+}
+
 #[test]
 fn plans_and_names_are_made(rt: HostRuntime) -> Result<(), Fail> {
     let alloc = rt.alloc();
-    for (text, steps) in PLANS {
-        assert!(rt; shown_plan(alloc, text)?.as_str() == *steps, "{text}");
-    }
-    for (name, number, file) in FILES {
-        assert!(rt; numbered(alloc, name, *number)?.as_str() == *file, "{name}");
-    }
+    assert!(rt; all_planned(alloc, PLANS)?);
+    assert!(rt; all_named(alloc, FILES)?);
     assert!(rt; is_numbered("o_#.las") && !is_numbered("o.las"));
     Ok(())
 }

@@ -239,23 +239,34 @@ const FIRST: &[(&str, &str)] = &[
     ),
 ];
 
+/// Whether each text is read as this.
+fn all_read(alloc: Global, rows: &[(&str, &str)]) -> Result<bool, AllocError> {
+    for (text, wanted) in rows {
+        if !reads(alloc, text, wanted)? {
+            return Ok(false);
+        }
+    }
+    Ok(true)
+}
+
+/// Whether each text of stages behind a reader is read as this.
+fn all_read_behind(alloc: Global, rows: &[(&str, &str)]) -> Result<bool, AllocError> {
+    for (stages, wanted) in rows {
+        if !reads_behind(alloc, stages, wanted)? {
+            return Ok(false);
+        }
+    }
+    Ok(true)
+}
+
 #[test]
 fn texts_are_read(rt: HostRuntime) -> Result<(), Fail> {
     let alloc = rt.alloc();
-    for (text, wanted) in TREES {
-        assert!(rt; reads(alloc, text, wanted)?, "{text}");
+    for rows in [TREES, WHOLES, STAGES] {
+        assert!(rt; all_read(alloc, rows)?);
     }
-    for (text, wanted) in WHOLES {
-        assert!(rt; reads(alloc, text, wanted)?, "{text}");
-    }
-    for (text, wanted) in STAGES {
-        assert!(rt; reads(alloc, text, wanted)?, "{text}");
-    }
-    for (stages, wanted) in FIRST {
-        assert!(rt; reads_behind(alloc, stages, wanted)?, "{stages}");
-    }
-    let found = shown(alloc, b"[\"\xff.las\"]")?;
-    assert!(rt; found.as_str() == "NotJson 0", "{found}");
+    assert!(rt; all_read_behind(alloc, FIRST)?);
+    assert!(rt; shown(alloc, b"[\"\xff.las\"]")?.as_str() == "NotJson 0");
     Ok(())
 }
 
@@ -275,8 +286,17 @@ fn repeated(
     Ok(text)
 }
 
-/// Texts by a start, a part that is repeated, how often, and an end; and how what they are read as ends.
-const LIMITS: &[(&str, &str, usize, &str, &str)] = &[
+/// A text by a start, a part that is repeated, how often, and an end; and how what it is read as ends.
+type Limit = (
+    &'static str,
+    &'static str,
+    usize,
+    &'static str,
+    &'static str,
+);
+
+/// Texts at the limits, and past them.
+const LIMITS: &[Limit] = &[
     (r#"["a.las"]"#, " ", 1_048_567, "", "readers.las( )"),
     ("", "[", 1_048_577, "", "TextTooLong 0"),
     (
@@ -314,18 +334,30 @@ fn ends(alloc: Global, text: &str, wanted: &str) -> Result<bool, AllocError> {
     Ok(shown(alloc, text.as_bytes())?.as_str().ends_with(wanted))
 }
 
+/// Whether what each text of such parts is read as ends so.
+fn all_end(alloc: Global, rows: &[Limit]) -> Result<bool, AllocError> {
+    for &(start, part, count, end, wanted) in rows {
+        let text = repeated(alloc, start, part, count, end)?;
+        if !ends(alloc, text.as_str(), wanted)? {
+            return Ok(false);
+        }
+    }
+    Ok(true)
+}
+
+/// Whether a text of so many nested lists is read as this.
+fn nests(alloc: Global, depth: usize, wanted: &str) -> Result<bool, AllocError> {
+    let opened = repeated(alloc, "", "[", depth, "")?;
+    let text = repeated(alloc, opened.as_str(), "]", depth, "")?;
+    ends(alloc, text.as_str(), wanted)
+}
+
 #[test]
 fn limits_are_kept(rt: HostRuntime) -> Result<(), Fail> {
     let alloc = rt.alloc();
-    for (start, part, count, end, wanted) in LIMITS {
-        let text = repeated(alloc, start, part, *count, end)?;
-        assert!(rt; ends(alloc, text.as_str(), wanted)?, "{start} {count}");
-    }
-    for (depth, wanted) in [(127, "BadStage 0"), (128, "NotJson 0")] {
-        let opened = repeated(alloc, "", "[", depth, "")?;
-        let text = repeated(alloc, opened.as_str(), "]", depth, "")?;
-        assert!(rt; ends(alloc, text.as_str(), wanted)?, "{depth}");
-    }
+    assert!(rt; all_end(alloc, LIMITS)?);
+    assert!(rt; nests(alloc, 127, "BadStage 0")?);
+    assert!(rt; nests(alloc, 128, "NotJson 0")?);
     Ok(())
 }
 
@@ -335,12 +367,11 @@ fn names_and_options_are_kept(rt: HostRuntime) -> Result<(), Fail> {
     let text =
         r#"["a.las",{"type":"filters.head","tag":"h","count":3,"inputs":[],"inputs":"r"},{"type":"x"}]"#;
     let found = shown(alloc, text.as_bytes())?;
-    assert!(rt; found.as_str() == "TagUnknown 1", "{found}");
+    assert!(rt; found.as_str() == "TagUnknown 1");
     let text =
         r#"["a.las",{"type":"filters.head","tag":"h","count":3,"filename":"n","where":"Z > 1"}]"#;
     let Ok(tree) = read_pipeline(alloc, text.as_bytes()) else {
-        assert!(rt; false, "no tree");
-        return Ok(());
+        return Err(Fail::from("no tree"));
     };
     let stages = tree.into_vec();
     assert!(rt; stages.len() == 2);
@@ -353,8 +384,7 @@ fn names_and_options_are_kept(rt: HostRuntime) -> Result<(), Fail> {
             && head.options.contains_key("where")
     );
     let (Some(tag), Some(name)) = (&head.tag, &head.filename) else {
-        assert!(rt; false, "no names");
-        return Ok(());
+        return Err(Fail::from("no names"));
     };
     assert!(rt; tag.as_str() == "h" && name.as_str() == "n");
     Ok(())

@@ -355,18 +355,18 @@ fn is_right(alloc: Global, row: Row) -> Result<bool, Fail> {
 
 #[test]
 fn points_lie_in_polygons(rt: HostRuntime) -> Result<(), Fail> {
-    for row in VARIED {
+    for &row in &VARIED {
         let is_right = is_right(rt.alloc(), row)?;
-        assert!(rt; is_right, "{:?}", row.0);
+        assert!(rt; is_right);
     }
     Ok(())
 }
 
 #[test]
 fn borders_are_inside(rt: HostRuntime) -> Result<(), Fail> {
-    for row in BORDERS {
+    for &row in &BORDERS {
         let is_right = is_right(rt.alloc(), row)?;
-        assert!(rt; is_right, "{:?} {:?}", row.0, row.1);
+        assert!(rt; is_right);
     }
     Ok(())
 }

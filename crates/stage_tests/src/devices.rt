@@ -69,7 +69,7 @@ fn read_and_fill(alloc: Global, most: u64, at: u32) -> Option<(usize, usize, [u8
 
 #[test]
 fn reads_come_in_pieces_and_are_filled(rt: HostRuntime) {
-    for (most, at, count, filled, bytes) in READS {
+    for &(most, at, count, filled, bytes) in &READS {
         let came = read_and_fill(rt.alloc(), most, at);
         assert!(rt; came == Some((count, filled, bytes)));
     }
@@ -86,7 +86,7 @@ fn whole(alloc: Global, limit: u32, call: u64) -> Option<Result<Option<bool>, Wh
 
 #[test]
 fn whole_sources_are_read_up_to_a_limit(rt: HostRuntime) {
-    for (limit, call, came) in WHOLES {
+    for &(limit, call, came) in &WHOLES {
         assert!(rt; whole(rt.alloc(), limit, call) == Some(came));
     }
 }
@@ -100,7 +100,7 @@ fn sink(alloc: Global) -> Option<MemOut> {
 fn a_sink_fails_at_its_numbers_and_past_its_room(rt: HostRuntime) {
     let mut tried = 0u64;
     if let Some(mut sink) = sink(rt.alloc()) {
-        for (piece, ok, held) in APPENDS {
+        for &(piece, ok, held) in &APPENDS {
             assert!(rt; sink.append(piece).is_ok() == ok);
             assert!(rt; sink.bytes() == held);
             tried = tried.wrapping_add(1);
@@ -174,7 +174,7 @@ fn failing(
 
 #[test]
 fn chosen_calls_fail_on_each_object(rt: HostRuntime) {
-    for (object, call, steps, count, kept) in RUNS {
+    for &(object, call, steps, count, kept) in &RUNS {
         let came = failing(rt.alloc(), object, call, kept);
         assert!(rt; came == Some((steps, count, true)));
     }

@@ -46,7 +46,7 @@ const FULL: [(&str, Result<u8, AddFault>); 11] = [
 #[test]
 fn names_are_read_in_any_case(rt: HostRuntime) {
     let names = ExtraNames::none(rt.alloc());
-    for (name, dim) in NAMES {
+    for &(name, dim) in &NAMES {
         assert!(rt; dim_of(name, &names) == dim);
     }
 }
@@ -69,18 +69,18 @@ fn is_spelled(names: &ExtraNames, name: &str, spelled: &str) -> bool {
 #[test]
 fn an_extra_name_keeps_its_first_spelling(rt: HostRuntime) {
     let mut names = ExtraNames::none(rt.alloc());
-    for (name, place) in ADDED {
-        assert!(rt; is_added(&mut names, name, place), "{name}");
+    for &(name, place) in &ADDED {
+        assert!(rt; is_added(&mut names, name, place));
     }
-    for (name, spelled) in SPELLED {
-        assert!(rt; is_spelled(&names, name, spelled), "{name}");
+    for &(name, spelled) in &SPELLED {
+        assert!(rt; is_spelled(&names, name, spelled));
     }
 }
 
 #[test]
 fn there_are_eight_extra_names_at_most(rt: HostRuntime) {
     let mut names = ExtraNames::none(rt.alloc());
-    for (name, added) in FULL {
+    for &(name, added) in &FULL {
         assert!(rt; names.add(name) == added);
     }
     assert!(rt; names.place("i") == None);

@@ -86,7 +86,7 @@ fn parts_go_round_the_slots(rt: HostRuntime) {
     let made = PlainQueue::new(rt.alloc(), 3);
     assert!(rt; made.is_ok());
     if let Ok(mut queue) = made {
-        for (no, count) in COUNTS {
+        for &(no, count) in &COUNTS {
             let tag = Tag {
                 no,
                 kind: ItemKind::Points,

@@ -89,7 +89,7 @@ fn made(alloc: Global, size: usize, has_view: bool) -> Option<(bool, Made, Optio
 
 #[test]
 fn a_reader_gives_its_points_and_its_end(rt: HostRuntime) {
-    for (size, points, view, end) in MADE {
+    for &(size, points, view, end) in &MADE {
         let came = made(rt.alloc(), size, view.is_some());
         assert!(rt; came == Some((true, points, view, end)));
     }

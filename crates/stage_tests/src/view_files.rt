@@ -130,7 +130,7 @@ fn is_text(alloc: Global, x: i64, text: &[u8]) -> Option<bool> {
 
 #[test]
 fn each_view_has_its_own_text(rt: HostRuntime) {
-    for (x, text) in PAIR {
+    for &(x, text) in &PAIR {
         assert!(rt; is_text(rt.alloc(), x, text) == Some(true));
     }
 }

@@ -159,15 +159,15 @@ fn is_read(alloc: Global, line: &str, read: Result<Command<'static>, usize>) -> 
 
 #[test]
 fn commands_are_read(rt: HostRuntime) {
-    for (line, command) in COMMANDS {
-        assert!(rt; is_read(rt.alloc(), line, Ok(command)), "{line}");
+    for &(line, command) in &COMMANDS {
+        assert!(rt; is_read(rt.alloc(), line, Ok(command)));
     }
 }
 
 #[test]
 fn bad_words_are_placed(rt: HostRuntime) {
-    for (line, place) in BAD {
-        assert!(rt; is_read(rt.alloc(), line, Err(place)), "{line}");
+    for &(line, place) in &BAD {
+        assert!(rt; is_read(rt.alloc(), line, Err(place)));
     }
     let none = Vec::new(rt.alloc());
     assert!(rt; read_command(&none) == Err(0));

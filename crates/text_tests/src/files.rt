@@ -105,9 +105,9 @@ fn is_written(alloc: Global, form: TextForm, text: &str) -> Result<bool, Fail>
 #[test]
 fn points_become_lines(rt: HostRuntime) -> Result<(), Fail> {
     let alloc = rt.alloc();
-    for (columns, text) in FILES {
+    for &(columns, text) in &FILES {
         let is_right = is_written(alloc, form(alloc, columns)?, text)?;
-        assert!(rt; is_right, "{text}");
+        assert!(rt; is_right);
     }
     Ok(())
 }
@@ -133,7 +133,7 @@ fn fails(alloc: Global, call: u64, held: usize) -> Result<(bool, bool), Fail> {
 
 #[test]
 fn a_failed_sink_is_given_back(rt: HostRuntime) -> Result<(), Fail> {
-    for (call, refused, held) in FAILURES {
+    for &(call, refused, held) in &FAILURES {
         let answer = fails(rt.alloc(), call, held)?;
         assert!(rt; answer == (refused, true));
     }

@@ -193,7 +193,7 @@ fn shown_groups(groups: Groups) -> [bool; 4] {
 
 #[test]
 fn ferries_are_read(rt: HostRuntime) -> Result<(), AllocError> {
-    for (text, expected) in FERRIES {
+    for &(text, expected) in &FERRIES {
         let shown = shown_ferries(rt.alloc(), text)?;
         assert!(rt; shown.as_str() == expected);
     }
@@ -202,7 +202,7 @@ fn ferries_are_read(rt: HostRuntime) -> Result<(), AllocError> {
 
 #[test]
 fn extra_dims_are_read(rt: HostRuntime) -> Result<(), AllocError> {
-    for (text, expected) in EXTRA_DIMS {
+    for &(text, expected) in &EXTRA_DIMS {
         let shown = shown_extra_dims(rt.alloc(), text)?;
         assert!(rt; shown.as_str() == expected);
     }
@@ -211,7 +211,7 @@ fn extra_dims_are_read(rt: HostRuntime) -> Result<(), AllocError> {
 
 #[test]
 fn groups_are_read(rt: HostRuntime) {
-    for (text, expected) in GROUPS {
+    for &(text, expected) in &GROUPS {
         let shown = groups_of(text).map(|groups| shown_groups(groups));
         assert!(rt; shown == expected);
     }
@@ -219,7 +219,7 @@ fn groups_are_read(rt: HostRuntime) {
 
 #[test]
 fn columns_are_read(rt: HostRuntime) -> Result<(), AllocError> {
-    for (text, expected) in COLUMNS {
+    for &(text, expected) in &COLUMNS {
         let shown = shown_columns(rt.alloc(), text)?;
         assert!(rt; shown.as_str() == expected);
         assert!(rt; is_columns(text) == (expected != "refused"));
@@ -229,7 +229,7 @@ fn columns_are_read(rt: HostRuntime) -> Result<(), AllocError> {
 
 #[test]
 fn fields_are_read(rt: HostRuntime) -> Result<(), AllocError> {
-    for (text, expected) in FIELDS {
+    for &(text, expected) in &FIELDS {
         let shown = shown_fields(rt.alloc(), text)?;
         assert!(rt; shown.as_str() == expected);
         assert!(rt; is_forward(text) == (expected != "refused"));

@@ -97,9 +97,9 @@ fn gathered(
 fn views_are_gathered(rt: HostRuntime) -> Result<(), AllocError> {
     // Of the second layout the rows are laid anew under a wider one.
     for layout in [layout_of(&[Dim::X, Dim::Z]), layout_of(&[Dim::X])] {
-        for (views, how, told) in ROWS {
+        for &(views, how, told) in &ROWS {
             let held = gathered(rt.alloc(), &layout, views, how)?;
-            assert!(rt; are_told(&held, told), "{how:?} {told:?}");
+            assert!(rt; are_told(&held, told));
         }
     }
     Ok(())
@@ -107,7 +107,7 @@ fn views_are_gathered(rt: HostRuntime) -> Result<(), AllocError> {
 
 fn by_time(alloc: Global, down: bool) -> Result<Views, AllocError> {
     let mut held = Views::none(alloc, &layout_of(&[Dim::X, Dim::GpsTime]));
-    for (x, word) in TIMES {
+    for &(x, word) in &TIMES {
         let mut point = Point::zero();
         (point.x, point.gps_time) = (x, word);
         held.push(&point)?;

@@ -62,18 +62,15 @@ fn held(alloc: Global, layout: &Layout, within: &Point) -> Result<Views, AllocEr
 
 #[test]
 fn points_of_each_format_are_held(rt: HostRuntime) -> Result<(), AllocError> {
-    for format in FORMATS {
+    for &format in &FORMATS {
         for extras in [0, 3, 8] {
             let layout = layout_with(format, extras);
             let mut within = FULL;
             layout.clear(&mut within);
             let held = held(rt.alloc(), &layout, &within)?;
             assert!(rt; held.views() == 0 && held.len(0) == 3);
-            assert!(rt;
-                held.point(0, 0) == within && held.point(0, 2) == within,
-                "{format:?}"
-            );
-            assert!(rt; held.point(0, 1) == FULL, "{format:?}");
+            assert!(rt; held.point(0, 0) == within && held.point(0, 2) == within);
+            assert!(rt; held.point(0, 1) == FULL);
         }
     }
     Ok(())

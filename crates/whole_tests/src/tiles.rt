@@ -101,29 +101,26 @@ fn by_tens() -> Gathering {
 
 #[test]
 fn values_lie_in_cells(rt: HostRuntime) {
-    for (v, origin, length, cell) in CELLS {
-        assert!(rt;
-            1 <= length && cell_of(v, origin, length) == cell,
-            "{v} {cell}"
-        );
+    for &(v, origin, length, cell) in &CELLS {
+        assert!(rt; 1 <= length && cell_of(v, origin, length) == cell);
     }
 }
 
 #[test]
 fn views_are_parted_by_squares(rt: HostRuntime) -> Result<(), AllocError> {
-    for (views, told) in PARTED {
+    for &(views, told) in &PARTED {
         let held = gathered(rt.alloc(), views, by_tens())?;
-        assert!(rt; are_told(&held, told), "{told:?}");
+        assert!(rt; are_told(&held, told));
     }
     Ok(())
 }
 
 #[test]
 fn views_are_thinned_by_voxels(rt: HostRuntime) -> Result<(), AllocError> {
-    for (views, told) in THINNED {
+    for &(views, told) in &THINNED {
         let how = Gathering::Voxels(EdgeLength::new(ONE));
         let held = gathered(rt.alloc(), views, how)?;
-        assert!(rt; are_told(&held, told), "{told:?}");
+        assert!(rt; are_told(&held, told));
     }
     Ok(())
 }

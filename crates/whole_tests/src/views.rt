@@ -94,10 +94,10 @@ pub fn are_told(held: &Views, told: &[&[i64]]) -> bool {
 fn flows_are_joined(rt: HostRuntime) -> Result<(), AllocError> {
     let [wide, narrow] = layouts();
     for layouts in [[wide, wide], [wide, narrow], [narrow, wide]] {
-        for (first, later, together) in ROWS {
+        for &(first, later, together) in &ROWS {
             let held = joined(rt.alloc(), &layouts, first, later)?;
-            assert!(rt; are_told(&held, together.0), "{together:?}");
-            assert!(rt; is_told(&held, held.views(), together.1), "{together:?}");
+            assert!(rt; are_told(&held, together.0));
+            assert!(rt; is_told(&held, held.views(), together.1));
         }
     }
     Ok(())

@@ -216,7 +216,7 @@ const FAILURES: [(u64, [bool; 3]); 5] = [
 
 #[test]
 fn a_failed_sink_is_told(rt: HostRuntime) {
-    for (call, which) in FAILURES {
+    for &(call, which) in &FAILURES {
         assert!(rt; failing(rt.alloc(), call) == Some(which));
     }
 }

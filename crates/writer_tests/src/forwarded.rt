@@ -133,7 +133,7 @@ const FORMS: [(&[&str], Told); 4] = [
 
 #[test]
 fn fields_are_given_or_go_over_or_are_the_defaults(rt: HostRuntime) {
-    for (forward, expected) in FORMS {
+    for &(forward, expected) in &FORMS {
         assert!(rt; form(rt.alloc(), forward).map(told) == Some(expected));
     }
 }
