@@ -1,3 +1,4 @@
 pub mod Integers
 pub mod HalfAway
 pub mod OneRounding
+pub mod Guesses

@@ -1,8 +1,13 @@
-//! Exact arithmetic on whole numbers: powers of ten, and quotients rounded half away from zero.
+//! Exact arithmetic on whole numbers: powers of ten, quotients rounded half away from zero, and quotients by one number that are
+//! found by products.
 #![tactic(auto)]
+
+mod divisor;
 
 ghost use Rattle.std.specs.Prelude.{◌≡◌, ◌^◌, ◌≤◌, pos, ◌≤ℤ◌, unsigned_abs};
 ghost use Rattle.exact_numbers.specs.Rounding.{half_away, HalfAwayIsOne, IsHalfAway};
+
+pub use divisor::Divisor;
 
 /// The powers of ten that a nanounit needs: `10^k`, `k` from 0 to 9.
 pub const fn power_of_ten(k: u32) -> u64
@@ -22,6 +27,25 @@ pub const fn power_of_ten(k: u32) -> u64
         7 => 10_000_000,
         8 => 100_000_000,
         _ => 1_000_000_000,
+    }
+}
+
+/// These powers, each made ready for the division of many numbers: `10^k`, `k` from 0 to 9.
+pub const fn divisor_of_ten(k: u32) -> Divisor
+    requires { k ≤ 9 }
+    ensures { result.by ≡ 10 ^ k }
+{
+    match k {
+        0 => Divisor::new(1),
+        1 => Divisor::new(10),
+        2 => Divisor::new(100),
+        3 => Divisor::new(1_000),
+        4 => Divisor::new(10_000),
+        5 => Divisor::new(100_000),
+        6 => Divisor::new(1_000_000),
+        7 => Divisor::new(10_000_000),
+        8 => Divisor::new(100_000_000),
+        _ => Divisor::new(1_000_000_000),
     }
 }
 

@@ -1,14 +1,14 @@
 ghost use Rattle.std.specs.Prelude.{◌≡◌, ◌≢◌, ℕ, ◌+◌, ◌-◌, ◌*◌, ◌/◌, ◌%◌, ◌^◌, ◌<◌, ◌≤◌};
 ghost use Rattle.ieee_words.specs.Sizes.{IsNearestSize};
 
-use exact_numbers::power_of_ten;
+use exact_numbers::{Divisor, divisor_of_ten};
 
 /// `size * 2^up = quotient * divisor + rest`, with 97 to 127 bits in the quotient.
 #[derive(Clone, Copy)]
 pub struct Quotient {
     up: u32,
     quotient: u128,
-    rest: u128,
+    rest: u64,
 }
 
 /// The 53 leading bits of a number: it is `kept * 2^down + cut`.
@@ -19,13 +19,12 @@ pub struct Leading {
     cut: u128,
 }
 
-fn divided(size: u64, divisor: u64) -> Quotient
+fn divided(size: u64, divisor: Divisor) -> Quotient
     requires some { 0 < size }
     requires not_large { size ≤ 2 ^ 63 }
-    requires divisor_some { 0 < divisor }
-    requires divisor_small { divisor ≤ 1_000_000_000 }
-    ensures value { size * 2 ^ result.up ≡ result.quotient * divisor + result.rest }
-    ensures rest { result.rest < divisor }
+    requires divisor_small { divisor.by ≤ 1_000_000_000 }
+    ensures value { size * 2 ^ result.up ≡ result.quotient * divisor.by + result.rest }
+    ensures rest { result.rest < divisor.by }
     ensures low { 2 ^ 96 ≤ result.quotient }
     ensures high { result.quotient < 2 ^ 127 }
     ensures up_high { result.up ≤ 126 }
@@ -33,12 +32,8 @@ fn divided(size: u64, divisor: u64) -> Quotient
 {
     let up = (size as u128).leading_zeros() - 1;
     let wide = (size as u128) << up;
-    let divisor = divisor as u128;
-    Quotient {
-        up,
-        quotient: wide / divisor,
-        rest: wide % divisor,
-    }
+    let (quotient, rest) = divisor.divide_wide(wide);
+    Quotient { up, quotient, rest }
 }
 
 fn leading_bits(n: u128) -> Leading
@@ -67,7 +62,7 @@ pub fn near_size(size: u64, k: u32) -> u64
     requires not_large { size ≤ 2 ^ 63 }
     ensures { IsNearestSize size (10 ^ k) result }
 {
-    let scaled = divided(size, power_of_ten(k));
+    let scaled = divided(size, divisor_of_ten(k));
     let lead = leading_bits(scaled.quotient);
     let half = 1u128 << (lead.down - 1);
     let word = ((lead.down as u64 + 1074 - scaled.up as u64) << 52) + lead.kept;

@@ -7,4 +7,3 @@ pub mod WrittenBack
 pub mod Writing
 pub mod ReadBack
 pub mod Among
-pub mod Guesses

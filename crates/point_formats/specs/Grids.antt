@@ -1,5 +1,5 @@
 -- The grid of the coordinates.
-use Rattle.std.specs.Prelude.{ℕ, ℤ, pos, ◌+ℤ◌, ◌*ℤ◌, ◌≤ℤ◌, ◌^◌, ◌≤◌, unsigned_abs, map, get_or, All}
+use Rattle.std.specs.Prelude.{◌≡◌, ℕ, ℤ, pos, ◌+ℤ◌, ◌*ℤ◌, ◌≤ℤ◌, ◌^◌, ◌≤◌, unsigned_abs, map, get_or, All}
 use Rattle.las_header.specs.declared.block.Header.{Header}
 use Rattle.point_formats.specs.declared.grid.Grid.{Grid}
 
@@ -10,6 +10,10 @@ scale_on grid axis = get_or (map (λ s. s.nano) grid.scale) axis (pos 1)
 -- the steps of the axes are nanounits at least
 abbrev pub HasSteps : Grid → Type 0
 HasSteps grid = (axis : ℕ) → pos 1 ≤ℤ scale_on grid axis
+
+-- so many nanounits are the step of an axis, which is at most one unit
+abbrev pub IsStep : ℕ → ℤ → Type 0
+IsStep by step = (pos by ≡ step) × (by ≤ 10 ^ 9)
 
 -- the coordinate of raw number 0, in nanounits
 abbrev pub offset_on : Grid → ℕ → ℤ

@@ -5,10 +5,10 @@ ghost use Rattle.std.specs.Int.{w32};
 ghost use Rattle.std.specs.Result.{OkIff};
 ghost use Rattle.decimal_coords.specs.Grid.{nearest_step};
 ghost use Rattle.exact_numbers.specs.Rounding.{half_away};
-ghost use Rattle.point_formats.specs.Grids.{coordinate, scale_on, offset_on, grid_of, HasSteps, IsNear, IsNearOffset};
+ghost use Rattle.point_formats.specs.Grids.{coordinate, scale_on, offset_on, grid_of, HasSteps, IsNear, IsNearOffset, IsStep};
 
-use crate::divisor::Divisor;
 use decimal_coords::{NotHeld, Scale, real};
+use exact_numbers::Divisor;
 use las_header::Header;
 use std::marker::Model;
 
@@ -66,7 +66,7 @@ pub(crate) fn coordinate(grid: &Grid, axis: usize, raw: i32) -> i64
 /// The step of an axis, by which distances are divided.
 fn divisor_on(grid: &Grid, axis: usize) -> Divisor
     requires { axis < 3 }
-    ensures { pos result.by ≡ scale_on grid.now axis }
+    ensures { IsStep result.by (scale_on grid.now axis) }
 {
     Divisor::new(grid.scale[axis].nano() as u64)
 }
@@ -81,16 +81,15 @@ pub struct ReadyGrid {
 }
 
 impl Model for ReadyGrid {
-    ghost use Rattle.std.specs.Prelude.{◌≡◌, pos};
-    ghost use Rattle.point_formats.specs.Grids.{scale_on};
+    ghost use Rattle.point_formats.specs.Grids.{IsStep, scale_on};
     ghost use Rattle.point_formats.specs.declared.grid.Grid.{Grid as GridSeen};
 
     ghost Value = { GridSeen };
 
     ghost view = { λ g. g.grid };
 
-    ghost invariant = { λ g. (pos g.x.by ≡ scale_on g.grid 0) × (pos g.y.by ≡ scale_on g.grid 1)
-        × (pos g.z.by ≡ scale_on g.grid 2) };
+    ghost invariant = { λ g. IsStep g.x.by (scale_on g.grid 0) × IsStep g.y.by (scale_on g.grid 1)
+        × IsStep g.z.by (scale_on g.grid 2) };
 }
 
 impl ReadyGrid {
@@ -117,7 +116,7 @@ impl ReadyGrid {
     #[inline(always)]
     fn step(&self, axis: usize) -> Divisor
         requires { axis < 3 }
-        ensures { pos result.by ≡ scale_on self.now axis }
+        ensures { IsStep result.by (scale_on self.now axis) }
     {
         match axis {
             0 => self.x,
@@ -153,7 +152,8 @@ fn steps(distance: i64, step: &Divisor) -> Result<i32, NotHeld>
 /// The raw number of a coordinate in nanounits, of any size; it is refused exactly where it leaves 32 bits.
 #[inline(always)]
 fn raw_number(nano: i64, step: &Divisor, off: i64) -> Result<i32, NotHeld>
-    requires { IsNearOffset off }
+    requires step { step.now.by ≤ 10 ^ 9 }
+    requires offset { IsNearOffset off }
     ensures { OkIff result (FitsSigned w32 (nearest_step nano (pos step.now.by) off))
         (nearest_step nano (pos step.now.by) off) }
 {

@@ -4,7 +4,6 @@
 
 mod angles;
 mod decoding;
-mod divisor;
 mod encoding;
 mod grid;
 mod laws;

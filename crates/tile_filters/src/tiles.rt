@@ -38,7 +38,7 @@ impl PointKey for BySquare {
 
     type Key = Square;
 
-    ghost key = { λ by. square_of (pos by.length.by) by.x by.y };
+    ghost key = { λ by. square_of (pos by.length.0.by) by.x by.y };
 
     #[inline(always)]
     fn key(&self, p: &Point) -> Square {
@@ -59,7 +59,7 @@ impl PointKey for ByVoxel {
 
     type Key = Voxel;
 
-    ghost key = { λ by. voxel_of (pos by.0.by) };
+    ghost key = { λ by. voxel_of (pos by.0.0.by) };
 
     #[inline(always)]
     fn key(&self, p: &Point) -> Voxel {

@@ -11,7 +11,7 @@ returns-then-lead-half c =
     let w = word c.leading_bits-lead.result.down c.divided-scaled.result.up c.divided-scaled.ensures.up_high c.divided-scaled.ensures.up_low c.leading_bits-lead.ensures.down_high in
     let h = half_shifted c.leading_bits-lead.result.down c.leading_bits-lead.ensures.down_high in
     rw w (cut_below_half c.args.size (10 ^ c.args.k) c.divided-scaled.result.up c.divided-scaled.result.quotient c.divided-scaled.result.rest c.leading_bits-lead.result.kept c.leading_bits-lead.result.down c.leading_bits-lead.result.cut (2 ^ (c.leading_bits-lead.result.down - 1))
-    (rw (← c.power_of_ten.ensures.value) c.divided-scaled.ensures.value) (rw (← c.power_of_ten.ensures.value) c.divided-scaled.ensures.rest)
+    (rw (← c.divisor_of_ten.ensures) c.divided-scaled.ensures.value) (rw (← c.divisor_of_ten.ensures) c.divided-scaled.ensures.rest)
     c.leading_bits-lead.ensures.value c.leading_bits-lead.ensures.cut c.leading_bits-lead.ensures.low c.leading_bits-lead.ensures.high
     c.divided-scaled.ensures.up_high (omega arith)
     (half_of c.leading_bits-lead.result.down (omega arith))
@@ -22,7 +22,7 @@ returns-then-lead-half-2 c =
     let w = word c.leading_bits-lead.result.down c.divided-scaled.result.up c.divided-scaled.ensures.up_high c.divided-scaled.ensures.up_low c.leading_bits-lead.ensures.down_high in
     let h = half_shifted c.leading_bits-lead.result.down c.leading_bits-lead.ensures.down_high in
     rw w (cut_above_half c.args.size (10 ^ c.args.k) c.divided-scaled.result.up c.divided-scaled.result.quotient c.divided-scaled.result.rest c.leading_bits-lead.result.kept c.leading_bits-lead.result.down c.leading_bits-lead.result.cut (2 ^ (c.leading_bits-lead.result.down - 1))
-    (rw (← c.power_of_ten.ensures.value) c.divided-scaled.ensures.value) (rw (← c.power_of_ten.ensures.value) c.divided-scaled.ensures.rest)
+    (rw (← c.divisor_of_ten.ensures) c.divided-scaled.ensures.value) (rw (← c.divisor_of_ten.ensures) c.divided-scaled.ensures.rest)
     c.leading_bits-lead.ensures.value c.leading_bits-lead.ensures.cut c.leading_bits-lead.ensures.low c.leading_bits-lead.ensures.high
     c.divided-scaled.ensures.up_high (omega arith)
     (half_of c.leading_bits-lead.result.down (omega arith))
@@ -33,7 +33,7 @@ returns c =
     let w = word c.leading_bits-lead.result.down c.divided-scaled.result.up c.divided-scaled.ensures.up_high c.divided-scaled.ensures.up_low c.leading_bits-lead.ensures.down_high in
     let h = half_shifted c.leading_bits-lead.result.down c.leading_bits-lead.ensures.down_high in
     rw w (cut_is_half c.args.size (10 ^ c.args.k) c.divided-scaled.result.up c.divided-scaled.result.quotient c.divided-scaled.result.rest c.leading_bits-lead.result.kept c.leading_bits-lead.result.down c.leading_bits-lead.result.cut (2 ^ (c.leading_bits-lead.result.down - 1))
-    (rw (← c.power_of_ten.ensures.value) c.divided-scaled.ensures.value) (rw (← c.power_of_ten.ensures.value) c.divided-scaled.ensures.rest)
+    (rw (← c.divisor_of_ten.ensures) c.divided-scaled.ensures.value) (rw (← c.divisor_of_ten.ensures) c.divided-scaled.ensures.rest)
     c.leading_bits-lead.ensures.value c.leading_bits-lead.ensures.cut c.leading_bits-lead.ensures.low c.leading_bits-lead.ensures.high
     c.divided-scaled.ensures.up_high (omega arith)
     (half_of c.leading_bits-lead.result.down (omega arith))
