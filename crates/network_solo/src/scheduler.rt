@@ -40,14 +40,15 @@ pub trait Scheduler<W: Work> {
     fn stop(&self) -> Stop
         ensures { result ≡ Self.stop self.now };
 
-    /// What so many nodes take turns over, 1 to 64, each queue with room for `capacity` items, 1 to 64. It takes all memory that
-    /// their turns need. Refuses where memory is wanting.
-    fn edges(&self, alloc: Global, nodes: usize, capacity: usize) -> Result<Self::Edges, AllocError>
-        requires some { 0 < nodes }
-        requires few { nodes ≤ 64 }
+    /// What a tree's nodes take turns over, 1 to 64, each queue with room for `capacity` items, 1 to 64. `own` says of each node
+    /// whether it is the tree's own; the others are leaves that give nothing. It takes all memory that their turns need. Refuses
+    /// where memory is wanting.
+    fn edges(&self, alloc: Global, own: &[bool], capacity: usize) -> Result<Self::Edges, AllocError>
+        requires some { 0 < length own.now }
+        requires few { length own.now ≤ 64 }
         requires room { 0 < capacity }
         requires small { capacity ≤ 64 }
-        ensures { IfOk result (Self.fits nodes capacity) };
+        ensures { IfOk result (Self.fits (length own.now) capacity) };
 
     /// Lets new nodes take turns until all are done, or as `stop` says one has a fault, and hands them back. `ins` has the numbers of
     /// each node's children in the order of its inputs, and the last node is the root. It takes no memory.
@@ -102,8 +103,8 @@ impl<W: Work> Scheduler<W> for OneThread {
         self.stop
     }
 
-    fn edges(&self, alloc: Global, nodes: usize, capacity: usize) -> Result<Queues, AllocError> {
-        Queues::new(alloc, nodes - 1, capacity)
+    fn edges(&self, alloc: Global, own: &[bool], capacity: usize) -> Result<Queues, AllocError> {
+        Queues::new(alloc, own.len() - 1, capacity)
     }
 
     fn run(&self, nodes: NodeList<W>, ins: InsList, edges: Queues) -> NodeList<W>

@@ -1,7 +1,6 @@
 -- What was dealt may take turns.
 use Rattle.std.proofs.Common.{◌≡◌, ℕ, zero, suc, ◌+◌, ◌-◌, ◌^◌, ◌<◌, ◌≤◌, Bool, true, false, cond, List, [], ◌∷◌, ◌++◌, length, Option, Some, None, refl, ap, subst, sym, ◌∙◌, arith, inl, inr, map, length-append}
-use Rattle.std.specs.Prelude.{◌%◌, is_some, slice_get, slice_index_or}
-use Rattle.std.proofs.lemmas.Nat.{mod_below}
+use Rattle.std.specs.Prelude.{is_some, slice_get, slice_index_or}
 use Rattle.std.proofs.lemmas.List.{length-replicate, get_or-replicate}
 use Rattle.std.proofs.lemmas.Option.{slice_get_within}
 use Rattle.std.proofs.lemmas.Bool.Decides.{eqb_tells}
@@ -16,7 +15,7 @@ use Rattle.network_core.proofs.Opened.{some_at}
 use Rattle.network_workers.specs.declared.seats.Seat.{Seat}
 use Rattle.network_workers.specs.declared.seats.SeatIn.{SeatIn}
 use Rattle.network_workers.specs.declared.seats.Deal.{Deal}
-use Rattle.network_workers.specs.Dealt.{Place, Hand, AreOpened, seat_of, hand_of, entries, empty_hand, with_place, dealt, add_some, picked, places}
+use Rattle.network_workers.specs.Dealt.{Place, Hand, AreOpened, seat_of, hand_of, entries, empty_hand, with_place, AreWorkers, worker_at, dealt, add_some, picked, places}
 use Rattle.network_workers.specs.Ends.{is_at, end_of, got_on, sent_on}
 use Rattle.network_workers.specs.Lists.{Each}
 use Rattle.network_workers.specs.Rooms.{hands_of}
@@ -68,7 +67,7 @@ picked-unread inns h (c ∷ cs) k = by_end (picked-unread inns h cs) (slice_get 
     by_end ih (Some e) f (suc k) = ih k
 
 module _ (root : ℕ) (outs : List OutSeen) (inns : List InSeen) (opened : AreOpened root outs inns) where
-  unsent-at : (k : ℕ) → sent_on (slice_get outs k) ≡ []
+  pub unsent-at : (k : ℕ) → sent_on (slice_get outs k) ≡ []
   unsent-at k = by_end (slice_get outs k) refl
     where
       by_end : (x : Option OutSeen) → slice_get outs k ≡ x → sent_on x ≡ []
@@ -98,19 +97,19 @@ length-map : {X Y : Type 0} (f : X → Y) (xs : List X) → length (map f xs) �
 length-map f [] = refl
 length-map f (x ∷ xs) = let h = length-map f xs in omega (arith, h)
 
-module _ {W : Type 0} (workers : ℕ) (xs : List (Place W)) (deals : List (Deal W)) (same : hands_of deals ≡ dealt workers 0 xs) where
+module _ {W : Type 0} (goes : List ℕ) (workers : ℕ) (xs : List (Place W)) (deals : List (Deal W)) (same : hands_of deals ≡ dealt goes workers 0 xs) where
   pub deals-count : length deals ≡ workers
-  deals-count = sym (length-map hand_of deals) ∙ ap (λ (hs : List (Hand W)). length hs) same ∙ dealt-length workers 0 xs
+  deals-count = sym (length-map hand_of deals) ∙ ap (λ (hs : List (Hand W)). length hs) same ∙ dealt-length goes workers 0 xs
 
-  hand-at : (i : ℕ) (d : Deal W) → hand_of (slice_index_or deals i d) ≡ slice_index_or (dealt workers 0 xs) i (hand_of d)
+  hand-at : (i : ℕ) (d : Deal W) → hand_of (slice_index_or deals i d) ≡ slice_index_or (dealt goes workers 0 xs) i (hand_of d)
   hand-at i d = sym (get-map hand_of deals i d) ∙ ap (λ hs. slice_index_or hs i (hand_of d)) same
 
-  pub deals-few : length xs < 2 ^ 32 → AreFew deals
-  deals-few few i d l =
+  pub deals-few : AreWorkers workers goes → length xs < 2 ^ 32 → AreFew deals
+  deals-few below few i d l =
       let m : i < workers = subst (λ n. i < n) deals-count l in
-      let at : length (slice_index_or deals i d).seats.items ≡ length (slice_index_or (dealt workers 0 xs) i empty_hand).seats =
-      ap (λ (hand : Hand W). length hand.seats) (hand-at i d ∙ any_default (dealt workers 0 xs) i (hand_of d) empty_hand (subst (λ n. i < n) (sym (dealt-length workers 0 xs)) m)) in
-      let f = seats-few workers 0 i xs m in omega (arith, few, at, f)
+      let at : length (slice_index_or deals i d).seats.items ≡ length (slice_index_or (dealt goes workers 0 xs) i empty_hand).seats =
+      ap (λ (hand : Hand W). length hand.seats) (hand-at i d ∙ any_default (dealt goes workers 0 xs) i (hand_of d) empty_hand (subst (λ n. i < n) (sym (dealt-length goes workers 0 xs)) m)) in
+      let f = seats-few goes workers below 0 i xs m in omega (arith, few, at, f)
 
 module _ {W S : Type 0} (g : Ghosts W S) where
   -- a new node with new ends
@@ -160,14 +159,14 @@ module _ {W S : Type 0} (g : Ghosts W S) where
           append-second hand.ins more s k (h.beyond s k (omega (arith, l, a))) ∙ entries-other n 0 s k x.ins (λ z. omega (arith, l, a, z)));
     }
 
-  pub dealt-fits : (workers place : ℕ) (xs : List (Place W)) → 0 < workers → ((j : ℕ) (x : Place W) → slice_get xs j ≡ Some x → IsNewPlace x) → Each (λ i hand. HandFits hand) (dealt workers place xs)
-  dealt-fits workers place [] some new = λ k d l. subst HandFits (sym (get_or-replicate workers k empty_hand d (subst (λ n. k < n) (length-replicate workers empty_hand) l))) empty-fits
-  dealt-fits workers place (x ∷ xs) some new =
-      let before = dealt workers (suc place) xs in
-      let ih = dealt-fits workers (suc place) xs some (λ j. new (suc j)) in
-      let inside : place % workers < length before = subst (λ n. place % workers < n) (sym (dealt-length workers (suc place) xs)) (mod_below place workers some) in
-      each-one (λ i hand. HandFits hand) before (place % workers) (with_place x (slice_index_or before (place % workers) empty_hand))
-      (with_place-fits x (slice_index_or before (place % workers) empty_hand) (new 0 x refl) (ih (place % workers) empty_hand inside)) (λ j d l _. ih j d l)
+  pub dealt-fits : (goes : List ℕ) (workers place : ℕ) (xs : List (Place W)) → AreWorkers workers goes → ((j : ℕ) (x : Place W) → slice_get xs j ≡ Some x → IsNewPlace x) → Each (λ i hand. HandFits hand) (dealt goes workers place xs)
+  dealt-fits goes workers place [] below new = λ k d l. subst HandFits (sym (get_or-replicate workers k empty_hand d (subst (λ n. k < n) (length-replicate workers empty_hand) l))) empty-fits
+  dealt-fits goes workers place (x ∷ xs) below new =
+      let before = dealt goes workers (suc place) xs in
+      let ih = dealt-fits goes workers (suc place) xs below (λ j. new (suc j)) in
+      let inside : worker_at goes place < length before = subst (λ n. worker_at goes place < n) (sym (dealt-length goes workers (suc place) xs)) (below place) in
+      each-one (λ i hand. HandFits hand) before (worker_at goes place) (with_place x (slice_index_or before (worker_at goes place) empty_hand))
+      (with_place-fits x (slice_index_or before (worker_at goes place) empty_hand) (new 0 x refl) (ih (worker_at goes place) empty_hand inside)) (λ j d l _. ih j d l)
 
   pub places-new : (place root : ℕ) (ns : List (Node W)) (ins : List (List ℕ)) (outs : List OutSeen) (inns : List InSeen) → AreOpened root outs inns → ((k : ℕ) → shape.Each (λ j. j < k) (children ins k))
       → place + length ns ≤ root + 1 → ((j k : ℕ) (n : Node W) → k ≡ place + j → slice_get ns j ≡ Some n → IsFresh (shown g (children ins k) n))
@@ -190,15 +189,15 @@ module _ {W S : Type 0} (g : Ghosts W S) where
       places-new (suc place) root ns ins outs inns opened below (omega (arith, count)) (λ i k m a. fresh (suc i) k m (omega (arith, a))) j x e
 
   -- so the deals of what was dealt may
-  pub deals-fit : (workers : ℕ) (xs : List (Place W)) (deals : List (Deal W)) → hands_of deals ≡ dealt workers 0 xs → 0 < workers → ((j : ℕ) (x : Place W) → slice_get xs j ≡ Some x → IsNewPlace x) → DealsFit g deals
-  deals-fit workers xs deals same some new i d l =
-      (subst HandFits (sym (hand-at workers xs deals same i d)) (dealt-fits workers 0 xs some new i (hand_of d)
-      (subst (λ n. i < n) (sym (dealt-length workers 0 xs)) (subst (λ n. i < n) (deals-count workers xs deals same) l)))).fit
+  pub deals-fit : (goes : List ℕ) (workers : ℕ) (xs : List (Place W)) (deals : List (Deal W)) → hands_of deals ≡ dealt goes workers 0 xs → AreWorkers workers goes → ((j : ℕ) (x : Place W) → slice_get xs j ≡ Some x → IsNewPlace x) → DealsFit g deals
+  deals-fit goes workers xs deals same below new i d l =
+      (subst HandFits (sym (hand-at goes workers xs deals same i d)) (dealt-fits goes workers 0 xs below new i (hand_of d)
+      (subst (λ n. i < n) (sym (dealt-length goes workers 0 xs)) (subst (λ n. i < n) (deals-count goes workers xs deals same) l)))).fit
 
   -- and so do those of a new tree
-  pub tree-fits : (workers : ℕ) (all : List (Node W)) (ins : List (List ℕ)) (outs : List OutSeen) (inns : List InSeen) (deals : List (Deal W)) → hands_of deals ≡ dealt workers 0 (places 0 all ins outs inns) → 0 < workers → 0 < length all
+  pub tree-fits : (goes : List ℕ) (workers : ℕ) (all : List (Node W)) (ins : List (List ℕ)) (outs : List OutSeen) (inns : List InSeen) (deals : List (Deal W)) → hands_of deals ≡ dealt goes workers 0 (places 0 all ins outs inns) → AreWorkers workers goes → 0 < length all
       → AreOpened (length all - 1) outs inns → IsForest ins (length all - 1) → ((k : ℕ) (n : Node W) → slice_get all k ≡ Some n → IsFresh (shown g (children ins k) n)) → DealsFit g deals
-  tree-fits workers all ins outs inns deals same some nodes opened forest fresh =
-      deals-fit workers (places 0 all ins outs inns) deals same some
+  tree-fits goes workers all ins outs inns deals same below nodes opened forest fresh =
+      deals-fit goes workers (places 0 all ins outs inns) deals same below
       (places-new 0 (length all - 1) all ins outs inns opened forest.below (omega (arith, nodes))
       (λ j k n e s. fresh k n (subst (λ i. slice_get all i ≡ Some n) (let z : j ≡ k = omega (arith, e) in z) s)))

@@ -1,5 +1,5 @@
 -- The hands that were dealt to workers, and how the node that was dealt last is taken back.
-use Rattle.std.proofs.Common.{◌≡◌, ℕ, zero, suc, ◌+◌, ◌%◌, ◌<◌, ◌≤◌, inl, inr, Bool, true, false, cond, List, [], ◌∷◌, length, Option, Some, None, get_or, set, refl, ap, subst, sym, ◌∙◌, arith, length-append}
+use Rattle.std.proofs.Common.{◌≡◌, ℕ, zero, suc, ◌+◌, ◌<◌, ◌≤◌, inl, inr, Bool, true, false, cond, List, [], ◌∷◌, length, Option, Some, None, get_or, set, refl, ap, subst, sym, ◌∙◌, arith, length-append}
 use Rattle.std.specs.Prelude.{slice_get, slice_index_or, slice_set}
 use Rattle.std.proofs.lemmas.Bool.Decides.{eqb_tells}
 use Rattle.std.proofs.lemmas.List.{length-set, get_or-replicate, get_or-set_same, get_or-set_other, get_or_default}
@@ -10,7 +10,7 @@ use Rattle.network_theory.specs.Shape as shape
 use Rattle.network_core.proofs.Opened.{some_at}
 use Rattle.network_workers.specs.declared.seats.SeatIn.{SeatIn}
 use Rattle.network_workers.specs.declared.seats.Deal.{Deal}
-use Rattle.network_workers.specs.Dealt.{Place, Hand, hand_of, empty_hand, seat_of, entries, with_place, dealt, add_some, picked, HandsCarry}
+use Rattle.network_workers.specs.Dealt.{Place, Hand, hand_of, empty_hand, seat_of, entries, with_place, AreWorkers, worker_at, dealt, add_some, picked, HandsCarry}
 use Rattle.network_workers.specs.Ends.{end_of, got_on, is_at, EntryGrew, EndsGrew}
 use Rattle.network_workers.specs.Lists.{Each}
 use Rattle.network_workers.specs.Seats.{SeatsCarry}
@@ -110,16 +110,16 @@ own-more x hand h s k l =
     append-none hand.ins (entries (length hand.seats) 0 x.ins) s k (entries-other (length hand.seats) 0 s k x.ins (λ e. absurd (omega (arith, l, more, e))))
     ∙ h s k (omega (arith, l, more))
 
-pub dealt-own : {W : Type 0} (workers place : ℕ) (xs : List (Place W)) → 0 < workers → (i : ℕ) (d : Hand W) → i < workers → IsOwn (get_or (dealt workers place xs) i d)
-dealt-own {W = W} workers place [] some i d l = subst (λ (hand : Hand W). IsOwn hand) (sym (get_or-replicate {A = Hand W} workers i empty_hand d l)) (λ s k _. refl)
-dealt-own {W = W} workers place (x ∷ xs) some i d l =
-    let n = dealt-length workers (suc place) xs in
-    let inside : place % workers < workers = omega (arith, some) in
-    let m = length-set (dealt workers (suc place) xs) (place % workers) (with_place x (get_or (dealt workers (suc place) xs) (place % workers) empty_hand)) in
-    let all : Each {X = Hand W} (λ j hand. IsOwn hand) (set (dealt workers (suc place) xs) (place % workers) (with_place x (get_or (dealt workers (suc place) xs) (place % workers) empty_hand))) =
-    each-one (λ j hand. IsOwn hand) (dealt workers (suc place) xs) (place % workers) (with_place x (get_or (dealt workers (suc place) xs) (place % workers) empty_hand))
-    (own-more x (get_or (dealt workers (suc place) xs) (place % workers) empty_hand) (dealt-own workers (suc place) xs some (place % workers) empty_hand inside))
-    (λ j e b ne. dealt-own workers (suc place) xs some j e (omega (arith, b, n))) in
+pub dealt-own : {W : Type 0} (goes : List ℕ) (workers place : ℕ) (xs : List (Place W)) → AreWorkers workers goes → (i : ℕ) (d : Hand W) → i < workers → IsOwn (get_or (dealt goes workers place xs) i d)
+dealt-own {W = W} goes workers place [] below i d l = subst (λ (hand : Hand W). IsOwn hand) (sym (get_or-replicate {A = Hand W} workers i empty_hand d l)) (λ s k _. refl)
+dealt-own {W = W} goes workers place (x ∷ xs) below i d l =
+    let n = dealt-length goes workers (suc place) xs in
+    let inside : worker_at goes place < workers = below place in
+    let m = length-set (dealt goes workers (suc place) xs) (worker_at goes place) (with_place x (get_or (dealt goes workers (suc place) xs) (worker_at goes place) empty_hand)) in
+    let all : Each {X = Hand W} (λ j hand. IsOwn hand) (set (dealt goes workers (suc place) xs) (worker_at goes place) (with_place x (get_or (dealt goes workers (suc place) xs) (worker_at goes place) empty_hand))) =
+    each-one (λ j hand. IsOwn hand) (dealt goes workers (suc place) xs) (worker_at goes place) (with_place x (get_or (dealt goes workers (suc place) xs) (worker_at goes place) empty_hand))
+    (own-more x (get_or (dealt goes workers (suc place) xs) (worker_at goes place) empty_hand) (dealt-own goes workers (suc place) xs below (worker_at goes place) empty_hand inside))
+    (λ j e b ne. dealt-own goes workers (suc place) xs below j e (omega (arith, b, n))) in
     all i d (omega (arith, l, n, m))
 
 -- the node that was dealt last is the last of its hand

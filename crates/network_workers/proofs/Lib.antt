@@ -17,6 +17,10 @@ pub mod LastEnds
 pub mod OverBack
 pub mod JoinPart
 pub mod Joined
+pub mod AtStart
 pub mod TakingBack
+pub mod PlaceBack
+pub mod AllBack
+pub mod Going
 pub mod NewRoom
 pub mod AllDealt

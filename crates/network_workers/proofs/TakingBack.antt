@@ -1,16 +1,16 @@
 -- A node is taken back from its worker, and the queues to its children are settled.
-use Rattle.std.proofs.Common.{◌≡◌, ◌≢◌, ℕ, suc, ◌+◌, ◌-◌, ◌%◌, ◌<◌, ◌≤◌, ◌⊎◌, inl, inr, true, cond, List, [], ◌∷◌, ◌++◌, length, take, drop, Option, Some, None, is_none, get_or, set, map, replicate, refl, ap, subst, sym, ◌∙◌, arith, length-append, drop-cons}
-use Rattle.std.specs.Prelude.{◌==◌, vec_len, slice_get}
+use Rattle.std.proofs.Common.{◌≡◌, ◌≢◌, ℕ, suc, ◌+◌, ◌-◌, ◌<◌, ◌≤◌, ◌⊎◌, inl, inr, true, cond, List, [], ◌∷◌, ◌++◌, length, take, drop, Option, Some, None, is_none, get_or, set, refl, ap, subst, sym, ◌∙◌, arith, length-append, drop-cons}
+use Rattle.std.specs.Prelude.{◌==◌, slice_get}
 use Rattle.std.proofs.lemmas.Bool.Decides.{eqb_tells}
 use Rattle.std.proofs.lemmas.Bool.{eq-eqb}
-use Rattle.std.proofs.lemmas.List.{map-append, drop_all, get_or-replicate, length-map, get_or-map, length-set, length_push, get_or_append_left, get_or_push, take_at, same_from_push, get_or-append-add}
+use Rattle.std.proofs.lemmas.List.{map-append, length-set, length_push, get_or_append_left, get_or_push, take_at, same_from_push, get_or-append-add}
 use Rattle.std.proofs.lemmas.Option.{slice_get_within, get_or_from_slice_get}
 use Rattle.cloud_points.specs.declared.point.Point.{Point}
 use Rattle.cloud_points.specs.declared.item.Item as code
 use Rattle.cloud_points.specs.declared.work.Work.{Ghosts}
 use Rattle.cloud_points.specs.Bodies.{bodies, seen}
 use Rattle.cloud_points.specs.Marks.{Mark, all_marks}
-use Rattle.chunk_queue.specs.Ends.{InSeen, OutSeen, ended}
+use Rattle.chunk_queue.specs.Ends.{OutSeen, ended}
 use Rattle.network_theory.specs.Shape as shape
 use Rattle.network_theory.specs.Forest.{children, count_all, IsForest}
 use Rattle.network_core.specs.declared.node.Node.{Node}
@@ -20,46 +20,41 @@ use Rattle.network_solo.specs.Trees.{AreFresh}
 use Rattle.network_workers.specs.declared.seats.Seat.{Seat}
 use Rattle.network_workers.specs.declared.seats.SeatIn.{SeatIn}
 use Rattle.network_workers.specs.declared.seats.Deal.{Deal}
-use Rattle.network_workers.specs.Dealt.{Place, Hand, hand_of, empty_hand, seat_of, entries, with_place, dealt, places, picked, AreOpened, HandsCarry}
+use Rattle.network_workers.specs.Dealt.{Place, Hand, hand_of, empty_hand, seat_of, entries, with_place, AreWorkers, worker_at, dealt, places, picked, AreOpened, HandsCarry}
 use Rattle.network_workers.specs.Ends.{end_of, got_on, got_of, sent_on, EntryGrew, InGrew, OutGrew}
 use Rattle.network_workers.specs.Lists.{Each}
-use Rattle.network_workers.specs.Gathered.{NodeCarries, Carriage, AreParts, AreCarried, Opened, IsStart, IsKept, AreTakenBack, AreOfOne, IsFirstPart, IsSettled, EdgesFrom, without, AreOnce}
-use Rattle.network_workers.specs.Seats.{node_of, IsFit, SeatsCarry, DealFits, DealsFit, DealsCarry}
-use Rattle.network_workers.specs.Stopping.{DealsOver}
+use Rattle.network_workers.specs.Gathered.{NodeCarries, Carriage, AreParts, Opened, IsKept, AreTakenBack, AreOfOne, IsFirstPart, IsSettled, EdgesFrom, without, AreOnce}
+use Rattle.network_workers.specs.Seats.{node_of, IsFit, SeatsCarry, DealFits}
 use Rattle.network_workers.proofs.Carrying.{fit-still}
 use Rattle.network_workers.proofs.Children.{counted-more, IsOnlyChild, only-child}
 use Rattle.network_workers.proofs.Counted.{dealt-length}
 use Rattle.network_workers.proofs.Dealing.{TakenBack, append-none, entries-other, grew-none}
 use Rattle.network_workers.proofs.EndsOf.{all_marks-append, end-grew, ne-eqb}
-use Rattle.network_workers.proofs.Fits.{append-second}
+use Rattle.network_workers.proofs.AtStart.{one-grew, root-there, unread-inns}
+use Rattle.network_workers.proofs.Fits.{append-second, unsent-at}
 use Rattle.network_workers.proofs.HandsBack.{each-at, each-from, picked-unread, entries-unread, picked-length, picked-at, grew-length, grew-at, end-here, end-past, dealt-own, last-back, rest-back}
 use Rattle.network_workers.proofs.Joining.{all-closed, got_marks, seat-joins}
 use Rattle.network_workers.proofs.Lists.{each-one}
 use Rattle.network_workers.proofs.LastEnds.{without-other, length-without}
-use Rattle.network_workers.proofs.OverBack.{get-before, get-behind, one_thing, not-both, over-none, over-back}
+use Rattle.network_workers.proofs.OverBack.{get-before, get-behind, one_thing, over-back}
 
 bodies-append : (a b : List code.Item) → bodies (a ++ b) ≡ bodies a ++ bodies b
 bodies-append a b = map-append (λ i. seen i.body) a b
 
--- the two ends of a queue since its start
-one-grew : (o : OutSeen) (i : InSeen) (out : Option OutSeen) (inn : InSeen) → OutGrew (Some o) out → InGrew i inn → o.queue ≡ i.queue → AreOfOne out inn
-one-grew o i None inn h j q = absurd h
-one-grew o i (Some out) inn h j q = ap (λ (z : OutSeen). z.queue) h ∙ q ∙ sym (ap (λ (z : InSeen). z.queue) j)
-
-module _ {W S : Type 0} (g : Ghosts W S) (stop : Stop) (start : Opened W) (ins : List (List ℕ)) (root place : ℕ) (opened : AreOpened root start.outs start.inns) (size : length start.nodes ≡ root + 1)
-    (fresh : AreFresh g ins start.nodes) (forest : IsForest ins root) (deals : List (Deal W)) (workers : 0 < length deals) (nodes : List (Node W)) (outs : List (Option OutSeen))
-    (h : AreTakenBack g stop start ins place deals nodes outs) (n : Node W) (node : slice_get start.nodes place ≡ Some n) (d : Deal W) where
+module _ {W S : Type 0} (g : Ghosts W S) (stop : Stop) (start : Opened W) (ins : List (List ℕ)) (goes : List ℕ) (root place : ℕ) (opened : AreOpened root start.outs start.inns) (size : length start.nodes ≡ root + 1)
+    (fresh : AreFresh g ins start.nodes) (forest : IsForest ins root) (deals : List (Deal W)) (workers : AreWorkers (length deals) goes) (nodes : List (Node W)) (outs : List (Option OutSeen))
+    (h : AreTakenBack g stop start ins goes place deals nodes outs) (n : Node W) (node : slice_get start.nodes place ≡ Some n) (d : Deal W) where
   abbrev cs : List ℕ
   cs = children ins place
 
   abbrev w : ℕ
-  w = place % length deals
+  w = worker_at goes place
 
   abbrev x : Place W
   x = record { stage = place; node = n; out = slice_get start.outs place; ins = picked start.inns (children ins place) }
 
   abbrev hands : List (Hand W)
-  hands = dealt (length deals) (suc place) (places (suc place) (drop (suc place) start.nodes) ins start.outs start.inns)
+  hands = dealt goes (length deals) (suc place) (places (suc place) (drop (suc place) start.nodes) ins start.outs start.inns)
 
   abbrev hand : Hand W
   hand = get_or hands w empty_hand
@@ -76,13 +71,13 @@ module _ {W S : Type 0} (g : Ghosts W S) (stop : Stop) (start : Opened W) (ins :
       ∙ ap (λ (z : Node W). z ∷ drop (suc place) start.nodes) (get_or_from_slice_get start.nodes place n n node)
 
   carried-hands : HandsCarry g (set hands w (with_place x hand)) deals
-  carried-hands = subst (λ ns. HandsCarry g (dealt (length deals) place (places place ns ins start.outs start.inns)) deals) rest-is h.hands
+  carried-hands = subst (λ ns. HandsCarry g (dealt goes (length deals) place (places place ns ins start.outs start.inns)) deals) rest-is h.hands
 
   in-hands : w < length hands
-  in-hands = let l = dealt-length (length deals) (suc place) (places (suc place) (drop (suc place) start.nodes) ins start.outs start.inns) in omega (arith, l, workers)
+  in-hands = let l = dealt-length goes (length deals) (suc place) (places (suc place) (drop (suc place) start.nodes) ins start.outs start.inns) in let m = workers place in omega (arith, l, m)
 
   in-deals : w < length deals
-  in-deals = omega (arith, workers)
+  in-deals = workers place
 
   back : TakenBack g x hand (hand_of deal)
   back = last-back g hands w x deals in-hands carried-hands d
@@ -121,7 +116,7 @@ module _ {W S : Type 0} (g : Ghosts W S) (stop : Stop) (start : Opened W) (ins :
       ∙ get_or-append-add back.rest.ins back.ends k e
 
   own-hand : (k : ℕ) → end_of hand.ins (length hand.seats) k ≡ None
-  own-hand k = dealt-own (length deals) (suc place) (places (suc place) (drop (suc place) start.nodes) ins start.outs start.inns) workers w empty_hand in-deals (length hand.seats) k (omega arith)
+  own-hand k = dealt-own goes (length deals) (suc place) (places (suc place) (drop (suc place) start.nodes) ins start.outs start.inns) workers w empty_hand in-deals (length hand.seats) k (omega arith)
 
   own-front : (k : ℕ) → end_of back.rest.ins (length hand.seats) k ≡ None
   own-front k = grew-none (end_of hand.ins (length hand.seats) k) (end_of back.rest.ins (length hand.seats) k) (end-grew hand.ins back.rest.ins (length hand.seats) k back.others.ends) (own-hand k)
@@ -181,39 +176,16 @@ module _ {W S : Type 0} (g : Ghosts W S) (stop : Stop) (start : Opened W) (ins :
   once k l = (child-at k l).once
 
   -- at the start nothing was sent or got
-  unread-inns : (k : ℕ) (e : InSeen) → slice_get start.inns k ≡ Some e → e.got ≡ []
-  unread-inns k e f =
-      let l = slice_get_within start.inns k e f in
-      let o = some_at start.outs k (let a = opened.count.0 in let b = opened.count.1 in omega (arith, l, a, b)) in
-      (opened.nothing k o.0 e o.1 f).1
-
   unread : (k : ℕ) → got_of (hand.ins ++ entries (length hand.seats) 0 x.ins) (length hand.seats) k ≡ []
   unread k =
       ap got_on (append-second hand.ins (entries (length hand.seats) 0 x.ins) (length hand.seats) k (own-hand k))
-      ∙ entries-unread (length hand.seats) 0 x.ins (picked-unread start.inns cs unread-inns) (length hand.seats) k
+      ∙ entries-unread (length hand.seats) 0 x.ins (picked-unread start.inns cs (unread-inns root start.outs start.inns opened)) (length hand.seats) k
 
   unsent : sent_on x.out ≡ []
-  unsent = by_end (slice_get start.outs place) refl
-    where
-      by_end : (o : Option OutSeen) → slice_get start.outs place ≡ o → sent_on o ≡ []
-      by_end None e = refl
-      by_end (Some o) e =
-          let l = slice_get_within start.outs place o e in
-          let i = some_at start.inns place (let a = opened.count.0 in let b = opened.count.1 in omega (arith, l, a, b)) in
-          (opened.nothing place o i.0 e i.1).0
+  unsent = unsent-at root start.outs start.inns opened place
 
   root-is : is_none x.out ≡ (place + 1 == length start.nodes)
-  root-is = by_end (slice_get start.outs place) refl
-    where
-      by_end : (o : Option OutSeen) → slice_get start.outs place ≡ o → is_none o ≡ (place + 1 == length start.nodes)
-      by_end None e = sym (eq-eqb (place + 1) (length start.nodes) (let l = root-reached e in omega (arith, l, size)))
-        where
-          root-reached : slice_get start.outs place ≡ None → place ≡ root
-          root-reached e = elim (eqb_tells place root) [
-            | inl p ↦ p.1
-            | inr p ↦ (let ne : place ≢ root = p.1 in let b = within in let c = opened.count.0 in let s = some_at start.outs place (omega (arith, ne, b, c)) in not-both (slice_get start.outs place) s.0 e s.1)
-          ]
-      by_end (Some o) e = sym (ne-eqb (place + 1) (length start.nodes) (λ q. absurd (let l = slice_get_within start.outs place o e in let c = opened.count.0 in omega (arith, q, l, c, size))))
+  root-is = root-there root start.outs start.inns opened place (length start.nodes) within size
 
   -- this place is back, with the deal that is left
   module _ (y : Deal W) (seat : Seat W) (seats : deal.seats.items ≡ y.seats.items ++ seat ∷ []) (ends : y.ins.items ≡ take (length deal.ins.items - length cs) deal.ins.items)
@@ -402,13 +374,13 @@ module _ {W S : Type 0} (g : Ghosts W S) (stop : Stop) (start : Opened W) (ins :
         subst (λ (s : Seat W). IsFit g y.ins.items k s) (seats-left k e l)
         (fit-still g deal.ins.items y.ins.items k (get_or deal.seats.items k e) (λ i. ends-left k i m.1) (h.fit w d in-deals k e m.0))
 
-    hands-left : HandsCarry g (dealt (length (set deals w y)) (suc place) (places (suc place) (drop (suc place) start.nodes) ins start.outs start.inns)) (set deals w y)
+    hands-left : HandsCarry g (dealt goes (length (set deals w y)) (suc place) (places (suc place) (drop (suc place) start.nodes) ins start.outs start.inns)) (set deals w y)
     hands-left =
-        subst (λ l. HandsCarry g (dealt l (suc place) (places (suc place) (drop (suc place) start.nodes) ins start.outs start.inns)) (set deals w y)) (sym (length-set deals w y))
+        subst (λ l. HandsCarry g (dealt goes l (suc place) (places (suc place) (drop (suc place) start.nodes) ins start.outs start.inns)) (set deals w y)) (sym (length-set deals w y))
         (rest-back g hands w x deals in-hands carried-hands d y
         (subst (λ es. SeatsCarry g hand.ins es hand.seats y.seats.items) (sym same-ins) (subst (λ ss. SeatsCarry g hand.ins back.rest.ins hand.seats ss) (sym same-seats.0) back.others)))
 
-    pub one-more-back : AreTakenBack g stop start ins (suc place) (set deals w y) (nodes ++ seat.node ∷ []) (without outs cs ++ seat.out ∷ [])
+    pub one-more-back : AreTakenBack g stop start ins goes (suc place) (set deals w y) (nodes ++ seat.node ∷ []) (without outs cs ++ seat.out ∷ [])
     one-more-back = record {
       hands = hands-left;
       fit = each-one (λ j e. DealFits g e) deals w y fit-left (λ j e l ne. h.fit j e l);
@@ -423,97 +395,3 @@ module _ {W S : Type 0} (g : Ghosts W S) (stop : Stop) (start : Opened W) (ins :
       whole = whole-next;
       kept = kept-next;
     }
-
--- the same as the code meets it
-module _ {W S : Type 0} (g : Ghosts W S) (stop : Stop) (start : Opened W) (ins : List (List ℕ)) (ok : IsStart g ins start) (place : ℕ) (inside : place < length start.nodes) (deals : List (Deal W))
-    (workers : 0 < length deals) (nodes : List (Node W)) (outs : List (Option OutSeen)) (h : AreTakenBack g stop start ins place deals nodes outs) (count : ℕ) (counted : count ≡ length deals)
-    (deal : Deal W) (here : deal ≡ get_or deals (place % count) deal) (cs : List ℕ) (childs : cs ≡ children ins place) where
-  root : ℕ
-  root = length start.nodes - 1
-
-  size : length start.nodes ≡ length start.nodes - 1 + 1
-  size = let s = ok.some in omega (arith, s)
-
-  node_at : (n : Node W) × (slice_get start.nodes place ≡ Some n)
-  node_at = some_at start.nodes place inside
-
-  there : get_or deals (place % length deals) deal ≡ deal
-  there = sym (here ∙ ap (λ n. get_or deals (place % n) deal) counted)
-
-  pub seat-there : 0 < length deal.seats.items
-  seat-there = subst (λ (z : Deal W). 0 < length z.seats.items) there
-      (some-seat g stop start ins (length start.nodes - 1) place ok.opened size ok.fresh ok.forest deals workers nodes outs h node_at.0 node_at.1 deal)
-
-  pub ends-there : length cs ≤ length deal.ins.items
-  ends-there = subst (λ xs. length xs ≤ length deal.ins.items) (sym childs) (subst (λ (z : Deal W). length (children ins place) ≤ length z.ins.items) there
-      (room g stop start ins (length start.nodes - 1) place ok.opened size ok.fresh ok.forest deals workers nodes outs h node_at.0 node_at.1 deal))
-
-  pub children-once : AreOnce cs
-  children-once = subst (λ xs. AreOnce xs) (sym childs)
-      (once g stop start ins (length start.nodes - 1) place ok.opened size ok.fresh ok.forest deals workers nodes outs h node_at.0 node_at.1 deal)
-
-  pub edges-one : EdgesFrom AreOfOne outs cs (length deal.ins.items - length cs) deal.ins.items
-  edges-one = subst (λ xs. EdgesFrom AreOfOne outs xs (length deal.ins.items - length xs) deal.ins.items) (sym childs)
-      (subst (λ (z : Deal W). EdgesFrom AreOfOne outs (children ins place) (length z.ins.items - length (children ins place)) z.ins.items) there
-      (one g stop start ins (length start.nodes - 1) place ok.opened size ok.fresh ok.forest deals workers nodes outs h node_at.0 node_at.1 deal))
-
-  pub place-back : (y : Deal W) (seat : Seat W) (nodes_now : List (Node W)) (outs_left outs_now : List (Option OutSeen)) → deal.seats.items ≡ y.seats.items ++ seat ∷ []
-      → y.ins.items ≡ take (length deal.ins.items - length cs) deal.ins.items → EdgesFrom IsSettled outs cs (length deal.ins.items - length cs) deal.ins.items
-      → outs_left ≡ without outs cs → nodes_now ≡ nodes ++ seat.node ∷ [] → outs_now ≡ outs_left ++ seat.out ∷ []
-      → AreTakenBack g stop start ins (place + 1) (set deals (place % count) y) nodes_now outs_now
-  place-back y seat nodes_now outs_left outs_now seats ends settled left a b =
-      let back : AreTakenBack g stop start ins (suc place) (set deals (place % length deals) y) (nodes ++ seat.node ∷ []) (without outs (children ins place) ++ seat.out ∷ []) =
-      one-more-back g stop start ins (length start.nodes - 1) place ok.opened size ok.fresh ok.forest deals workers nodes outs h node_at.0 node_at.1 deal y seat
-      (ap (λ (z : Deal W). z.seats.items) there ∙ seats)
-      (subst (λ xs. y.ins.items ≡ take (length (get_or deals (place % length deals) deal).ins.items - length xs) (get_or deals (place % length deals) deal).ins.items) childs
-      (subst (λ (z : Deal W). y.ins.items ≡ take (length z.ins.items - length cs) z.ins.items) (sym there) ends))
-      (subst (λ xs. EdgesFrom IsSettled outs xs (length (get_or deals (place % length deals) deal).ins.items - length xs) (get_or deals (place % length deals) deal).ins.items) childs
-      (subst (λ (z : Deal W). EdgesFrom IsSettled outs cs (length z.ins.items - length cs) z.ins.items) (sym there) settled)) in
-      subst (λ p. AreTakenBack g stop start ins p (set deals (place % count) y) nodes_now outs_now) {x = suc place} {y = place + 1} (omega arith)
-      (subst (λ k. AreTakenBack g stop start ins (suc place) (set deals (place % k) y) nodes_now outs_now) (sym counted)
-      (subst (λ ns. AreTakenBack g stop start ins (suc place) (set deals (place % length deals) y) ns outs_now) (sym a)
-      (subst (λ os. AreTakenBack g stop start ins (suc place) (set deals (place % length deals) y) (nodes ++ seat.node ∷ []) os)
-      (sym (b ∙ ap (λ os. os ++ seat.out ∷ []) (left ∙ ap (without outs) childs))) back)))
-
--- before the first and after the last
-module _ {W S : Type 0} (g : Ghosts W S) (stop : Stop) (start : Opened W) (ins : List (List ℕ)) (deals : List (Deal W)) (nodes : List (Node W)) (outs : List (Option OutSeen)) where
-  pub none-back : HandsCarry g (dealt (length deals) 0 (places 0 start.nodes ins start.outs start.inns)) deals → DealsFit g deals → DealsOver stop deals → nodes ≡ [] → outs ≡ []
-      → AreTakenBack g stop start ins 0 deals nodes outs
-  none-back hands fit over no_nodes no_outs = record {
-    hands = hands;
-    fit = fit;
-    over = over-none g stop deals nodes no_nodes over;
-    counts = (ap (λ (ys : List (Node W)). length ys) no_nodes, ap (λ (ys : List (Option OutSeen)). length ys) no_outs);
-    carriage = record { sent = λ k. []; took = λ k input. []; left = λ k input. [] };
-    parts = λ k input child l. absurd (omega (arith, l));
-    carried = λ k n m e f. not-both (slice_get nodes k) m (ap (λ ys. slice_get ys k) no_nodes) f;
-    whole = λ k m f. not-both (slice_get nodes k) m (ap (λ ys. slice_get ys k) no_nodes) f;
-    kept = λ k l. absurd (omega (arith, l));
-  }
-
-  module _ (place : ℕ) (h : AreTakenBack g stop start ins place deals nodes outs) (all : place ≡ length start.nodes) where
-    pub all-carried : AreCarried g ins start.nodes nodes
-    all-carried = record {
-      count = h.counts.0 ∙ all;
-      carriage = h.carriage;
-      parts = λ k input child l. h.parts k input child (omega (arith, l, all));
-      nodes = h.carried;
-      whole = h.whole;
-    }
-
-    pub deals-empty : Each (λ i (deal : Deal W). vec_len deal.seats ≡ 0) deals
-    deals-empty i d l =
-        let hands : HandsCarry g (replicate (length deals) empty_hand) deals =
-        subst (λ ns. HandsCarry g (dealt (length deals) place (places place ns ins start.outs start.inns)) deals) (drop_all place start.nodes (omega (arith, all))) h.hands in
-        let c = hands.each i empty_hand d (let n = hands.len in omega (arith, l, n)) in
-        (get_or deals i d).seats.ok.0 ∙ c.seats.len ∙ ap (λ (z : Hand W). length z.seats) (get_or-replicate {A = Hand W} (length deals) i empty_hand empty_hand l)
-
--- the deals after the workers' and the caller's turns
-pub hands-on : {W S : Type 0} (g : Ghosts W S) (hands : List (Hand W)) (deals later : List (Deal W)) → map hand_of deals ≡ hands → DealsCarry g deals later → HandsCarry g hands later
-hands-on {W = W} g hands deals later e h = record {
-  len = h.len ∙ sym (length-map deals hand_of) ∙ ap (λ (z : List (Hand W)). length z) e;
-  each = λ i p d l.
-      let inside : i < length deals = (let a = length-map deals hand_of in let b : length (map hand_of deals) ≡ length hands = ap (λ (z : List (Hand W)). length z) e in omega (arith, l, a, b)) in
-      subst (λ (z : Hand W). SeatsCarry g z.ins (get_or later i d).ins.items z.seats (get_or later i d).seats.items)
-      (sym (get_or-map hand_of deals i d p inside) ∙ ap (λ z. get_or z i p) e) (h.each i d inside);
-}

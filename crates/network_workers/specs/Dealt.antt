@@ -1,5 +1,6 @@
 -- The nodes of a tree at their places, and how they are dealt to workers.
-use Rattle.std.specs.Prelude.{◌≡◌, ℕ, ◌%◌, ◌<◌, List, [], ◌∷◌, ◌++◌, length, Option, Some, None, replicate, slice_get, slice_index_or, slice_set}
+use Rattle.std.specs.Prelude.{◌≡◌, ℕ, ◌%◌, ◌<◌, Bool, List, [], ◌∷◌, ◌++◌, length, map, take, Option, Some, None, replicate, slice_get, slice_index_or, slice_set}
+use Rattle.std.specs.List.{count_by, range_with_len}
 use Rattle.std.proofs.Common.{suc}
 use Rattle.cloud_points.specs.declared.work.Work.{Ghosts}
 use Rattle.chunk_queue.specs.Ends.{InSeen, OutSeen}
@@ -41,12 +42,29 @@ abbrev pub with_place : {W : Type 0} → Place W → Hand W → Hand W
 with_place x hand =
     record { seats = hand.seats ++ seat_of x ∷ []; ins = hand.ins ++ entries (length hand.seats) 0 x.ins }
 
--- the nodes from this place on, the last one first, dealt to so many workers: the one at place p to worker p mod so many
-abbrev pub dealt : {W : Type 0} → ℕ → ℕ → List (Place W) → List (Hand W)
-dealt workers place [] = replicate workers empty_hand
-dealt workers place (x ∷ xs) =
-    slice_set (dealt workers (suc place) xs) (place % workers)
-    (with_place x (slice_index_or (dealt workers (suc place) xs) (place % workers) empty_hand))
+-- how many of a tree's nodes are its own, as is said of each node. The others are leaves that give nothing
+abbrev pub own_count : List Bool → ℕ
+own_count own = count_by (λ is. is) own
+
+-- for each node the worker to whom it goes, of so many: it is the number of own nodes before it modulo theirs. So own nodes go to
+-- workers in turn
+abbrev pub workers_for : ℕ → List Bool → List ℕ
+workers_for workers own = map (λ place. own_count (take place own) % workers) (range_with_len 0 (length own))
+
+-- the worker to whom the node at a place goes
+abbrev pub worker_at : List ℕ → ℕ → ℕ
+worker_at goes place = slice_index_or goes place 0
+
+-- each node goes to one of so many workers
+abbrev pub AreWorkers : ℕ → List ℕ → Type 0
+AreWorkers workers goes = (place : ℕ) → worker_at goes place < workers
+
+-- the nodes from this place on, the last one first, dealt to so many workers, each to the one to whom it goes
+abbrev pub dealt : {W : Type 0} → List ℕ → ℕ → ℕ → List (Place W) → List (Hand W)
+dealt goes workers place [] = replicate workers empty_hand
+dealt goes workers place (x ∷ xs) =
+    slice_set (dealt goes workers (suc place) xs) (worker_at goes place)
+    (with_place x (slice_index_or (dealt goes workers (suc place) xs) (worker_at goes place) empty_hand))
 
 -- an element more, where there is one
 abbrev pub add_some : {X : Type 0} → Option X → List X → List X

@@ -91,11 +91,12 @@ abbrev pub IsOverFor : {W S : Type 0} (g : Ghosts W S) → Stop → List (Deal W
 IsOverFor g stop deals nodes = (DealsDone deals × AllDone g nodes)
     ⊎ ((stop ≡ First) × (Somewhere (stops_among First deals) ⊎ SomeFault g nodes))
 
--- the nodes before this place were taken back, each with the end on which it sent, and the others are in the deals
-pub record AreTakenBack {W S : Type 0} (g : Ghosts W S) (stop : Stop) (start : Opened W) (ins : List (List ℕ)) (place : ℕ)
+-- the nodes before this place were taken back, each with the end on which it sent, and the others are in the deals of the workers to
+-- whom they go
+pub record AreTakenBack {W S : Type 0} (g : Ghosts W S) (stop : Stop) (start : Opened W) (ins : List (List ℕ)) (goes : List ℕ) (place : ℕ)
     (deals : List (Deal W)) (nodes : List (Node W)) (outs : List (Option OutSeen)) : Type 0 where
   pub hands : HandsCarry g
-      (dealt (length deals) place (places place (drop place start.nodes) ins start.outs start.inns)) deals
+      (dealt goes (length deals) place (places place (drop place start.nodes) ins start.outs start.inns)) deals
   pub fit : DealsFit g deals
   pub over : IsOverFor g stop deals nodes
   pub counts : (length nodes ≡ place) × (length outs ≡ place)

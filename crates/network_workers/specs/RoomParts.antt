@@ -11,6 +11,10 @@ nodes_in room = length room.outs.items
 abbrev pub workers_in : {W : Type 0} → WorkerRoom W → ℕ
 workers_in room = length room.deals.items
 
+-- for each node the worker to whom it goes
+abbrev pub takers_in : {W : Type 0} → WorkerRoom W → List ℕ
+takers_in room = room.takers.items
+
 -- the two ends of the queue above each node but the root
 abbrev pub outs_of : {W : Type 0} → WorkerRoom W → List OutSeen
 outs_of room = present room.outs.items

@@ -1,10 +1,10 @@
 -- The memory in which the nodes of a tree take turns on several threads.
-use Rattle.std.specs.Prelude.{◌≡◌, ℕ, ◌+◌, ◌-◌, ◌*◌, ◌^◌, ◌<◌, ◌≤◌, true, List, [], ◌∷◌, ◌++◌, length, map, Option, Some, None, is_some, slice_get, slice_index_or, vec_len, vec_capacity}
+use Rattle.std.specs.Prelude.{◌≡◌, ℕ, ◌+◌, ◌-◌, ◌^◌, ◌<◌, ◌≤◌, true, List, [], ◌∷◌, ◌++◌, length, map, Option, Some, None, is_some, slice_get, slice_index_or, vec_len, vec_capacity}
 use Rattle.chunk_queue.specs.Ends.{InSeen, OutSeen}
 use Rattle.network_theory.specs.Forest.{count_in}
 use Rattle.network_workers.specs.declared.seats.Seat.{Seat}
 use Rattle.network_workers.specs.declared.seats.Deal.{Deal}
-use Rattle.network_workers.specs.Dealt.{Place, Hand, AreOpened, add_some, empty_hand, hand_of}
+use Rattle.network_workers.specs.Dealt.{Place, Hand, AreOpened, AreWorkers, add_some, empty_hand, hand_of}
 use Rattle.network_workers.specs.Lists.{Each}
 
 -- those that are there
@@ -49,15 +49,14 @@ HasSeat deal = (length deal.seats.items < vec_capacity deal.seats) × (length de
 abbrev pub HasEnds : {W : Type 0} → ℕ → Deal W → Type 0
 HasEnds more deal = length deal.ins.items + more ≤ vec_capacity deal.ins
 
--- a worker has room for the seats that come to it when so many nodes are dealt to so many workers, and for so many ends
--- besides those that it has
-pub record HasRoom {W : Type 0} (nodes workers more : ℕ) (deal : Deal W) : Type 0 where
-  pub seats : nodes ≤ vec_capacity deal.seats * workers
+-- a worker has room for the seats of all nodes that go to it, and for so many ends besides those that it has
+pub record HasRoom {W : Type 0} (goes : List ℕ) (worker more : ℕ) (deal : Deal W) : Type 0 where
+  pub seats : count_in worker goes ≤ vec_capacity deal.seats
   pub ins : HasEnds more deal
 
 -- and all workers have
-abbrev pub HaveRoom : {W : Type 0} → ℕ → ℕ → ℕ → List (Deal W) → Type 0
-HaveRoom nodes workers more deals = Each (λ i deal. HasRoom nodes workers more deal) deals
+abbrev pub HaveRoom : {W : Type 0} → List ℕ → ℕ → List (Deal W) → Type 0
+HaveRoom goes more deals = Each (λ i deal. HasRoom goes i more deal) deals
 
 -- a worker without a node, with room for so many seats and so many ends
 pub record IsIdle {W : Type 0} (seats ends : ℕ) (deal : Deal W) : Type 0 where
@@ -76,12 +75,14 @@ pub record AreNewEnds (nodes : ℕ) (outs : List (Option OutSeen)) (inns : List 
 abbrev pub HaveCapacity : ℕ → List (Option OutSeen) → Type 0
 HaveCapacity queue outs = (k : ℕ) (out : OutSeen) → slice_get outs k ≡ Some (Some out) → out.capacity ≡ queue
 
--- a list of that many ends with room for as many, and workers without a node that have room for all
-pub record IsRoom {W : Type 0} (held : ℕ) (outs : List (Option OutSeen)) (inns : List (Option InSeen))
+-- a list of that many ends with room for as many, and workers without a node that have room for those that go to them, and for all
+-- ends
+pub record IsRoom {W : Type 0} (held : ℕ) (goes : List ℕ) (outs : List (Option OutSeen)) (inns : List (Option InSeen))
     (deals : List (Deal W)) : Type 0 where
   pub some : (0 < length outs) × (0 < length deals)
   pub few : (length outs ≤ 64) × (length deals ≤ 32)
   pub capacity : length outs ≤ held
   pub ends : AreNewEnds (length outs) outs inns
   pub idle : Each (λ i deal. (vec_len deal.seats ≡ 0) × (hand_of deal ≡ empty_hand)) deals
-  pub room : HaveRoom (length outs) (length deals) (left inns) deals
+  pub takers : (length goes ≡ length outs) × AreWorkers (length deals) goes
+  pub room : HaveRoom goes (left inns) deals

@@ -50,10 +50,10 @@ impl<W: Work, F: Fn(NodeList<W>, InsList, WorkerRoom<W>) -> NodeList<W>> Schedul
     fn edges(
         &self,
         alloc: Global,
-        nodes: usize,
+        own: &[bool],
         capacity: usize,
     ) -> Result<WorkerRoom<W>, AllocError> {
-        WorkerRoom::new(alloc, nodes, capacity, self.workers)
+        WorkerRoom::new(alloc, own, capacity, self.workers)
     }
 
     fn run(&self, nodes: NodeList<W>, ins: InsList, edges: WorkerRoom<W>) -> NodeList<W>

@@ -3,7 +3,7 @@
 ghost use Rattle.std.specs.Prelude.{◌≡◌, ◌<◌, ◌≤◌, ◌+◌, ◌^◌, ◌++◌, ◌∷◌, [], None};
 ghost use Rattle.std.specs.Prelude.{length, slice_index_or, slice_set, vec_capacity};
 ghost use Rattle.network_workers.specs.Crews.{HasRun};
-ghost use Rattle.network_workers.specs.Dealt.{dealt, places, HandsCarry};
+ghost use Rattle.network_workers.specs.Dealt.{dealt, places, AreWorkers, HandsCarry};
 ghost use Rattle.network_workers.specs.Gathered.{AreOfOne, IsSettled, LastEdge, LastEdges, AreOnce};
 ghost use Rattle.network_workers.specs.Gathered.{without, but_last};
 ghost use Rattle.network_workers.specs.Gathered.{Turned, IsStart, AreTakenBack};
@@ -77,6 +77,7 @@ fn take_seat<W: Work>(
 /// Takes the node at a place back, once all nodes below it are back.
 fn take_back<W: Work>(
     deals: &mut Vec<Deal<W>>,
+    takers: &[usize],
     place: usize,
     ins: &InsList,
     nodes: &mut Vec<Node<W>>,
@@ -85,19 +86,19 @@ fn take_back<W: Work>(
     ghost turned: { Turned W }
     requires tree { IsStart W.Work ins.now turned.start }
     requires place { place < length turned.start.nodes }
-    requires workers { 0 < length deals.old.items }
+    requires takers { length takers.now ≡ length turned.start.nodes }
+    requires workers { AreWorkers (length deals.old.items) takers.now }
     requires nodes { length turned.start.nodes ≤ vec_capacity nodes.old }
     requires outs { length turned.start.nodes ≤ vec_capacity outs.old }
-    requires back { AreTakenBack W.Work turned.stop turned.start ins.now place deals.old.items nodes.old.items
-        outs.old.items }
+    requires back { AreTakenBack W.Work turned.stop turned.start ins.now takers.now place deals.old.items
+        nodes.old.items outs.old.items }
     ensures workers { length deals.new.items ≡ length deals.old.items }
     ensures nodes { vec_capacity nodes.new ≡ vec_capacity nodes.old }
     ensures outs { vec_capacity outs.new ≡ vec_capacity outs.old }
-    ensures back { AreTakenBack W.Work turned.stop turned.start ins.now (place + 1) deals.new.items nodes.new.items
-        outs.new.items }
+    ensures back { AreTakenBack W.Work turned.stop turned.start ins.now takers.now (place + 1) deals.new.items
+        nodes.new.items outs.new.items }
 {
-    let worker = place % deals.len();
-    let deal = &mut deals[worker];
+    let deal = &mut deals[takers[place]];
     let seat = take_seat(&mut deal.seats, &mut deal.ins, ins.children(place), outs);
     let Seat {
         stage: _,
@@ -109,22 +110,23 @@ fn take_back<W: Work>(
 }
 
 /// Takes all nodes back from the workers, and settles the queue above each but the root: what was got is a first part of what
-/// was sent, and all of it where the node that took it is done. The two lists are empty and have room.
+/// was sent, and all of it where the node that took it is done. `takers` has the worker to whom each node went. The two lists
+/// are empty and have room.
 pub(crate) fn gather<W: Work>(
     deals: Vec<Deal<W>>,
-    count: usize,
+    takers: &[usize],
     ins: &InsList,
     nodes: Vec<Node<W>>,
     outs: Vec<Option<RuledOut>>,
 ) -> NodeList<W>
     ghost turned: { Turned W }
     requires tree { IsStart W.Work ins.now turned.start }
-    requires count { count ≡ length turned.start.nodes }
-    requires few { count < 2 ^ 32 }
-    requires workers { 0 < length deals.items }
-    requires nodes { (nodes.items ≡ []) × (count ≤ vec_capacity nodes) }
-    requires outs { (outs.items ≡ []) × (count ≤ vec_capacity outs) }
-    requires carried { HandsCarry W.Work (dealt (length deals.items) 0
+    requires takers { length takers.now ≡ length turned.start.nodes }
+    requires few { length takers.now < 2 ^ 32 }
+    requires workers { AreWorkers (length deals.items) takers.now }
+    requires nodes { (nodes.items ≡ []) × (length takers.now ≤ vec_capacity nodes) }
+    requires outs { (outs.items ≡ []) × (length takers.now ≤ vec_capacity outs) }
+    requires carried { HandsCarry W.Work (dealt takers.now (length deals.items) 0
         (places 0 turned.start.nodes ins.now turned.start.outs turned.start.inns)) deals.items }
     requires fit { DealsFit W.Work deals.items }
     requires over { DealsOver turned.stop deals.items }
@@ -133,8 +135,8 @@ pub(crate) fn gather<W: Work>(
     let mut deals = deals;
     let mut nodes = nodes;
     let mut outs = outs;
-    for place in 0..count {
-        take_back(&mut deals, place, ins, &mut nodes, &mut outs);
+    for place in 0..takers.len() {
+        take_back(&mut deals, takers, place, ins, &mut nodes, &mut outs);
     }
     WorkerRoom::end_deals(deals);
     NodeList::new(nodes)

@@ -1,6 +1,6 @@
 //! The nodes of a tree are dealt to workers.
 
-ghost use Rattle.std.specs.Prelude.{◌≡◌, ◌<◌, ◌≤◌, ◌+◌, ◌-◌, ◌^◌, ◌++◌, ℕ, [], true, length};
+ghost use Rattle.std.specs.Prelude.{◌≡◌, ◌<◌, ◌≤◌, ◌+◌, ◌-◌, ◌^◌, ◌++◌, [], List, ℕ, true, length};
 ghost use Rattle.std.specs.Prelude.{Some, None, is_some, slice_get, slice_index_or, slice_set, vec_capacity};
 ghost use Rattle.network_theory.specs.Forest.{IsForest};
 ghost use Rattle.network_solo.specs.Trees.{AreFresh};
@@ -10,7 +10,7 @@ ghost use Rattle.network_workers.specs.Lists.{Each};
 ghost use Rattle.network_workers.specs.Rooms.{left, end_at, ends_at, place_of, hands_of};
 ghost use Rattle.network_workers.specs.Rooms.{AreThere, OthersStay};
 ghost use Rattle.network_workers.specs.Rooms.{HasSeat, HasEnds, HaveRoom};
-ghost use Rattle.network_workers.specs.RoomParts.{nodes_in, outs_of, inns_of, workers_in};
+ghost use Rattle.network_workers.specs.RoomParts.{nodes_in, outs_of, inns_of, workers_in, takers_in};
 ghost use Rattle.network_workers.specs.Seats.{DealsFit, AreFew};
 
 use crate::rooms::WorkerRoom;
@@ -19,10 +19,11 @@ use chunk_queue::{RuledIn, RuledOut};
 use cloud_points::Work;
 use network_core::{InsList, Node, NodeList};
 
-/// Workers with the nodes that were dealt to them, and the emptied lists of the nodes and of the ends above
-/// them.
+/// Workers with the nodes that were dealt to them, the worker to whom each node went, and the emptied lists of
+/// the nodes and of the ends above them.
 pub(crate) struct Dealt<W> {
     pub(crate) deals: Vec<Deal<W>>,
+    pub(crate) takers: Vec<usize>,
     pub(crate) nodes: Vec<Node<W>>,
     pub(crate) outs: Vec<Option<RuledOut>>,
 }
@@ -96,23 +97,24 @@ fn give_to<W: Work>(
     ensures given { hands_of deals.new.items ≡ slice_set (hands_of deals.old.items) worker
         (with_place (place_of seat (ends_at inns.old.items children.now))
         (slice_index_or (hands_of deals.old.items) worker empty_hand)) }
-    ensures room { (nodes workers : ℕ) → HaveRoom nodes workers (left inns.old.items) deals.old.items
-        → HaveRoom nodes workers (left inns.new.items) deals.new.items }
+    ensures room { (goes : List ℕ) → HaveRoom goes (left inns.old.items) deals.old.items
+        → HaveRoom goes (left inns.new.items) deals.new.items }
     ensures others { OthersStay children.now inns.old.items inns.new.items }
     ensures left { left inns.new.items ≤ left inns.old.items }
 {
     give(&mut deals[worker], seat, children, inns);
 }
 
-/// Deals new nodes to the workers of a room: the node at place p goes to worker p modulo their number, with
-/// the end above it and those above its children. It takes no memory.
+/// Deals new nodes to the workers of a room, each to the one to whom it goes, with the end above it and those
+/// above its children. It takes no memory.
 pub(crate) fn deal<W: Work>(nodes: NodeList<W>, ins: &InsList, room: WorkerRoom<W>) -> Dealt<W>
     requires some { 0 < length nodes }
     requires fresh { AreFresh W.Work ins.now nodes }
     requires forest { IsForest ins.now (length nodes - 1) }
     requires room { nodes_in room ≡ length nodes }
     ensures dealt { hands_of result.deals.items
-        ≡ dealt (workers_in room) 0 (places 0 nodes ins.now (outs_of room) (inns_of room)) }
+        ≡ dealt (takers_in room) (workers_in room) 0 (places 0 nodes ins.now (outs_of room) (inns_of room)) }
+    ensures takers { result.takers.items ≡ takers_in room }
     ensures few { AreFew result.deals.items }
     ensures fit { DealsFit W.Work result.deals.items }
     ensures workers { (length result.deals.items ≡ workers_in room) × (length result.deals.items ≤ 32) }
@@ -123,9 +125,9 @@ pub(crate) fn deal<W: Work>(nodes: NodeList<W>, ins: &InsList, room: WorkerRoom<
     let WorkerRoom {
         mut outs,
         mut inns,
+        takers,
         mut deals,
     } = room;
-    let workers = deals.len();
     while let Some(node) = nodes.pop() {
         let place = nodes.len();
         let out = outs.pop().flatten();
@@ -133,11 +135,16 @@ pub(crate) fn deal<W: Work>(nodes: NodeList<W>, ins: &InsList, room: WorkerRoom<
         let seat = Seat { stage, node, out };
         give_to(
             &mut deals,
-            place % workers,
+            takers[place],
             seat,
             ins.children(place),
             &mut inns,
         );
     }
-    Dealt { deals, nodes, outs }
+    Dealt {
+        deals,
+        takers,
+        nodes,
+        outs,
+    }
 }

@@ -1,6 +1,8 @@
 //! The memory in which the nodes of a tree take turns on several threads.
 
-ghost use Rattle.std.specs.Prelude.{vec_capacity};
+ghost use Rattle.std.specs.Prelude.{◌≡◌, ◌<◌, ◌==◌, IfOk, vec_capacity};
+ghost use Rattle.std.specs.List.{count_by};
+ghost use Rattle.network_workers.specs.Dealt.{own_count, workers_for};
 ghost use Rattle.network_workers.specs.Rooms.{IsRoom};
 
 use crate::seats::Deal;
@@ -16,9 +18,12 @@ pub struct WorkerRoom<W> {
     /// For each node but the root the end at which its parent takes what was sent.
     pub(crate) inns: Vec<Option<RuledIn>>,
 
+    /// For each node the number of the worker that takes it.
+    pub(crate) takers: Vec<usize>,
+
     /// The workers, none of which has a node yet.
     pub(crate) deals: Vec<Deal<W>>,
-    ghost sound: { IsRoom (vec_capacity outs) outs.items inns.items deals.items },
+    ghost sound: { IsRoom (vec_capacity outs) takers.items outs.items inns.items deals.items },
 }
 
 /// The two ends of the queue above each of several nodes.
@@ -54,6 +59,34 @@ impl Ends {
     }
 }
 
+/// How many of a tree's nodes are its own.
+fn own_count(own: &[bool]) -> usize
+    ensures { result ≡ own_count own.now }
+{
+    own.iter().filter(|is_own| **is_own).count()
+}
+
+/// For each node the worker to whom it goes: own nodes to workers in turn.
+fn takers_for(alloc: Global, own: &[bool], workers: usize) -> Result<Vec<usize>, AllocError>
+    requires { 0 < workers }
+    ensures { IfOk result (λ takers. takers.items ≡ workers_for workers own.now) }
+{
+    let mut takers = Vec::with_capacity(alloc, own.len())?;
+    let mut before = 0;
+    for is_own in own {
+        takers.push_reserved(before % workers);
+        before += usize::from(*is_own);
+    }
+    Ok(takers)
+}
+
+/// How many nodes go to a worker.
+fn seats_of(takers: &[usize], worker: usize) -> usize
+    ensures { result ≡ count_by (λ to. to == worker) takers.now }
+{
+    takers.iter().filter(|taker| **taker == worker).count()
+}
+
 impl<W> Deal<W> {
     ghost use Rattle.std.specs.Prelude.{◌≡◌, ℕ, IfOk};
     ghost use Rattle.network_workers.specs.Rooms.{IsIdle};
@@ -69,33 +102,42 @@ impl<W> Deal<W> {
 }
 
 impl<W> WorkerRoom<W> {
-    ghost use Rattle.std.specs.Prelude.{◌≡◌, ◌<◌, ◌≤◌, min, length, vec_len, IfOk};
+    ghost use Rattle.std.specs.Prelude.{◌≡◌, ◌<◌, ◌≤◌, min, max, length, vec_len, IfOk};
+    ghost use Rattle.network_theory.specs.Forest.{count_in};
     ghost use Rattle.network_workers.specs.Lists.{Each};
-    ghost use Rattle.network_workers.specs.RoomParts.{HasQueues, nodes_in, workers_in};
+    ghost use Rattle.network_workers.specs.RoomParts.{HasQueues, nodes_in, workers_in, takers_in};
     ghost use Rattle.network_workers.specs.Rooms.{IsIdle};
 
-    /// The memory of a tree of so many nodes, over queues of `queue` items, for `workers` workers; more than
-    /// nodes there need not be. Refuses where memory is wanting.
+    /// The memory of a tree's nodes, over queues of `queue` items, for `workers` workers. `own` says of each
+    /// node whether it is the tree's own; the others are leaves that give nothing. More workers than own nodes
+    /// there need not be, and own nodes go to them in turn. Refuses where memory is wanting.
     pub fn new(
         alloc: Global,
-        nodes: usize,
+        own: &[bool],
         queue: usize,
         workers: u32,
     ) -> Result<WorkerRoom<W>, AllocError>
-        requires some { 0 < nodes }
-        requires few { nodes ≤ 64 }
+        requires some { 0 < length own.now }
+        requires few { length own.now ≤ 64 }
         requires room { 0 < queue }
         requires small { queue ≤ 64 }
         requires one { 0 < workers }
         requires most { workers ≤ 32 }
-        ensures nodes { IfOk result (λ room. nodes_in room ≡ nodes) }
+        ensures nodes { IfOk result (λ room. nodes_in room ≡ length own.now) }
         ensures queues { IfOk result (HasQueues queue) }
-        ensures workers { IfOk result (λ room. workers_in room ≡ min workers nodes) }
+        ensures workers { IfOk result (λ room. workers_in room ≡ min workers (max (own_count own.now) 1)) }
+        ensures takers { IfOk result (λ room. takers_in room ≡ workers_for (workers_in room) own.now) }
     {
-        let Ends { outs, inns } = Ends::new(alloc, nodes, queue)?;
-        let workers = (workers as usize).min(nodes);
-        let deals = WorkerRoom::new_deals(alloc, workers, nodes.div_ceil(workers), nodes - 1)?;
-        Ok(WorkerRoom { outs, inns, deals })
+        let Ends { outs, inns } = Ends::new(alloc, own.len(), queue)?;
+        let workers = (workers as usize).min(own_count(own).max(1));
+        let takers = takers_for(alloc, own, workers)?;
+        let deals = WorkerRoom::new_deals(alloc, takers.as_slice(), workers, own.len() - 1)?;
+        Ok(WorkerRoom {
+            outs,
+            inns,
+            takers,
+            deals,
+        })
     }
 
     /// Gives it back.
@@ -104,23 +146,26 @@ impl<W> WorkerRoom<W> {
             deals,
             outs: _outs,
             inns: _inns,
+            takers: _takers,
         } = self;
         WorkerRoom::end_deals(deals);
     }
 
-    /// So many workers without a node, each with room for so many seats and so many ends.
+    /// So many workers without a node, each with room for the seats of the nodes that go to it and for so many
+    /// ends.
     fn new_deals(
         alloc: Global,
+        takers: &[usize],
         workers: usize,
-        seats: usize,
         ends: usize,
     ) -> Result<Vec<Deal<W>>, AllocError>
         ensures count { IfOk result (λ deals. length deals.items ≡ workers) }
-        ensures idle { IfOk result (λ deals. Each (λ i deal. IsIdle seats ends deal) deals.items) }
+        ensures idle { IfOk result (λ deals.
+            Each (λ i deal. IsIdle (count_in i takers.now) ends deal) deals.items) }
     {
         let mut deals = Vec::with_capacity(alloc, workers)?;
-        for _worker in 0..workers {
-            match Deal::new(alloc, seats, ends) {
+        for worker in 0..workers {
+            match Deal::new(alloc, seats_of(takers, worker), ends) {
                 Ok(deal) => deals.push_reserved(deal),
                 Err(error) => {
                     WorkerRoom::end_deals(deals);

@@ -96,11 +96,14 @@ fn run_opened<W: Work + Send, R: Threads + Wait + Sync, G: Gate>(
     requires stop { stop ≡ turned.stop }
     ensures { HasRun W.Work turned.stop turned.start.nodes ins.now result }
 {
-    let count = room.outs.as_slice().len();
-    let Dealt { deals, nodes, outs } = deal(nodes, ins, room);
-    let mut deals = deals;
+    let Dealt {
+        mut deals,
+        takers,
+        nodes,
+        outs,
+    } = deal(nodes, ins, room);
     run_deals::<W, R, G, Brand>(rt, &mut deals, patience, gate, stop, Blank::new(1));
-    gather(deals, count, ins, nodes, outs)
+    gather(deals, takers.as_slice(), ins, nodes, outs)
 }
 
 /// Lets new nodes take turns on several threads until all are done, or as `stop` says one has a fault, over the queues and the

@@ -21,7 +21,8 @@ use Rattle.stage_options.specs.declared.options.Options.{Options}
 use Rattle.stage_options.specs.declared.options.Options.TheVariants.{ReadersLas, FiltersAssign, FiltersFerry, FiltersMerge, WritersLas, WritersText, WritersTally}
 use Rattle.answer_model.specs.Rows.{Setting}
 use Rattle.stage_forms.specs.Starts.{IsAtStart, IsStarted, form_for, writes_as}
-use Rattle.stage_forms.proofs.Works.{IsRow, row-is, writer-begins}
+use Rattle.stage_forms.proofs.Works.{writer-begins}
+use Rattle.stage_forms.proofs.Rowed.{IsRow, row-is}
 use Rattle.stage_runs.proofs.Tallied.{tally-count}
 use Rattle.cloud_points.specs.declared.dims.Dim.{Dim}
 use Rattle.expr_lang.specs.Formula.{Formula}

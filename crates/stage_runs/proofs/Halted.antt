@@ -21,7 +21,8 @@ use Rattle.stage_runs.specs.Works.{as_works, ins_of, AreNewStages}
 use Rattle.stage_runs.specs.Short.{SomeGathers}
 use Rattle.stage_runs.specs.Ran.{AreStoppedStages}
 use Rattle.stage_runs.specs.Parts.{gathers_of, IsPartStopped, is_past, AreRunBefore, Besides}
-use Rattle.stage_runs.proofs.Part.{IsRoot, same-number, number-same}
+use Rattle.stage_runs.proofs.Part.{IsRoot}
+use Rattle.stage_runs.proofs.Choices.{same-number, number-same}
 use Rattle.stage_runs.proofs.Steps.{true-lt, above, home-gathers, own-below, at-root, stays, home-faulty, root-faulty, some-faulty}
 use Rattle.plug_stages.specs.declared.filter.PlugFilter as plug_type
 use Rattle.plug_stages.specs.declared.tally.PlugTally as tally_type

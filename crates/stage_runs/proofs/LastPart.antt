@@ -30,7 +30,8 @@ use Rattle.answer_model.specs.Values.{Opened, IsDown, role_at, stage_value, stag
 use Rattle.stage_runs.specs.Works.{as_works, ins_of, AreNewStages, RunOn}
 use Rattle.stage_runs.specs.Ran.{EndsAsStage, AreRanStages, AreStoppedStages, NoneFailed}
 use Rattle.stage_runs.specs.Parts.{gathers_of, IsNewLeaf, GivesAsStage, IsPartRun, IsLeaf, IsLeafRun, IsLeafStopped, is_past, NoneFailedBefore, AreRunBefore, Besides}
-use Rattle.stage_runs.proofs.Part.{IsRoot, gathers-are, same-number}
+use Rattle.stage_runs.proofs.Part.{IsRoot, gathers-are}
+use Rattle.stage_runs.proofs.Choices.{same-number}
 use Rattle.stage_kinds.proofs.Keeping.{keeps-same}
 use Rattle.stage_runs.proofs.Later.{AreTurnedNodes, leaf-empty, ran-turned, stopped-turned}
 use Rattle.stage_runs.proofs.Ran.{held-ends}

@@ -27,7 +27,8 @@ use Rattle.stage_runs.specs.Ran.{AreRanStages, AreStoppedStages}
 use Rattle.stage_runs.specs.Parts.{gathers_of, AreLaterNodes, AreSoundOwn, Besides, IsNewLeaf, IsPartRun, IsPartStopped, IsLeafRun, IsLeafStopped, AreRunBefore, AreTurned, ByParts}
 use Rattle.stage_runs.specs.Rooms.{IsRoom, IsLastRoom, IsStageRoom}
 use Rattle.stage_runs.specs.Short.{RanShort, SomeGathers}
-use Rattle.stage_runs.proofs.Ahead.{last-ahead, own-last}
+use Rattle.stage_runs.proofs.Ahead.{last-ahead}
+use Rattle.stage_runs.proofs.KeepAll.{own-last}
 use Rattle.stage_runs.proofs.Places.{map-at}
 use Rattle.stage_runs.proofs.Asked.{fresh-before, root-inputs, last-leaf}
 use Rattle.stage_runs.proofs.LastPart.{last-streams, last-gathers, last-leaf-stopped}

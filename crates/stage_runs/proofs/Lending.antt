@@ -29,7 +29,7 @@ use Rattle.stage_runs.specs.Parts.{AreSoundOwn, IsExchanged, IsRenewed, IsNewLea
 use Rattle.stage_runs.specs.Rooms.{IsRoom}
 use Rattle.stage_runs.specs.Short.{RanShort, NoneShort}
 use Rattle.stage_runs.proofs.Later.{leaf-empty, later-empty}
-use Rattle.stage_runs.proofs.Part.{same-number, other-number}
+use Rattle.stage_runs.proofs.Choices.{same-number, other-number}
 use Rattle.plug_stages.specs.declared.filter.PlugFilter as plug_type
 use Rattle.plug_stages.specs.declared.tally.PlugTally as tally_type
 

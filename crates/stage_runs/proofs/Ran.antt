@@ -42,7 +42,8 @@ use Rattle.stage_runs.specs.Works.{as_works, AreNewStages, RunOn}
 use Rattle.stage_runs.specs.Ran.{EndsAsStage}
 use Rattle.stage_runs.proofs.Kept.{writing-kept}
 use Rattle.stage_runs.proofs.Places.{mapped-at, map-at}
-use Rattle.stage_forms.proofs.Works.{IsLeaf, IsInner, leaf-is, inner-is, holds-nothing, IsRow, row-is, gather-row, keeps-at-start, op-at-start, writing-at-start, collects-at-start, reads-form, writer-row, nowhere-is}
+use Rattle.stage_forms.proofs.Works.{IsLeaf, IsInner, leaf-is, inner-is, holds-nothing, gather-row, keeps-at-start, op-at-start, writing-at-start, collects-at-start, writer-row, nowhere-is}
+use Rattle.stage_forms.proofs.Rowed.{IsRow, row-is, reads-form}
 use Rattle.stage_forms.proofs.Told.{silent-row, silent-says, told-is}
 use Rattle.stage_kinds.proofs.Natures.{tallies-same}
 use Rattle.plug_stages.specs.declared.filter.PlugFilter as plug_type

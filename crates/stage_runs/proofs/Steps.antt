@@ -35,7 +35,8 @@ use Rattle.stage_runs.specs.Works.{as_works, ins_of, AreNewStages, RunOn}
 use Rattle.stage_runs.specs.Ran.{EndsAsStage}
 use Rattle.stage_runs.specs.Parts.{gathers_of, IsNewLeaf, GivesAsStage, IsPart, IsPartRun, IsPartStopped, IsGatheredAt, is_past, NoneFailedBefore, AreRunBefore, Besides}
 use Rattle.stage_runs.proofs.Later.{AreTurnedNodes, ran-turned, stopped-turned}
-use Rattle.stage_runs.proofs.Part.{IsRoot, gathers-are, same-number, other-number, home-ends, root-holds, root-ends, home-fault, root-fault, stranger-sound}
+use Rattle.stage_runs.proofs.Part.{IsRoot, gathers-are, home-ends, root-holds, root-ends, home-fault, root-fault, stranger-sound}
+use Rattle.stage_runs.proofs.Choices.{same-number, other-number}
 use Rattle.stage_runs.proofs.Ran.{gathers-value, gathers-fault}
 use Rattle.plug_stages.specs.declared.filter.PlugFilter as plug_type
 use Rattle.plug_stages.specs.declared.tally.PlugTally as tally_type

@@ -1,5 +1,6 @@
 -- The memory in which the stages of a tree take turns.
-use Rattle.std.specs.Prelude.{◌≡◌, ℕ, ◌+◌, ◌-◌, Bool, true, false, List, length, Option, Some, None, ⊤}
+use Rattle.std.specs.Prelude.{◌≡◌, ℕ, ◌+◌, ◌-◌, Bool, true, false, List, length, map, Option, Some, None, ⊤}
+use Rattle.std.specs.List.{range_with_len}
 use Rattle.file_devices.specs.declared.devices.Source as source
 use Rattle.file_devices.specs.declared.devices.Sink as sink
 use Rattle.stage_options.specs.declared.stage.StageSpec.{StageSpec}
@@ -8,13 +9,17 @@ use Rattle.stage_runs.specs.declared.plan.Plan.{Plan}
 use Rattle.stage_runs.specs.declared.rooms.PartRoom.{PartRoom}
 use Rattle.stage_runs.specs.declared.rooms.StageRoom.{StageRoom}
 use Rattle.stage_runs.specs.Works.{ins_of}
-use Rattle.stage_runs.specs.Parts.{gathers_of, AreStandIns}
+use Rattle.stage_runs.specs.Parts.{gathers_of, is_own, AreStandIns}
 use Rattle.plug_stages.specs.declared.filter.PlugFilter as plug_type
 use Rattle.plug_stages.specs.declared.tally.PlugTally as tally_type
 
 -- the children of the nodes of a part, as it is planned
 abbrev pub part_of : Plan → ℕ → ℕ → List (List ℕ)
 part_of plan home root = part_ins plan.gathers.items plan.ins plan.homes.items home root
+
+-- whether each node of a part with this root is one of its own, as `is_own` says; the others stand in for nodes of other parts
+abbrev pub own_of : List ℕ → ℕ → ℕ → List Bool
+own_of homes home root = map (is_own homes home root) (range_with_len 0 (root + 1))
 
 -- what fits so many nodes, over queues of this capacity
 module _ {S K P Q E : Type 0} (s : source.Ghosts S) (k : sink.Ghosts K) (fs : plug_type.Ghosts P) (ts : tally_type.Ghosts Q) (fits : ℕ → ℕ → E → Type 0) where

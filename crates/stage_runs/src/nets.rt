@@ -212,7 +212,7 @@ pub(crate) fn run_alone<
     let Ok(mut nodes) = Vec::with_capacity(alloc, 1) else {
         return Alone { node, ended };
     };
-    let Ok(edges) = scheduler.edges(alloc, 1, queue) else {
+    let Ok(edges) = scheduler.edges(alloc, &[true], queue) else {
         nodes.destroy_empty();
         return Alone { node, ended };
     };

@@ -4,7 +4,7 @@ ghost use Rattle.std.specs.Prelude.{◌≡◌, ◌-◌, ◌<◌, ◌≤◌, ℕ,
 ghost use Rattle.pipeline_json.specs.Trees.{IsTree};
 ghost use Rattle.stage_options.specs.Shapes.{shapes};
 ghost use Rattle.stage_parts.specs.Parts.{gathers_at};
-ghost use Rattle.stage_runs.specs.Rooms.{IsRoom, IsLastRoom, IsStageRoom, part_of};
+ghost use Rattle.stage_runs.specs.Rooms.{IsRoom, IsLastRoom, IsStageRoom, own_of, part_of};
 
 use crate::nets::{let_go, stand_ins};
 use crate::plan::Plan;
@@ -30,6 +30,19 @@ pub(crate) struct PartRoom<S, K: FileSink, P: PlugFilter, Q: PlugTally, E> {
     pub(crate) edges: E,
 }
 
+/// Whether each node of a part's net is one of its own or its root; the others stand in for nodes of other parts.
+fn own_of(alloc: Global, homes: &[u32], home: u32, root: usize) -> Result<Vec<bool>, AllocError>
+    requires { root < length homes.now }
+    ensures { IfOk result (λ own. own.items ≡ own_of homes.now home root) }
+{
+    let mut own = Vec::with_capacity(alloc, root + 1)?;
+    for place in 0..root {
+        own.push_reserved(homes[place] == home);
+    }
+    own.push_reserved(true);
+    Ok(own)
+}
+
 impl<S: Source, K: FileSink, P: PlugFilter, Q: PlugTally, E> PartRoom<S, K, P, Q, E> {
     /// The memory of the part of a home with this root. Refuses where memory is wanting.
     pub(crate) fn new<T: Scheduler<StageWork<S, K, P, Q>, Edges = E>>(
@@ -50,8 +63,9 @@ impl<S: Source, K: FileSink, P: PlugFilter, Q: PlugTally, E> PartRoom<S, K, P, Q
         let gathers = plan.gathers.as_slice();
         let homes = plan.homes.as_slice();
         let ins = part_ins(alloc, &plan.ins, gathers, homes, home, root as u32)?;
+        let own = own_of(alloc, homes, home, root)?;
         let net = stand_ins(alloc, root + 1, sizes.chunk)?;
-        match scheduler.edges(alloc, root + 1, sizes.queue) {
+        match scheduler.edges(alloc, own.as_slice(), sizes.queue) {
             Ok(edges) => Ok(PartRoom { ins, net, edges }),
             Err(error) => {
                 let_go(net);
