@@ -6,24 +6,24 @@ use Rattle.std.proofs.Math.Nat.{suc-mul, mul-le-mul_right}
 use Rattle.packed_chunk.specs.Held.{piece_of, offset_of, rows_of}
 
 abbrev IsShort : ℕ → Type 0
-IsShort place = (place < 4096) × (piece_of place ≡ place / 8) × (offset_of place ≡ place % 8)
+IsShort place = (place < 1024) × (piece_of place ≡ place / 8) × (offset_of place ≡ place % 8)
 
 abbrev IsLong : ℕ → Type 0
-IsLong place = (4096 ≤ place) × (piece_of place ≡ 511 + place / 4096) × (offset_of place ≡ place % 4096)
+IsLong place = (1024 ≤ place) × (piece_of place ≡ 127 + place / 1024) × (offset_of place ≡ place % 1024)
 
 either : (place : ℕ) → IsShort place ⊎ IsLong place
 unfolding piece_of offset_of
 either place = ⊎_elim
-    (λ low. inl (low, ap (λ b. if b then place / 8 else 511 + place / 4096) (lt-ltb place 4096 low), ap (λ b. if b then place % 8 else place % 4096) (lt-ltb place 4096 low)))
-    (λ high. inr (high, ap (λ b. if b then place / 8 else 511 + place / 4096) (le-ltb place 4096 high), ap (λ b. if b then place % 8 else place % 4096) (le-ltb place 4096 high)))
-    (cases_lt place 4096)
+    (λ low. inl (low, ap (λ b. if b then place / 8 else 127 + place / 1024) (lt-ltb place 1024 low), ap (λ b. if b then place % 8 else place % 1024) (lt-ltb place 1024 low)))
+    (λ high. inr (high, ap (λ b. if b then place / 8 else 127 + place / 1024) (le-ltb place 1024 high), ap (λ b. if b then place % 8 else place % 1024) (le-ltb place 1024 high)))
+    (cases_lt place 1024)
 
-either_rows : (piece : ℕ) → ((piece < 512) × (rows_of piece ≡ 8)) ⊎ ((512 ≤ piece) × (rows_of piece ≡ 4096))
+either_rows : (piece : ℕ) → ((piece < 128) × (rows_of piece ≡ 8)) ⊎ ((128 ≤ piece) × (rows_of piece ≡ 1024))
 unfolding rows_of
 either_rows piece = ⊎_elim
-    (λ low. inl (low, ap (λ b. if b then 8 else 4096) (lt-ltb piece 512 low)))
-    (λ high. inr (high, ap (λ b. if b then 8 else 4096) (le-ltb piece 512 high)))
-    (cases_lt piece 512)
+    (λ low. inl (low, ap (λ b. if b then 8 else 1024) (lt-ltb piece 128 low)))
+    (λ high. inr (high, ap (λ b. if b then 8 else 1024) (le-ltb piece 128 high)))
+    (cases_lt piece 128)
 
 -- a row stands inside its piece
 pub place_low : (place : ℕ) → offset_of place < rows_of (piece_of place)

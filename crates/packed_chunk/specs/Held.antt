@@ -10,17 +10,17 @@ pub record Held : Type 0 where
   pub layout : Layout
   pub points : List Point
 
--- the piece in which a row stands: the first 512 pieces have 8 rows each, and those behind them 4096
+-- the piece in which a row stands: the first 128 pieces have 8 rows each, and those behind them 1024
 unfoldable pub piece_of : ℕ → ℕ
-piece_of place = if nat_lt place 4096 then place / 8 else 511 + place / 4096
+piece_of place = if nat_lt place 1024 then place / 8 else 127 + place / 1024
 
 -- its place in this piece
 unfoldable pub offset_of : ℕ → ℕ
-offset_of place = if nat_lt place 4096 then place % 8 else place % 4096
+offset_of place = if nat_lt place 1024 then place % 8 else place % 1024
 
 -- how many rows a piece has
 unfoldable pub rows_of : ℕ → ℕ
-rows_of piece = if nat_lt piece 512 then 8 else 4096
+rows_of piece = if nat_lt piece 128 then 8 else 1024
 
 -- the point of a row, where so many pieces at the front are gone
 unfoldable pub point_at : Layout → ℕ → List (List ℕ) → ℕ → Point

@@ -10,6 +10,7 @@ mod outside;
 mod packing;
 mod parts;
 mod piece;
+mod pieces;
 mod places;
 mod putting;
 mod reordering;

@@ -12,22 +12,21 @@ ghost use Rattle.packed_chunk.specs.Rows.{row, row_size};
 ghost use Rattle.packed_chunk.specs.Unpacked.{unpacked_at};
 
 use crate::Packing;
-use crate::known::known_numbers;
 use crate::piece::Piece;
+use crate::pieces::{copy_bytes, let_go, make_room, put_bytes, put_row, spot_of};
 use crate::places::{offset_of, piece_of, rows_of};
 use crate::widening::widened;
 use cloud_points::{Layout, Point, Spread};
 use std::alloc::{AllocError, Global};
 use std::collections::VecDeque;
 use std::marker::Model;
-use std::mem;
 
 /// More rows than memory has room for.
 const MOST_ROWS: usize = 1 << 56;
 
 /// A growing list of points, each in a row that has only the dimensions of a layout.
 ///
-/// The rows stand in pieces, the first 512 of 8 rows each and the others of 4,096. Each piece is made at its full size, so no
+/// The rows stand in pieces, the first 128 of 8 rows each and the others of 1,024. Each piece is made at its full size, so no
 /// row is copied again as the list grows. Beside its rows the list holds at most the rest of its last piece, the rows before
 /// the first point in the first piece, and a few words for each piece.
 #[derive(Drop)]
@@ -313,99 +312,4 @@ impl PackedRows {
             into.push(self.get(from + k));
         }
     }
-}
-
-// Where the bytes of a row begin: in which piece, and at which of its bytes.
-#[derive(Clone, Copy)]
-struct Spot {
-    piece: usize,
-    at: usize,
-}
-
-// That of the row at a place, where so many pieces at the front are gone.
-fn spot_of(place: usize, gone: usize, width: usize) -> Spot
-    requires begins { gone ≤ piece_of place }
-    requires small { width ≤ 128 }
-    ensures piece { result.piece ≡ piece_of place - gone }
-    ensures at { result.at ≡ offset_of place * width }
-{
-    Spot {
-        piece: piece_of(place) - gone,
-        at: offset_of(place) * width,
-    }
-}
-
-// Lets go so many pieces at the front.
-fn let_go(pieces: &mut VecDeque<Piece>, count: usize)
-    requires { count ≤ length pieces.old.items }
-    ensures { pieces.new.items ≡ drop count pieces.old.items }
-{
-    for _piece in 0..count {
-        let _ = pieces.pop_front();
-    }
-}
-
-// Makes a piece where there is none at a place. It is refused for want of memory alone, and changes nothing then.
-fn make_room(
-    alloc: Global,
-    pieces: &mut VecDeque<Piece>,
-    piece: usize,
-    size: usize,
-) -> Result<(), AllocError>
-    requires { piece ≤ length pieces.old.items }
-    ensures ok { OnOk result (HasRoom pieces.old.items piece size pieces.new.items) }
-    ensures refused { OnErr result (pieces.new.items ≡ pieces.old.items) }
-{
-    if piece < pieces.len() {
-        return Ok(());
-    }
-    let blank = Piece::blank(alloc, size)?;
-    pieces.reserve(1)?;
-    pieces.push_back_reserved(blank);
-    Ok(())
-}
-
-// Writes the row of a point at a place of a piece.
-fn put_row(packing: &Packing, pieces: &mut VecDeque<Piece>, piece: usize, at: usize, p: &Point)
-    requires piece { piece < length pieces.old.items }
-    requires room { at + row_size packing.now.layout ≤ length (get_or pieces.old.items piece []) }
-    ensures items { let bytes = get_or pieces.old.items piece [] in pieces.new.items ≡ set pieces.old.items piece
-        (take at bytes ++ (row packing.now.layout p.now ++ drop (at + row_size packing.now.layout) bytes)) }
-    ensures fits { FitsTypes p.now }
-{
-    known_numbers(p);
-    let bytes = &mut pieces[piece];
-    bytes.put_row(packing, at, p);
-}
-
-// Writes the bytes of a row at a place of a piece.
-fn put_bytes(pieces: &mut VecDeque<Piece>, piece: usize, at: usize, row: &[u8])
-    requires piece { piece < length pieces.old.items }
-    requires room { at + length row.now ≤ length (get_or pieces.old.items piece []) }
-    ensures { let bytes = get_or pieces.old.items piece [] in pieces.new.items ≡ set pieces.old.items piece
-        (take at bytes ++ (row.now ++ drop (at + length row.now) bytes)) }
-{
-    let bytes = &mut pieces[piece];
-    bytes.put_bytes(at, row);
-}
-
-// Copies the bytes of a row over those of another. The other row's piece is taken out for that, where they stand in two.
-fn copy_bytes(alloc: Global, pieces: &mut VecDeque<Piece>, from: Spot, to: Spot, width: usize)
-    requires from_piece { from.piece < length pieces.old.items }
-    requires from_room { from.at + width ≤ length (get_or pieces.old.items from.piece []) }
-    requires to_piece { to.piece < length pieces.old.items }
-    requires to_room { to.at + width ≤ length (get_or pieces.old.items to.piece []) }
-    ensures { let bytes = get_or pieces.old.items to.piece [] in
-        let row = take width (drop from.at (get_or pieces.old.items from.piece [])) in
-        pieces.new.items ≡ set pieces.old.items to.piece (take to.at bytes ++ (row ++ drop (to.at + width) bytes)) }
-{
-    if from.piece == to.piece {
-        let piece = &mut pieces[to.piece];
-        piece.copy_within(from.at, to.at, width);
-        return;
-    }
-    let mut target = mem::replace(&mut pieces[to.piece], Piece::none(alloc));
-    let row = &pieces[from.piece].bytes()[from.at..from.at + width];
-    target.put_bytes(to.at, row);
-    pieces[to.piece] = target;
 }

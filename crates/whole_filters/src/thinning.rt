@@ -10,6 +10,9 @@ use crate::rows::Rows;
 use std::alloc::{AllocError, Global};
 use std::collections::HashSet;
 
+/// The most keys for which there is room at first, so that lists of them seldom grow.
+const MOST_AT_FIRST: usize = 1 << 20;
+
 /// Keeps of each view the points that have no earlier point in it with their key. Of cut views nothing is left but that they are
 /// cut.
 ///
@@ -48,7 +51,7 @@ fn firsts_of<K: PointKey>(alloc: Global, view: Rows, by: &K) -> Result<Rows, All
         ≡ distinct (λ p q. K.Key.eq (K.key by.now p) (K.key by.now q)) view) }
 {
     let mut made = view.like();
-    let mut seen = HashSet::new(alloc);
+    let mut seen = HashSet::with_capacity(alloc, view.len().min(MOST_AT_FIRST))?;
     let mut points = Points::of(view);
     while points.has_more() {
         if seen.insert(points.first_key(by))? {

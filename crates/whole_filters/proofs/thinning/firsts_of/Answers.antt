@@ -1,9 +1,18 @@
-use Rattle.std.proofs.Common.{◌∷◌, ◌++◌, [], ◌∙◌, sym, true, false, ◌≡◌, get_or}
+use Rattle.std.proofs.Common.{◌∷◌, ◌++◌, [], ◌∙◌, refl, sym, Bool, not, true, false, ◌≡◌, get_or}
 use Rattle.std.specs.HashSet as table
 use Rattle.cloud_points.specs.Points.{zero_point}
-use Rattle.whole_filters.proofs.Groups.{firsts_next, firsts_stay, seen_next, not_true, not_false}
+use Rattle.whole_filters.proofs.Groups.{firsts_next, firsts_stay, seen_next}
 use Rattle.whole_filters.proofs.Walking.{split_first}
 use Rattle.whole_filters.proofs.thinning.firsts_of.Goals as goal
+
+-- what isn't so is its contrary
+not_true : (b : Bool) → not b ≡ true → b ≡ false
+not_true false e = refl
+not_true true e = absurd cc
+
+not_false : (b : Bool) → not b ≡ false → b ≡ true
+not_false true e = refl
+not_false false e = absurd cc
 
 pub loop-seen-preserved-then-branch : goal.loop-seen-preserved-then-branch
 loop-seen-preserved-then-branch g c =

@@ -1,6 +1,6 @@
 use Rattle.std.proofs.Common.{◌≡◌, ◌+◌, ◌-◌, ◌++◌, [], length, take, drop, get_or, set, ap, ◌∙◌, arith, length-drop}
 use Rattle.std.proofs.lemmas.List.{get_or_default, get_or-set_other, length-set, length-take-le, set-set}
-use Rattle.packed_chunk.proofs.rows.copy_bytes.Goals as goal
+use Rattle.packed_chunk.proofs.pieces.copy_bytes.Goals as goal
 
 pub returns : goal.returns
 returns c =
