@@ -34,7 +34,7 @@ pub fn give_back<F: Files>(files: &mut F, readers: Vec<Option<LasReader<F::In>>>
 }
 
 /// Gives back the device of a work, and puts back what it holds of the caller's; a writer's file isn't kept.
-pub fn release_work<F: Files, P: PlugFilter, Q: PlugTally>(
+fn release_work<F: Files, P: PlugFilter, Q: PlugTally>(
     files: &mut F,
     places: &mut Places<P, Q>,
     work: StageWork<F::In, F::Out, P, Q>,

@@ -148,10 +148,10 @@ where
 }
 
 /// Does a command as `lasline_solo` does. Only where `--workers` of a run or a trial asks for more than one, and `--whole` doesn't stand
-/// with it, its stages go on at once on so many threads, or as many as there are stages: stage j is turned by worker j modulo their
-/// number. Before each turn the worker asks the gate with its own number and that of the stage. After `--patience` rounds in a row
-/// without work it stops, and what is left to do then is done on the thread of the caller. With `--stop first` a worker also stops once
-/// one of its own stages has a fault, and the thread of the caller does no more once any has.
+/// with it, its stages go on at once on so many threads, or as many as there are stages: the stages that run together are dealt to the
+/// workers in turn. Before each turn the worker asks the gate with its own number and that of the stage. After `--patience` rounds in
+/// a row without work it stops, and what is left to do then is done on the thread of the caller. With `--stop first` a worker also
+/// stops once one of its own stages has a fault or another worker has told of one, and the thread of the caller does no more then.
 ///
 /// What is said of `lasline_solo` is said of it, whatever the number of workers, the patience and the gate, and in
 /// whichever order the threads come to their turns; only how far a run with `--stop first` reads isn't bounded by several workers. But
@@ -184,10 +184,10 @@ where
 /// names, and a stage `writers.tally` to the tally. Of two with one name the first is meant.
 ///
 /// A run or a trial is refused with `PlugUnknown` for the first stage that names one which isn't there, and with `PlugTaken` for the first
-/// that names one which an earlier stage names, behind all other faults of the pipeline's text. At the return each place holds again what
-/// it held, but for what that remembers; and exactly that, where no stage names it. On `Ok` a filter that a stage names remembers what it
-/// came to over the points of the stage's last view that pass its `where`, from its opening on, if there was a view; and a tally that over
-/// all of the stage's points that pass.
+/// that names one which an earlier stage names, behind all other faults of the pipeline's text. At the return each place holds what has
+/// the name and the nature of what stood there. Where the files tell what they hold, it is exactly what stood there where no stage names
+/// it; and on `Ok` a filter that a stage names remembers what it came to over the points of the stage's last view that pass its `where`,
+/// from its opening on, if there was a view, and a tally that over all of the stage's points that pass.
 pub fn lasline_plugged<F: Files, K: Sink, E: Sink, R: Threads + Wait + Sync, G: Gate>(
     rt: &R,
     alloc: Global,

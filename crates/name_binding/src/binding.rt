@@ -6,7 +6,7 @@ ghost use Rattle.expr_eval.specs.Bindings.{bound_dim, bound_in, bound_assign, as
 ghost use Rattle.cloud_points.specs.declared.dims.Dim.{Dim as Dimension};
 ghost use Rattle.extra_bytes.specs.Asked.{AreOwn, asked_fault, asked_fields};
 ghost use Rattle.extra_bytes.specs.Fields.{AreLaid};
-ghost use Rattle.name_binding.specs.Binding.{IsLaidStage, asked_in, is_bound, first_unbound, assigns_refused, ranges_refused, dim_refused, filter_refused, limit_of, where_refused, own_refused, binding_fault, bound, bound_where, bound_filter, edge_of, squares_of, bound_with, bound_stage};
+ghost use Rattle.name_binding.specs.Binding.{IsLaidStage, asked_in, is_bound, first_unbound, assigns_refused, ranges_refused, dim_refused, filter_refused, limit_of, where_refused, own_refused, binding_fault, bound, bound_where, bound_filter, bound_with, bound_stage};
 ghost use Rattle.name_binding.specs.Ferries.{names_behind, adds, AreBehindSome};
 ghost use Rattle.stage_options.specs.Ferries.{ferries_in};
 ghost use Rattle.name_binding.specs.Refusals.{refused};
@@ -15,6 +15,7 @@ ghost use Rattle.stage_names.specs.declared.faults.PipeFault.TheVariants.{DimUnk
 ghost use Rattle.stage_names.specs.Faults.{IsFaultOf};
 
 use crate::ferries::{bind_dim, bind_ferries, refusal, with_targets};
+use crate::tiles::{edge_of, squares_of};
 use cloud_points::{Dim, ExtraNames, FieldList, Layout, dim_of};
 use expr_eval::{Assignment, Assignments, Bound, bind_assign, bind_expr};
 use expr_lang::{Assign, Expr};
@@ -24,9 +25,9 @@ use geo_tests::{Limit, Limits, Shape};
 use limits_text::NamedRange;
 use option_texts::{ExtraDims, Groups, NamedColumn};
 use stage_names::{PipeErr, PipeFault};
-use stage_options::{Options, SplitterOptions, name_from};
+use stage_options::{Options, name_from};
 use std::alloc::Global;
-use whole_filters::{EdgeLength, Gathering, Squares};
+use whole_filters::Gathering;
 
 /// A stage's options with dimensions in place of names, by what the stage does.
 #[derive(Drop)]
@@ -252,24 +253,6 @@ impl<'a> Binder<'a> {
             }
             None => Ok(()),
         }
-    }
-}
-
-/// So many nanounits as the length of an edge; less than 1 counts as 1.
-fn edge_of(nano: i64) -> EdgeLength
-    ensures { result ≡ edge_of nano }
-{
-    EdgeLength::new(nano.max(1))
-}
-
-/// The squares of a splitter.
-fn squares_of(options: &SplitterOptions) -> Squares
-    ensures { result ≡ squares_of options.now }
-{
-    Squares {
-        length: edge_of(options.length),
-        x: options.origin_x,
-        y: options.origin_y,
     }
 }
 

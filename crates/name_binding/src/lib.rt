@@ -3,5 +3,6 @@
 
 mod binding;
 mod ferries;
+mod tiles;
 
 pub use binding::{BoundFilter, BoundStage, bind};

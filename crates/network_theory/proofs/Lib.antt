@@ -22,7 +22,6 @@ pub mod Safe
 pub mod Carries
 pub mod Chain
 pub mod CarriedTurn
-pub mod JoinTree
 pub mod Brought
 pub mod WholeFlows
 pub mod Tapes

@@ -32,7 +32,8 @@ use Rattle.run_ending.specs.Keeping.{BrokeOff}
 use Rattle.network_core.specs.declared.stop.Stop.{Stop}
 use Rattle.run_engine.specs.Stopping.{HaveEndedBy}
 use Rattle.run_engine.specs.Blame.{FailedFirst, FailedLast}
-use Rattle.run_engine.proofs.Answers.{kept-work, rose-given}
+use Rattle.run_engine.proofs.Answers.{rose-given}
+use Rattle.run_engine.proofs.Roles.{kept-work}
 use Rattle.plug_stages.specs.declared.filter.PlugFilter as plug_type
 use Rattle.plug_stages.specs.declared.tally.PlugTally as tally_type
 

@@ -19,7 +19,7 @@ use Rattle.stage_options.specs.declared.stage.StageSpec.{StageSpec}
 use Rattle.answer_model.specs.Rows.{Row}
 use Rattle.answer_model.specs.Values.{Opened, options_at, role_at, row_at, setting_at, stage_value, view_outputs, written_each, outputs_at}
 use Rattle.stage_forms.specs.Starts.{form_for, kept_for}
-use Rattle.stage_forms.proofs.Works.{IsRow, row-is}
+use Rattle.stage_forms.proofs.Rowed.{IsRow, row-is}
 use Rattle.run_ending.specs.Each.{all_files, each_files, files_from, kept_at, kept_files, kept_from}
 
 -- by the name of a stage, what it chooses and writes

@@ -1,5 +1,5 @@
 -- What works held of the caller's is back once they are released.
-use Rattle.std.proofs.Common.{◌≡◌, ℕ, List, [], map, Option}
+use Rattle.std.proofs.Common.{ℕ, List, [], map}
 use Rattle.answer_model.specs.Naming.{AreBack, is_used}
 use Rattle.plug_stages.specs.Handed.{filter_nature, handed_by, tally_nature_at}
 use Rattle.plug_stages.specs.Out.{AreOut}

@@ -4,6 +4,7 @@ pub mod Inputs
 pub mod Ran
 pub mod Puts
 pub mod Answers
+pub mod Early
 pub mod Waiting
 pub mod Ahead
 pub mod Blamed
@@ -11,3 +12,4 @@ pub mod Each
 pub mod Stopping
 pub mod Given
 pub mod Remembered
+pub mod Roles

@@ -4,17 +4,14 @@ use Rattle.std.specs.Prelude.{ℤ, fold}
 use Rattle.std.specs.Option.{option_map}
 use Rattle.std.proofs.lemmas.Option.{none-some, same_Some, slice_get_within}
 use Rattle.answer_model.specs.Naming.{AreNamed, AreRemembered, found_in, name_fault}
-use Rattle.answer_model.specs.Values.{Opened, left_at, options_at, row_at, stage_input}
+use Rattle.answer_model.specs.Values.{Opened, options_at, row_at, stage_input}
 use Rattle.cloud_points.specs.Meaning.{Nature}
 use Rattle.cloud_points.specs.declared.point.Point.{Point}
 use Rattle.held_devices.proofs.Lists.{some_at}
 use Rattle.plug_stages.specs.Handed.{Handed, at_place, filter_nature, handed_by, natures_from, tally_nature_at}
-use Rattle.plug_stages.specs.Works.{plug_nature, tally_nature}
 use Rattle.plug_stages.specs.declared.filter.PlugFilter as plug_type
 use Rattle.plug_stages.specs.declared.places.Places.{Places}
-use Rattle.plug_stages.specs.declared.plug_work.PlugWork.{PlugWork}
 use Rattle.plug_stages.specs.declared.tally.PlugTally as tally_type
-use Rattle.plug_stages.specs.declared.tally_work.TallyWork.{TallyWork}
 use Rattle.run_ending.proofs.Putting.{filter-out, placed, puts-filter, puts-tally, tally-out, there}
 use Rattle.run_ending.specs.Finished.{OthersStay}
 use Rattle.run_ending.specs.Putting.{ArePut}
@@ -24,7 +21,7 @@ use Rattle.stage_forms.specs.Later.{AreLater, Remembers, remembered_in}
 use Rattle.stage_forms.specs.Out.{AreTakenOut}
 use Rattle.stage_forms.specs.Starts.{AreHandedIn, IsHandedIn}
 use Rattle.stage_kinds.specs.Held.{filter_in, held_by, tally_in}
-use Rattle.stage_kinds.specs.Stages.{state_of, writing_of}
+use Rattle.stage_kinds.specs.Stages.{state_of}
 use Rattle.stage_kinds.specs.declared.stage_work.StageWork.{StageWork}
 use Rattle.stage_kinds.specs.declared.stage_work.StageWork.TheVariants.{Reader, Filter, Plug, Tally, Collector, Views, ViewFiles, Writer}
 use Rattle.stage_options.specs.Roles.{plug_of, tally_of}

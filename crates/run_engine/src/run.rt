@@ -34,7 +34,7 @@ use std::alloc::Global;
 /// in the order of the stages; lets the points go through, finishes all writers' files and then keeps them in the order of the
 /// stages, and behind them the files of views, and answers what each stage gave on. Every object that was handed out is given back,
 /// and each place of a filter or a tally holds again what it held, but for what that remembers where a stage names it: where the run
-/// succeeds, what the stage leaves.
+/// succeeds and the files tell what they hold, what the stage leaves.
 ///
 /// `Pipeline` comes only where a name in the options of a stage isn't bound, `Data` only where the files have that fault, `Device`
 /// only where the device failed or the file to read isn't there, `Memory` where there was none. After a refusal the files are as

@@ -28,7 +28,7 @@ use Rattle.answer_model.specs.Values.{Opened, dims_taken, fields_found, found_at
 use Rattle.answer_model.proofs.Least.{least-at}
 use Rattle.answer_model.specs.Rows.{Setting}
 use Rattle.stage_forms.specs.Starts.{IsGood, form_for, tells_points, writes_as}
-use Rattle.stage_forms.proofs.Works.{IsRow, row-is}
+use Rattle.stage_forms.proofs.Rowed.{IsRow, row-is}
 use Rattle.stage_kinds.specs.declared.file_form.StageForm.{StageForm}
 use Rattle.stage_kinds.specs.declared.file_form.Writing.{Writing}
 use Rattle.stage_kinds.specs.declared.file_form.StageForm.TheVariants as formed

@@ -28,7 +28,8 @@ use Rattle.stage_options.specs.Roles.{Role, role_of, is_gathering, is_reading}
 use Rattle.stage_options.specs.Roles as role
 use Rattle.stage_options.specs.declared.options.Options.{Options}
 use Rattle.stage_options.specs.declared.stage.StageSpec.{StageSpec}
-use Rattle.stage_forms.proofs.Works.{IsMakingRow, IsRow, fields-at-start, inner-is, row-is, writing-at-start}
+use Rattle.stage_forms.proofs.Works.{fields-at-start, inner-is, writing-at-start}
+use Rattle.stage_forms.proofs.Rowed.{IsMakingRow, IsRow, row-is}
 use Rattle.stage_forms.proofs.Told.{silent-row, told-is}
 use Rattle.plug_stages.specs.declared.filter.PlugFilter as plug_type
 use Rattle.plug_stages.specs.declared.tally.PlugTally as tally_type

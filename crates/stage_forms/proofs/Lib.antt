@@ -6,3 +6,5 @@ pub mod Works
 pub mod Asking
 pub mod Told
 pub mod Out
+pub mod Clearing
+pub mod Rowed

@@ -31,7 +31,7 @@ use Rattle.plug_stages.specs.declared.spots.TallySpot.{TallySpot}
 use Rattle.plug_stages.specs.declared.tally.PlugTally as tally_type
 use Rattle.plug_stages.specs.declared.tally_work.TallyWork.{TallyWork}
 use Rattle.run_report.specs.declared.tally.TallyLine.{TallyLine}
-use Rattle.stage_kinds.proofs.Leaving.{lifted_leaves}
+use Rattle.stage_meanings.proofs.Through.{lifted_leaves}
 use Rattle.stage_kinds.proofs.Natures.{silent}
 use Rattle.stage_kinds.proofs.Streams.{tally_leaves}
 use Rattle.stage_kinds.specs.Held.{tally_in}
@@ -47,7 +47,9 @@ use Rattle.stage_meanings.specs.Filters.{first_unjudged, point_fault, refusal_of
 use Rattle.stage_options.specs.Roles.{plug_of, tally_of}
 use Rattle.stage_options.specs.declared.options.Options.{Options}
 use Rattle.stage_options.specs.declared.options.Options.TheVariants.{FiltersPlug, WritersTally}
-use Rattle.stage_forms.proofs.Works.{IsPlugRow, IsRow, IsTallyRow, none-against, plug-begins, row-is, tally-begins}
+use Rattle.stage_forms.proofs.Clearing.{none-against}
+use Rattle.stage_forms.proofs.Works.{plug-begins, tally-begins}
+use Rattle.stage_forms.proofs.Rowed.{IsRow, IsPlugRow, IsTallyRow, row-is}
 use Rattle.stage_forms.specs.Later.{IsSilent, Remembers, Says, remembered_in}
 use Rattle.stage_forms.specs.Starts.{IsAtStart, IsHandedIn, IsStarted, ShowsNone, TellsNone, form_for, shows_points}
 

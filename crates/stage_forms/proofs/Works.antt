@@ -1,23 +1,17 @@
 -- What the works of stages tell and make, by what they are made of.
 use Rattle.std.proofs.Common.{◌≡◌, ℕ, Bool, true, false, List, [], filter, Option, Some, None, refl, ap, sym, subst, ◌∙◌, true≢false}
-use Rattle.std.specs.Prelude.{ℤ, map, option_map, length, ◌+◌, Result, Ok, Err, ◌∷◌, if◌then◌else◌}
+use Rattle.std.specs.Prelude.{option_map, length}
 use Rattle.std.proofs.lemmas.Option.{same_Some}
 use Rattle.cloud_points.specs.Clearing.{cleared}
 use Rattle.cloud_points.specs.Layouts.{holds}
-use Rattle.cloud_points.specs.Meaning.{Nature}
 use Rattle.cloud_points.specs.declared.dims.Dim.{Dim}
-use Rattle.cloud_points.specs.declared.dims.Dim.TheVariants.{X, Y, Z, Intensity, ReturnNumber, NumberOfReturns, ScanDirectionFlag, EdgeOfFlightLine, Classification, Synthetic, KeyPoint, Withheld, Overlap, ScanChannel, ScanAngleRank, UserData, PointSourceId, GpsTime, Red, Green, Blue, Infrared, Extra}
-use Rattle.plug_stages.specs.Folds.{Step, last_view, plug_fold, shown_if, step_where}
-use Rattle.std.specs.List.{cons_option}
 use Rattle.expr_lang.specs.Formula.{Formula}
 use Rattle.stage_meanings.specs.Conditions.{passes}
 use Rattle.stage_meanings.specs.Filtering.{Admit}
-use Rattle.stage_meanings.specs.Filters.{before_stop, first_refused, first_unjudged, found, if_passing, is_true, point_fault, reason_of, refusal_of, refused_by}
-use Rattle.stage_meanings.specs.declared.reason.Reason.{Reason}
+use Rattle.stage_meanings.specs.Filters.{before_stop, point_fault}
 use Rattle.stage_meanings.specs.declared.spot.Spot.{Spot}
-use Rattle.plug_stages.specs.Handed.{named_in}
 use Rattle.plug_stages.specs.PlugSteps.{plug_spot_at}
-use Rattle.plug_stages.specs.TallySteps.{passing, tally_spot_at}
+use Rattle.plug_stages.specs.TallySteps.{tally_spot_at}
 use Rattle.plug_stages.specs.Works.{plug_meaning, plug_nature, plug_spot, tally_meaning, tally_nature, tally_spot}
 use Rattle.plug_stages.specs.declared.filter.PlugFilter as plug_type
 use Rattle.plug_stages.specs.declared.plug_work.PlugWork.{PlugWork}
@@ -30,16 +24,14 @@ use Rattle.stage_options.specs.Kinds.{kind_of}
 use Rattle.file_devices.specs.declared.devices.Source as source
 use Rattle.cloud_points.specs.declared.point.Point.{Point}
 use Rattle.cloud_points.specs.declared.faults.StageFault.TheVariants as stage
-use Rattle.cloud_points.specs.Flows.{Flow, all_of, map_views, points}
+use Rattle.cloud_points.specs.Flows.{Flow, all_of, points}
 use Rattle.cloud_points.specs.Queue.{up_to_limit}
 use Rattle.cloud_points.specs.Marks.{flow_marks}
 use Rattle.las_reader.specs.Files.{Las as LasPoints, las_with}
 use Rattle.las_reader.specs.Flows.{las_flow, las_fault}
 use Rattle.las_reader.specs.declared.reader.LasReader.{LasReader}
 use Rattle.network_theory.specs.Machine.{made_of, fault_on}
-use Rattle.stage_meanings.specs.ByRule.{spot_at}
-use Rattle.stream_filters.specs.Kinds.{filtering_of, spot_of}
-use Rattle.stream_filters.specs.declared.filter.Filter.{Filter as Filtering}
+use Rattle.stream_filters.specs.Kinds.{filtering_of}
 use Rattle.stage_kinds.specs.declared.file_form.StageForm.{StageForm}
 use Rattle.stage_kinds.specs.declared.file_form.StageForm.TheVariants.{Reads, Filters, Plugs, Tallies, Gathers, Writes}
 use Rattle.stage_kinds.specs.declared.file_form.Writing.{Writing}
@@ -47,27 +39,26 @@ use Rattle.stage_kinds.specs.declared.stage_work.StageWork.{StageWork}
 use Rattle.stage_kinds.specs.declared.stage_work.StageWork.TheVariants.{Reader, Filter, Plug, Tally, Collector, Writer}
 use Rattle.stage_kinds.specs.declared.stage_work.StageState.TheVariants.{Filtering as At, Plugging, Tallying, Writing as Written}
 use Rattle.stage_kinds.specs.declared.making.Making.{Making}
-use Rattle.stage_kinds.specs.declared.making.Making.TheVariants.{Gathers as Views, WritesEach as Each}
-use Rattle.stage_kinds.specs.Files.{chosen, file_bytes, unwritten}
-use Rattle.stage_kinds.specs.Makings.{made_by, fault_by}
+use Rattle.stage_kinds.specs.declared.making.Making.TheVariants.{WritesEach as Each}
+use Rattle.stage_kinds.specs.Files.{chosen}
 use Rattle.stage_kinds.specs.Held.{op_of}
-use Rattle.stage_kinds.specs.Stages.{begun, filter_work, plug_work, tally_work, spot_in, writes_of, writer_work, writing_filter, stops_nowhere, meaning_of, state_of, is_leaf, holds_of, keeps_of, writing_of}
+use Rattle.stage_kinds.specs.Stages.{begun, filter_work, plug_work, tally_work, spot_in, writes_of, writer_work, stops_nowhere, meaning_of, state_of, is_leaf, holds_of, keeps_of, writing_of}
 use Rattle.stage_kinds.specs.Reads.{tells_of, told_of, told_fault_of}
 use Rattle.stage_kinds.proofs.Streams.{filter_gives, filter_fault, plug_gives, plug_fault, tally_gives, tally_fault, writer_gives, writer_fault, sound_nowhere}
 use Rattle.stage_kinds.proofs.Telling.{reader_starts}
 use Rattle.stage_options.specs.declared.options.Options.{Options}
-use Rattle.stage_options.specs.declared.options.Options.TheVariants.{ReadersLas, FiltersSort, FiltersTail, FiltersGroupby, FiltersSplitter, FiltersVoxeldownsize, FiltersPlug, WritersLas, WritersText, WritersTally}
+use Rattle.stage_options.specs.declared.options.Options.TheVariants.{ReadersLas, WritersLas, WritersText}
 use Rattle.stage_options.specs.Roles.{Role, plug_of, tally_of, role_of, is_reading, is_gathering, is_writing}
 use Rattle.stage_options.specs.Values.{is_numbered}
 use Rattle.stage_options.specs.Roles as role
-use Rattle.answer_model.specs.Naming.{found_in}
 use Rattle.answer_model.specs.Rows.{Row, Setting, folds, remembered_by, row_of, said_by, shows, value_on}
 use Rattle.answer_model.specs.Rows as rows
 use Rattle.answer_model.specs.Values.{LasFile, Opened, wrote_with, files_with}
 use Rattle.stage_forms.specs.Starts.{files_of, wrote_of, writes_as, IsBegun, IsCollecting, IsHandedIn, ShowsNone, TellsNone, HoldsNone, IsAtStart, IsStarted, form_for, op_for}
-use Rattle.whole_filters.specs.declared.gathering.Gathering.{Gathering}
 use Rattle.view_works.specs.declared.collector.Collector.{Collector as Collecting}
 use Rattle.stage_forms.specs.Below.{Tells}
+use Rattle.stage_forms.proofs.Clearing.{none-against, folds-same}
+use Rattle.stage_forms.proofs.Rowed.{IsGatherRow, IsWriterRow, IsEachRow, IsRow, row-is, writer-inner}
 
 -- a leaf is the work of a reader, and tells the flow and the fault of its file
 pub record IsLeaf {S K P Q : Type 0} (s : source.Ghosts S) (o : Options) (las : LasPoints) (w : StageWork S K P Q) : Type 0 where
@@ -81,226 +72,6 @@ pub record IsInner {S K P Q : Type 0} (fs : plug_type.Ghosts P) (ts : tally_type
   pub inner : is_reading (role_of o) ≡ false
   pub makes : (flow : Flow Point) → made_of (meaning_of fs ts w) (state_of fs ts w) flow ≡ flow_marks (value_on (row_of o setting) flow)
   pub fault : (flow : Flow Point) → fault_on (meaning_of fs ts w) (state_of fs ts w) flow ≡ option_map stage.Point (rows.fault_on (row_of o setting) flow)
-
--- ---- what a stage's work is made of is what its row says
-
-pub record IsFilterRow (f : Filtering) (o : Options) (setting : Setting) : Type 0 where
-  pub does : role_of o ≡ role.Filters
-  pub begins : spot_of f ≡ spot_at 0
-  pub filtering : (row_of o setting).making ≡ rows.Judging (filtering_of f)
-
--- by its role; and what it makes of a flow is the stage's value, and its fault there
-pub record IsGatherRow (m : Making) (o : Options) (setting : Setting) : Type 0 where
-  pub gathers : is_gathering (role_of o) ≡ true
-  pub inner : is_reading (role_of o) ≡ false
-  pub later : is_writing (role_of o) ≡ false
-  pub device : op_for (role_of o) ≡ None
-  pub makes : (flow : Flow Point) → made_by m flow ≡ value_on (row_of o setting) flow
-  pub fault : (flow : Flow Point) → fault_by m flow ≡ rows.fault_on (row_of o setting) flow
-
-pub record IsWriterRow (x : Writing) (o : Options) (setting : Setting) : Type 0 where
-  pub name : List ℕ
-  pub does : role_of o ≡ role.Writes name
-  pub filtering : (row_of o setting).making ≡ rows.Judging (writing_filter x)
-  pub chooses : (ps : List Point) → chosen x.only ps ≡ filter ((row_of o setting).writes) ps
-  pub bytes : (ps : List Point) → file_bytes x.form ps ≡ (row_of o setting).bytes ps
-
--- a writer of a file for each view
-pub record IsEachRow (x : Writing) (o : Options) (setting : Setting) : Type 0 where
-  pub name : List ℕ
-  pub does : role_of o ≡ role.WritesEach name
-  pub chooses : (ps : List Point) → chosen x.only ps ≡ filter ((row_of o setting).writes) ps
-  pub bytes : (ps : List Point) → file_bytes x.form ps ≡ (row_of o setting).bytes ps
-
-abbrev pub IsMakingRow : Making → Options → Setting → Type 0
-IsMakingRow (Views g) o setting = role_of o ≡ role.Gathers
-IsMakingRow (Each x) o setting = IsEachRow x o setting
-
--- a filter of the caller, which is the one of the name that the stage has for it
-pub record IsPlugRow (only : Option (Formula Dim)) (o : Options) (setting : Setting) : Type 0 where
-  pub does : role_of o ≡ role.Filters
-  pub folds : (n : Nature Point) → found_in setting.handed.filters (plug_of o) ≡ Some n → (row_of o setting).making ≡ rows.Folding n.step n.opening (cleared setting.dims) only
-  pub silent : (row_of o setting).says ≡ None
-  pub leaves : (n : Nature Point) → found_in setting.handed.filters (plug_of o) ≡ Some n → (flow : Flow Point)
-      → (row_of o setting).leaves flow ≡ option_map (remembered_by n only) (last_view flow.views flow.open_view)
-
--- a tally likewise
-pub record IsTallyRow (only : Option (Formula Dim)) (o : Options) (setting : Setting) : Type 0 where
-  pub does : role_of o ≡ role.Filters
-  pub judges : (row_of o setting).making ≡ rows.Judging (Admit (λ k p. None) only)
-  pub shows : (ps : List Point) → filter ((row_of o setting).writes) ps ≡ passing (passes only) ps
-  pub says : (n : Nature Point) → found_in setting.handed.tallies (tally_of o) ≡ Some n → (row_of o setting).says ≡ Some (said_by n)
-  pub leaves : (n : Nature Point) → found_in setting.handed.tallies (tally_of o) ≡ Some n → (flow : Flow Point)
-      → (row_of o setting).leaves flow ≡ Some (remembered_by n only (points flow))
-
-abbrev pub IsRow : StageForm → Options → Setting → Type 0
-IsRow (Reads fields) o setting = (is_reading (role_of o) ≡ true) × (op_for (role_of o) ≡ op_for (role.Reads [])) × (fields ≡ setting.fields)
-IsRow (Filters f) o setting = IsFilterRow f o setting
-IsRow (Plugs only) o setting = IsPlugRow only o setting
-IsRow (Tallies only) o setting = IsTallyRow only o setting
-IsRow (Gathers m) o setting = IsGatherRow m o setting × IsMakingRow m o setting
-IsRow (Writes x) o setting = IsWriterRow x o setting
-
--- a writer by whether it writes a file of each view
-writes-row : (each : Bool) (name : List ℕ) (x : Writing) (o : Options) (setting : Setting) → role_of o ≡ role.writing_by each name
-    → (row_of o setting).making ≡ rows.admits each (unwritten x.form) x.only
-    → ((ps : List Point) → chosen x.only ps ≡ filter ((row_of o setting).writes) ps) → ((ps : List Point) → file_bytes x.form ps ≡ (row_of o setting).bytes ps)
-    → IsRow (writes_as (role.writing_by each name) x) o setting
-writes-row false name x o setting does making chooses bytes = record { name = name; does = does; filtering = making; chooses = chooses; bytes = bytes }
-writes-row true name x o setting does making chooses bytes = (
-  record {
-    gathers = ap is_gathering does;
-    inner = ap is_reading does;
-    later = ap is_writing does;
-    device = ap op_for does;
-    makes = λ flow. ap (λ m. rows.made m flow) (sym making);
-    fault = λ flow. ap (λ m. rows.stop m flow) (sym making);
-  },
-  record { name = name; does = does; chooses = chooses; bytes = bytes },
-)
-
-gathers-row : (g : Gathering) (o : Options) (setting : Setting) → role_of o ≡ role.Gathers → (row_of o setting).making ≡ rows.Gathered g → IsRow (Gathers (Views g)) o setting
-gathers-row g o setting does making = (
-  record {
-    gathers = ap is_gathering does;
-    inner = ap is_reading does;
-    later = ap is_writing does;
-    device = ap op_for does;
-    makes = λ flow. ap (λ m. rows.made m flow) (sym making);
-    fault = λ flow. ap (λ m. rows.stop m flow) (sym making);
-  },
-  does,
-)
-
-pub row-is : (o : Options) (setting : Setting) → IsRow (form_for o setting) o setting
-row-is (ReadersLas o) setting = (refl, refl, refl)
-row-is (WritersLas o) setting = writes-row (is_numbered o.filename) o.filename _ (WritersLas o) setting refl refl (λ ps. refl) (λ ps. refl)
-row-is (WritersText o) setting = writes-row (is_numbered o.filename) o.filename _ (WritersText o) setting refl refl (λ ps. refl) (λ ps. refl)
-row-is (FiltersPlug o) setting = record {
-  does = refl;
-  folds = λ n e. ap (λ h. (folds setting.names setting.dims h o.only).making) e;
-  silent = silent (named_in setting.handed.filters o.plug);
-  leaves = λ n e flow. ap (λ h. (folds setting.names setting.dims h o.only).leaves flow) e;
-}
-  where
-    silent : (h : Option (Nature Point)) → (folds setting.names setting.dims h o.only).says ≡ None
-    silent None = refl
-    silent (Some n) = refl
-row-is (WritersTally o) setting = record {
-  does = refl;
-  judges = refl;
-  shows = λ ps. refl;
-  says = λ n e. ap (option_map said_by) e;
-  leaves = λ n e flow. ap (λ h. (shows setting.names h o.only).leaves flow) e;
-}
-row-is (FiltersSort o) setting = gathers-row _ (FiltersSort o) setting refl refl
-row-is (FiltersTail o) setting = gathers-row _ (FiltersTail o) setting refl refl
-row-is (FiltersGroupby o) setting = gathers-row _ (FiltersGroupby o) setting refl refl
-row-is (FiltersSplitter o) setting = gathers-row _ (FiltersSplitter o) setting refl refl
-row-is (FiltersVoxeldownsize o) setting = gathers-row _ (FiltersVoxeldownsize o) setting refl refl
-row-is o setting = record { does = refl; begins = refl; filtering = refl }
-
--- a stage that reads is made of the fields that it takes
-pub reads-form : (o : Options) (setting : Setting) → is_reading (role_of o) ≡ true → form_for o setting ≡ Reads setting.fields
-reads-form o setting reads = go (form_for o setting) refl (row-is o setting)
-  where
-    go : (form : StageForm) → form_for o setting ≡ form → IsRow form o setting → form_for o setting ≡ Reads setting.fields
-    go (Reads fields) e row = e ∙ ap Reads row.2
-    go (Filters f) e row = absurd (true≢false (sym reads ∙ ap is_reading row.does))
-    go (Plugs only) e row = absurd (true≢false (sym reads ∙ ap is_reading row.does))
-    go (Tallies only) e row = absurd (true≢false (sym reads ∙ ap is_reading row.does))
-    go (Gathers g) e row = absurd (true≢false (sym reads ∙ row.0.inner))
-    go (Writes x) e row = absurd (true≢false (sym reads ∙ ap is_reading row.does))
-
--- no writer reads
-writer-inner : (each : Bool) (name : List ℕ) → is_reading (role.writing_by each name) ≡ false
-writer-inner true name = refl
-writer-inner false name = refl
-
--- ---- points against which there is no reason
-
-module _ (only : Point → Result Bool Reason) where
-  none_at : (p : Point) (n : ℕ) → refused_by (λ k q. None) only (p, n) ≡ reason_of (only p)
-  none_at p n = go (only p)
-    where
-      go : (r : Result Bool Reason) → if_passing r None ≡ reason_of r
-      go (Ok true) = refl
-      go (Ok false) = refl
-      go (Err e) = refl
-
-  none_from : (n k : ℕ) (ps : List Point) → first_refused (λ k q. None) only n k ps ≡ first_unjudged only n ps
-  none_from n k [] = refl
-  none_from n k (p ∷ ps) =
-      ap (λ o. found n o (first_refused (λ k q. None) only (n + 1) (if is_true (only p) then up_to_limit (k + 1) else k) ps)) (none_at p k)
-      ∙ ap (found n (reason_of (only p))) (none_from (n + 1) (if is_true (only p) then up_to_limit (k + 1) else k) ps)
-
-  pub none-against : (flow : Flow Point) → refusal_of (λ k q. None) only flow ≡ first_unjudged only 0 (points flow)
-  none-against flow = none_from 0 0 (points flow)
-
--- ---- sets that hold the same dimensions
-
-cleared-same : (one other : Dim → Bool) → ((dim : Dim) → one dim ≡ other dim) → (p : Point) → cleared one p ≡ cleared other p
-cleared-same one other same p = rw (
-  same X,
-  same Y,
-  same Z,
-  same Intensity,
-  same ReturnNumber,
-  same NumberOfReturns,
-  same ScanDirectionFlag,
-  same EdgeOfFlightLine,
-  same Classification,
-  same Synthetic,
-  same KeyPoint,
-  same Withheld,
-  same Overlap,
-  same ScanChannel,
-  same ScanAngleRank,
-  same UserData,
-  same PointSourceId,
-  same GpsTime,
-  same Red,
-  same Green,
-  same Blue,
-  same Infrared,
-  same (Extra 0),
-  same (Extra 1),
-  same (Extra 2),
-  same (Extra 3),
-  same (Extra 4),
-  same (Extra 5),
-  same (Extra 6),
-  same (Extra 7),
-) refl
-
-all-mapped : (f g : List Point → List Point) → ((v : List Point) → f v ≡ g v) → (vs : List (List Point)) → map f vs ≡ map g vs
-all-mapped f g same [] = refl
-all-mapped f g same (v ∷ vs) = ap (λ x. x ∷ map f vs) (same v) ∙ ap (λ xs. g v ∷ xs) (all-mapped f g same vs)
-
-views-mapped : (f g : List Point → List Point) → ((v : List Point) → f v ≡ g v) → (flow : Flow Point) → map_views f flow ≡ map_views g flow
-views-mapped f g same flow = ap (λ vs. record { views = vs; open_view = f flow.open_view; cut = flow.cut }) (all-mapped f g same flow.views)
-    ∙ ap (λ v. record { views = map g flow.views; open_view = v; cut = flow.cut }) (same flow.open_view)
-
-module _ (step : Step Point) (opening : List ℤ) (one other : Dim → Bool) (only : Option (Formula Dim)) (same : (dim : Dim) → one dim ≡ other dim) where
-  step-same : (s : List ℤ) (p : Point) → step_where (passes only) (cleared one) step s p ≡ step_where (passes only) (cleared other) step s p
-  step-same s p = go (is_true (passes only p))
-    where
-      clear-same : (o : Option Point) → option_map (cleared one) o ≡ option_map (cleared other) o
-      clear-same None = refl
-      clear-same (Some q) = ap Some (cleared-same one other same q)
-
-      go : (b : Bool) → shown_if b (cleared one) step s p ≡ shown_if b (cleared other) step s p
-      go false = refl
-      go true = ap (λ (o : Option Point). ((step s p).0, o)) (clear-same (step s p).1)
-
-  fold-same : (s : List ℤ) (view : List Point) → plug_fold (step_where (passes only) (cleared one) step) s view ≡ plug_fold (step_where (passes only) (cleared other) step) s view
-  fold-same s [] = refl
-  fold-same s (p ∷ ps) = ap (λ (t : List ℤ × Option Point). cons_option t.1 (plug_fold (step_where (passes only) (cleared one) step) t.0 ps)) (step-same s p)
-      ∙ ap (cons_option (step_where (passes only) (cleared other) step s p).1) (fold-same (step_where (passes only) (cleared other) step s p).0 ps)
-
-  folds-same : (flow : Flow Point) → rows.made (rows.Folding step opening (cleared one) only) flow ≡ rows.made (rows.Folding step opening (cleared other) only) flow
-  folds-same flow = views-mapped (plug_fold (step_where (passes only) (cleared one) step) opening) (plug_fold (step_where (passes only) (cleared other) step) opening) (fold-same opening)
-      (before_stop (first_unjudged (passes only) 0 (points flow)) flow)
 
 -- ---- states at the start
 

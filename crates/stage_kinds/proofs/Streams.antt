@@ -16,7 +16,7 @@ use Rattle.stage_meanings.specs.Filters.{admitted, before_stop, first_unjudged, 
 use Rattle.stage_meanings.specs.declared.reason.Reason.{Reason}
 use Rattle.stage_meanings.proofs.FiltersStream.{filters_give, filters_fault}
 use Rattle.stage_meanings.proofs.Streams.{StreamsBy, streams_give, streams_fault, views_same}
-use Rattle.stage_meanings.proofs.Through.{lifted_gives, lifted_faults}
+use Rattle.stage_meanings.proofs.Through.{lifted_gives, lifted_faults, lifted_leaves}
 use Rattle.stage_meanings.specs.declared.spot.Spot.{Spot}
 use Rattle.plug_stages.proofs.PlugStreams as plugs
 use Rattle.plug_stages.proofs.TallyStreams as tallies
@@ -24,7 +24,6 @@ use Rattle.plug_stages.specs.Folds.{Step, plug_fold, step_where}
 use Rattle.plug_stages.specs.PlugSteps.{plug_spot_at, plug_stage}
 use Rattle.plug_stages.specs.Tallied.{tallied}
 use Rattle.plug_stages.specs.TallySteps.{passing, tally_spot_at, tally_stage}
-use Rattle.stage_kinds.proofs.Leaving.{lifted_leaves}
 use Rattle.stage_kinds.specs.declared.file_form.Writing.{Writing as Writes}
 use Rattle.stage_kinds.specs.declared.stage_work.StageState.TheVariants.{Filtering as At, Plugging, Tallying, Writing}
 use Rattle.stage_kinds.specs.declared.writer_stage.WriterStage.{WriterStage}

@@ -1,10 +1,11 @@
--- A work over one variant of a larger state gives the same for a flow, and has the same fault.
+-- A work over one variant of a larger state gives the same for a flow, has the same fault, and is left in the same state.
 use Rattle.std.proofs.Common.{◌≡◌, Bool, List, [], ◌∷◌, ◌++◌, Option, Some, is_some, true, false, cond, refl, ap, ◌∙◌, ◌+◌}
 use Rattle.std.specs.Prelude.{◌==◌}
+use Rattle.cloud_points.specs.Flows.{Flow}
 use Rattle.cloud_points.specs.Lifted.{lifted}
-use Rattle.cloud_points.specs.Marks.{Mark, At, View_end, End}
+use Rattle.cloud_points.specs.Marks.{Mark, At, View_end, End, flow_marks}
 use Rattle.cloud_points.specs.Meaning.{Meaning}
-use Rattle.network_theory.specs.Machine.{Machine, next, gives, output, after_all, at_last, one_end, at_start}
+use Rattle.network_theory.specs.Machine.{Machine, next, gives, output, after_all, at_last, one_end, at_start, state_after}
 
 module _ {S T P F : Type 0} (m : Meaning S P F) (project : T → Option S) (inject : S → T) (there : (s : S) → project (inject s) ≡ Some s) where
   -- the machine over the larger state
@@ -48,3 +49,7 @@ module _ {S T P F : Type 0} (m : Meaning S P F) (project : T → Option S) (inje
 
   pub lifted_faults : (s : S) (ts : List (Mark P)) → (after_all (lifted m project inject) (at_start 1 (inject s)) ts).fault ≡ (after_all m (at_start 1 s) ts).fault
   lifted_faults s ts = ap (λ d. d.fault) (wide_after (at_start 1 s) ts)
+
+  -- and leaves the state that it leaves there
+  pub lifted_leaves : (s : S) (flow : Flow P) → state_after (lifted m project inject) (inject s) flow ≡ inject (state_after m s flow)
+  lifted_leaves s flow = ap (λ d. d.state) (wide_after (at_start 1 s) (flow_marks flow))

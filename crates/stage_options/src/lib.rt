@@ -3,6 +3,7 @@
 
 mod assignments;
 mod bounded;
+mod file_names;
 mod laws;
 mod names;
 mod options;
@@ -14,6 +15,7 @@ mod values;
 
 pub use assignments::AssignList;
 pub use bounded::{LasFields, Places};
+pub use file_names::{is_numbered, is_source, is_target, numbered};
 pub use laws::roles_follow_types;
 pub use names::{SourceName, TargetName, name_from};
 pub use options::{
@@ -26,4 +28,4 @@ pub use role::Role;
 pub use rules::{Allowed, Rule, rules_of};
 pub use stage::StageSpec;
 pub use tree::Tree;
-pub use values::{Given, is_numbered, is_source, is_target, numbered, value_of};
+pub use values::{Given, value_of};

@@ -4,7 +4,7 @@ ghost use Rattle.std.specs.Prelude.{◌≡◌, option_map};
 ghost use Rattle.stage_options.specs.Roles.{source_of, target_of, pattern_of, written_name, is_gathering, writing_role};
 ghost use Rattle.stage_options.specs.Seen.{role_view};
 
-use crate::values::is_numbered;
+use crate::file_names::is_numbered;
 
 /// What a stage does with files and views.
 #[derive(Clone, Copy, Drop)]

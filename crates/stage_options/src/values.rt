@@ -1,6 +1,6 @@
 //! The values of options.
 
-ghost use Rattle.std.specs.Prelude.{◌≡◌, ◌∷◌, [], count_by, string_bytes, option_map, option_and_then, IfOk};
+ghost use Rattle.std.specs.Prelude.{◌≡◌, ◌∷◌, [], option_map, option_and_then, IfOk};
 ghost use Rattle.serde_json.specs.Data.{number, string};
 ghost use Rattle.serde_json.specs.Find.{as_str};
 ghost use Rattle.serde_json.specs.View.{view, items_view, members_view, number_view};
@@ -9,13 +9,12 @@ ghost use Rattle.limits_text.specs.Texts.{ranges_of, bounds_of, polygon_of, poin
 ghost use Rattle.option_texts.specs.ExtraDims.{extra_dims_of};
 ghost use Rattle.option_texts.specs.Ferries.{ferries_of};
 ghost use Rattle.stage_options.specs.Expressions.{condition_with, assignment_with, all_assignments, some_and_few, assignments_with};
-ghost use Rattle.stage_options.specs.Values.{text_whole, whole_of, format_with, whole_nano, decimal_of, text_truth, truth_of, is_part, is_source, is_target, is_numbered, numbered, is_mark};
+ghost use Rattle.stage_options.specs.Values.{text_whole, whole_of, format_with, whole_nano, decimal_of, text_truth, truth_of};
 ghost use Rattle.stage_options.specs.Values.{value_of};
 ghost use Rattle.stage_options.specs.Seen.{given_view};
 
 use decimal_coords::parse_decimal;
 use expr_lang::{Assign, Expr, ExprErr, parse_assign, parse_expr};
-use itoa::Buffer;
 use las_header::Format;
 use limits_text::{
     Box3, Polygon, RangeList, TextErr, parse_bounds, parse_point, parse_polygon, parse_ranges,
@@ -362,56 +361,4 @@ impl<'a> Given<'a> {
             Given::Json(value) => value.as_str(),
         }
     }
-}
-
-/// Whether a name is one of a file that isn't done yet.
-fn is_part(name: &str) -> bool
-    ensures { result ≡ is_part name.now }
-{
-    name.ends_with(".lasline-part")
-}
-
-/// Whether a name may be that of a file that is read.
-pub fn is_source(name: &str) -> bool
-    ensures { result ≡ is_source name.now }
-{
-    !is_part(name)
-}
-
-/// How often a `#` stands in a name.
-fn marks(name: &str) -> usize
-    ensures { result ≡ count_by is_mark name.now }
-{
-    name.as_bytes().iter().filter(|b| **b == b'#').count()
-}
-
-/// Whether a name may be that of a file that is written: it holds at most one `#`.
-pub fn is_target(name: &str) -> bool
-    ensures { result ≡ is_target name.now }
-{
-    !is_part(name) && marks(name) <= 1
-}
-
-/// Whether a name holds a `#`.
-pub fn is_numbered(name: &str) -> bool
-    ensures { result ≡ is_numbered name.now }
-{
-    name.as_bytes().contains(&b'#')
-}
-
-/// The name with the digits of a view's number in place of each `#`. Refused only where memory is wanting.
-pub fn numbered(alloc: Global, name: &str, view_number: u64) -> Result<String, AllocError>
-    ensures { IfOk result (λ text. string_bytes text ≡ numbered name.now view_number) }
-{
-    let mut buffer = Buffer::new();
-    let digits = buffer.format(view_number);
-    let mut text = String::new(alloc);
-    let mut rest = name;
-    while let Some((front, back)) = rest.split_once('#') {
-        text.push_str(front)?;
-        text.push_str(digits)?;
-        rest = back;
-    }
-    text.push_str(rest)?;
-    Ok(text)
 }

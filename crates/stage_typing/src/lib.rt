@@ -4,6 +4,7 @@
 mod meeting;
 mod members;
 mod outputs;
+mod text_files;
 mod trees;
 mod typing;
 mod walks;

@@ -10,7 +10,7 @@ ghost use Rattle.las_header.specs.ScaleWords.{scale_of_nano};
 ghost use Rattle.las_header.specs.Versions.{is_version, takes_format};
 ghost use Rattle.stage_options.specs.Expressions.{condition_with};
 ghost use Rattle.stage_options.specs.Seen.{given_view};
-ghost use Rattle.stage_typing.specs.Typed.{option_in, whole_in, text_in, decimal_or, scale_in, offset_in, columns_in, extra_dims_in, forward_in, format_in, takes_given, minor_in, las_fields_in, text_options_in, where_in, expression_in, assignments_in, ranges_in, ferries_in, groups_in, name_in, is_down};
+ghost use Rattle.stage_typing.specs.Typed.{option_in, whole_in, text_in, decimal_or, scale_in, offset_in, extra_dims_in, forward_in, format_in, takes_given, minor_in, las_fields_in, where_in, expression_in, assignments_in, ranges_in, ferries_in, groups_in, name_in, is_down};
 ghost use Rattle.stage_options.specs.Values.{whole_of, decimal_of, truth_of};
 
 pub(crate) mod shapes;
@@ -21,14 +21,11 @@ use file_devices::Name;
 use forward_rules::{LasOpts, NameList};
 use las_header::{Format, takes_format};
 use limits_text::RangeList;
-use option_texts::{
-    ExtraDims, Groups, NamedColumns, NamedFerries, columns_of, extra_dims_of, forward_of, groups_of,
-};
+use option_texts::{ExtraDims, Groups, NamedFerries, extra_dims_of, forward_of, groups_of};
 use pipeline_json::member;
 use serde_json::{Map, Value};
-use stage_options::{AssignList, Given, LasFields, Places, TargetName, TextOptions, name_from};
+use stage_options::{AssignList, Given, LasFields, name_from};
 use std::alloc::{AllocError, Global};
-use text_writer::Separator;
 
 /// The greatest offset, in nanounits.
 const MOST_OFFSET: i64 = 999_999_999_999_999_999;
@@ -61,7 +58,7 @@ pub(crate) fn whole_or(options: &Map<String, Value>, name: &str, default: u32) -
 }
 
 /// The whole number of this range that an option is.
-fn whole_in(options: &Map<String, Value>, low: u32, high: u32, name: &str) -> Option<u32>
+pub(crate) fn whole_in(options: &Map<String, Value>, low: u32, high: u32, name: &str) -> Option<u32>
     ensures value { result ≡ whole_in low high name.now (members_view options.now.entries) }
     ensures low { IfSome result (λ n. low ≤ n) }
     ensures high { IfSome result (λ n. n ≤ high) }
@@ -167,14 +164,14 @@ pub(crate) fn truth_or(options: &Map<String, Value>, name: &str, default: bool) 
 }
 
 /// The text that an option is.
-fn text_of<'a>(options: &'a Map<String, Value>, name: &str) -> Option<&'a str>
+pub(crate) fn text_of<'a>(options: &'a Map<String, Value>, name: &str) -> Option<&'a str>
     ensures { option_map (λ s. s.now) result ≡ option_in as_str name.now (members_view options.now.entries) }
 {
     given(options, name)?.text()
 }
 
 /// The text of so many bytes that an option is.
-fn text_in<'a>(
+pub(crate) fn text_in<'a>(
     options: &'a Map<String, Value>,
     low: usize,
     high: usize,
@@ -384,38 +381,4 @@ pub(crate) fn is_down(options: &Map<String, Value>) -> bool
         Some(text) => text == "DESC",
         None => false,
     }
-}
-
-/// The columns of a text file: by default X, Y and Z.
-fn columns_in(alloc: Global, options: &Map<String, Value>) -> Result<NamedColumns, AllocError>
-    ensures { IfOk result (λ columns. columns ≡ columns_in (members_view options.now.entries)) }
-{
-    let text = text_of(options, "order").unwrap_or("X,Y,Z");
-    match columns_of(alloc, text)? {
-        Some(columns) => Ok(columns),
-        None => Ok(NamedColumns::none(alloc)),
-    }
-}
-
-/// What a text writer is told of its file.
-pub(crate) fn text_options(
-    alloc: Global,
-    filename: TargetName,
-    options: &Map<String, Value>,
-) -> Result<TextOptions, AllocError>
-    ensures { IfOk result (λ text. text ≡ text_options_in filename (members_view options.now.entries)) }
-{
-    let columns = columns_in(alloc, options)?;
-    let delimiter = name_from(alloc, text_in(options, 1, 8, "delimiter").unwrap_or(","))?;
-    let precision = whole_in(options, 0, 9, "precision").unwrap_or(3);
-    let only = where_in(alloc, options)?;
-    Ok(TextOptions {
-        filename,
-        columns,
-        precision: Places::new(precision),
-        delimiter: Separator::new(delimiter),
-        quote_header: truth_or(options, "quote_header", true),
-        write_header: truth_or(options, "write_header", true),
-        only,
-    })
 }

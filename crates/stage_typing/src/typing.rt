@@ -12,8 +12,9 @@ ghost use Rattle.stage_options.specs.declared.options.Options.TheVariants as typ
 use crate::members::shapes::shape_in;
 use crate::members::{
     assignments_in, decimal_or, expression_in, extra_dims_in, ferries_in, groups_in, is_down,
-    las_fields, name_in, number_in, ranges_in, text_options, truth_or, where_in, whole_or,
+    las_fields, name_in, number_in, ranges_in, truth_or, where_in, whole_or,
 };
+use crate::text_files::text_options;
 use crate::walks::refuse;
 use serde_json::{Map, Value};
 use stage_names::{KindName, PipeErr};

@@ -1,4 +1,3 @@
-use Rattle.std.proofs.Common.{◌≡◌}
 use Rattle.run_engine.proofs.Counted.{anyhow, premised}
 use Rattle.run_engine.proofs.counting.halted.Goals as goal
 

@@ -9,7 +9,7 @@ use Rattle.stage_kinds.specs.declared.file_form.StageForm.TheVariants.{Reads}
 use Rattle.plug_stages.specs.Handed.{none_handed}
 use Rattle.stage_options.specs.Roles.{is_reading, role_of}
 use Rattle.stage_names.specs.Faults.{IsFaultOf}
-use Rattle.stage_forms.proofs.Works.{reads-form}
+use Rattle.stage_forms.proofs.Rowed.{reads-form}
 use Rattle.run_opening.proofs.Binding.{dims-past, form-fits, found-fault, no-fields, options-fault}
 use Rattle.run_opening.proofs.bind.bind_stage.Goals as goal
 

@@ -19,7 +19,8 @@ use Rattle.run_engine.specs.Jobs.{HaveCome, CameTo}
 use Rattle.run_engine.proofs.Stopping.{cause-by}
 use Rattle.run_engine.proofs.Blamed.{failed-first, failed-finish, failed-all}
 use Rattle.run_engine.proofs.Ran.{later-on, done-on}
-use Rattle.run_engine.proofs.Answers.{early-left, fault-cause, fault-early, unfinished-to-cause, unfinished-early, same-held, fit, is-run, unkept-cause, unkept-left, unkept-no-data}
+use Rattle.run_engine.proofs.Answers.{fault-cause, fault-early, unfinished-to-cause, same-held, fit, is-run, unkept-cause, unkept-left, unkept-no-data}
+use Rattle.run_engine.proofs.Early.{early-left, unfinished-early}
 use Rattle.run_engine.proofs.Given.{later-out, released-back}
 use Rattle.run_engine.proofs.Remembered.{are-remembered}
 use Rattle.run_engine.proofs.job.Job.close.Goals as goal

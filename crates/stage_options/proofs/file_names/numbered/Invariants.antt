@@ -2,7 +2,7 @@ use Rattle.std.proofs.Common.{◌≡◌, ◌++◌, length, string_bytes}
 use denote.Shadow.{shadow}
 use denote.Text.{Utf8}
 use Rattle.stage_options.specs.Values.{numbered}
-use Rattle.stage_options.proofs.values.numbered.Given as goal
+use Rattle.stage_options.proofs.file_names.numbered.Given as goal
 
 abbrev pub invariant-loop-front : goal.invariant-loop-front
 invariant-loop-front l = record {

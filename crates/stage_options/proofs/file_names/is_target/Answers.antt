@@ -1,6 +1,6 @@
 use Rattle.std.proofs.Common.{◌∙◌, ◌&&◌, ap, count_by, nat_le, not}
 use Rattle.stage_options.specs.Values.{is_mark}
-use Rattle.stage_options.proofs.values.is_target.Goals as goal
+use Rattle.stage_options.proofs.file_names.is_target.Goals as goal
 
 pub returns-then-not-is_part : goal.returns-then-not-is_part
 returns-then-not-is_part c =

@@ -2,7 +2,7 @@ use Rattle.std.proofs.Common.{◌∙◌, ◌++◌, length, length-append, string
 use Rattle.std.proofs.lemmas.Str.Pattern.{split_parts}
 use Rattle.stage_options.specs.Values.{numbered}
 use Rattle.stage_options.proofs.Marks.{numbered_step, numbered_none}
-use Rattle.stage_options.proofs.values.numbered.Goals as goal
+use Rattle.stage_options.proofs.file_names.numbered.Goals as goal
 
 pub loop-front-smaller : goal.loop-front-smaller
 loop-front-smaller c =
