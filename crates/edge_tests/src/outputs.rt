@@ -16,11 +16,11 @@ const READS: [(u64, usize, [u8; 4]); 9] = [
     (0, 4, *b"P123"),
     (3, 4, *b"3XY6"),
     (8, 4, *b"8?\x07\x07"),
-    (100_008, 4, *b"\x07\x07\x09\x09"),
-    (170_008, 4, *b"\x09\x09en"),
-    (170_010, 4, *b"end!"),
-    (170_012, 2, *b"d!\x00\x00"),
-    (170_014, 0, [0; 4]),
+    (200_008, 4, *b"\x07\x07\x09\x09"),
+    (340_008, 4, *b"\x09\x09en"),
+    (340_010, 4, *b"end!"),
+    (340_012, 2, *b"d!\x00\x00"),
+    (340_014, 0, [0; 4]),
     (u64::MAX - 9, 0, [0; 4]),
 ];
 
@@ -66,10 +66,10 @@ where
     F::Out: Send,
 {}
 
-/// Whether 50,000 bytes twice, 70,000 and some others are written, and the file is kept.
+/// Whether 100,000 bytes twice, 140,000 and some others are written, and the file is kept.
 fn write_pieces(files: &mut Store<'_>, alloc: Global) -> Option<bool> {
-    let piece = vec![in alloc; 7u8; 50_000].ok()?;
-    let large = vec![in alloc; 9u8; 70_000].ok()?;
+    let piece = vec![in alloc; 7u8; 100_000].ok()?;
+    let large = vec![in alloc; 9u8; 140_000].ok()?;
     let mut sink = files.create("pieces.bin").ok()?;
     let written = write_all(&mut sink, &piece, &large).is_ok();
     Some(files.keep("pieces.bin", sink).is_ok() && written)

@@ -13,7 +13,7 @@ const UNWRITTEN: [(Bend, usize, usize, bool, bool); 5] = [
     (Bend::Unsynced, 3, 3, false, false),
     (Bend::Unsynced, 0, 3, true, true),
     (Bend::Fixed, 3, 0, false, true),
-    (Bend::Fixed, 70_000, 3, true, true),
+    (Bend::Fixed, 140_000, 3, true, true),
 ];
 
 /// Why an output isn't created.

@@ -1,5 +1,5 @@
 -- Before the first node is taken back, and after the last.
-use Rattle.std.proofs.Common.{◌≡◌, ℕ, ◌-◌, ◌<◌, List, [], length, Option, get_or, map, replicate, ap, subst, sym, ◌∙◌, arith}
+use Rattle.std.proofs.Common.{◌≡◌, ℕ, ◌<◌, List, [], length, Option, get_or, map, replicate, ap, subst, sym, ◌∙◌, arith}
 use Rattle.std.specs.Prelude.{vec_len, slice_get}
 use Rattle.std.proofs.lemmas.List.{drop_all, get_or-replicate, length-map, get_or-map}
 use Rattle.cloud_points.specs.declared.work.Work.{Ghosts}

@@ -9,7 +9,7 @@ use Rattle.network_theory.specs.Opening.{IsFresh}
 use Rattle.network_core.specs.declared.node.Node.{Node}
 use Rattle.network_core.specs.Shown.{shown}
 use Rattle.network_workers.specs.declared.seats.Deal.{Deal}
-use Rattle.network_workers.specs.Dealt.{AreOpened, empty_hand, with_place, worker_at, dealt, places}
+use Rattle.network_workers.specs.Dealt.{AreOpened, empty_hand, with_place, dealt, places}
 use Rattle.network_workers.specs.Lists.{Each}
 use Rattle.network_workers.specs.Rooms.{present, left, ends_at, hands_of, AreThere, OthersStay, HasSeat, HasEnds, HaveRoom, IsRoom}
 use Rattle.network_workers.specs.Seats.{DealsFit, AreFew}

@@ -22,7 +22,6 @@ use Rattle.network_workers.specs.declared.seats.SeatIn.{SeatIn}
 use Rattle.network_workers.specs.declared.seats.Deal.{Deal}
 use Rattle.network_workers.specs.Dealt.{Place, Hand, hand_of, empty_hand, seat_of, entries, with_place, AreWorkers, worker_at, dealt, places, picked, AreOpened, HandsCarry}
 use Rattle.network_workers.specs.Ends.{end_of, got_on, got_of, sent_on, EntryGrew, InGrew, OutGrew}
-use Rattle.network_workers.specs.Lists.{Each}
 use Rattle.network_workers.specs.Gathered.{NodeCarries, Carriage, AreParts, Opened, IsKept, AreTakenBack, AreOfOne, IsFirstPart, IsSettled, EdgesFrom, without, AreOnce}
 use Rattle.network_workers.specs.Seats.{node_of, IsFit, SeatsCarry, DealFits}
 use Rattle.network_workers.proofs.Carrying.{fit-still}

@@ -1,5 +1,5 @@
 -- Rows that are written over others.
-use Rattle.std.proofs.Common.{◌≡◌, ℕ, ◌+◌, ◌-◌, ◌*◌, ◌<◌, ◌≤◌, List, [], ◌++◌, length, take, drop, get_or, set, ⊎_elim, ap, sym, ◌∙◌, arith, append_assoc, length-append, length-drop}
+use Rattle.std.proofs.Common.{◌≡◌, ℕ, ◌+◌, ◌-◌, ◌*◌, ◌<◌, ◌≤◌, List, [], ◌++◌, length, take, drop, get_or, set, ⊎_elim, ap, sym, ◌∙◌, arith, append_assoc, length-append}
 use Rattle.std.proofs.lemmas.Bool.{cases_lt, cases_eq}
 use Rattle.std.proofs.lemmas.List.{same_lists, length-set, length-take-le, get_or-set_same, get_or-set_other}
 use Rattle.std.proofs.lemmas.Slice.{drop-append-drop}
@@ -110,23 +110,3 @@ pub held_stands : (layout : Layout) (gone : ℕ) (pieces : List (List ℕ)) (fir
 held_stands layout gone pieces first len k seen are same before =
     let less = held_low layout gone pieces first len k seen same before in
     row_stands layout gone pieces first (first + len) (first + k) are (omega arith) (omega (arith, less))
-
--- the bytes of the row that stands at a place
-abbrev pub row_at : Layout → ℕ → List (List ℕ) → ℕ → List ℕ
-row_at layout gone pieces place = take (row_size layout) (drop (offset_of place * row_size layout) (get_or pieces (piece_of place - gone) []))
-
-pub row_at_size : (layout : Layout) (gone : ℕ) (pieces : List (List ℕ)) (place : ℕ) → Stands layout gone pieces place → length (row_at layout gone pieces place) ≡ row_size layout
-row_at_size layout gone pieces place here =
-    let bytes = get_or pieces (piece_of place - gone) [] in
-    length-take-le (row_size layout) (drop (offset_of place * row_size layout) bytes) (omega (arith, here.room, length-drop (offset_of place * row_size layout) bytes))
-
--- and as they are copied over another row, by numbers that say where both stand
-pub row_over_row : (layout : Layout) (gone : ℕ) (pieces new : List (List ℕ)) (from to from_piece from_at to_piece to_at w : ℕ)
-    → from_piece ≡ piece_of from - gone → from_at ≡ offset_of from * w → to_piece ≡ piece_of to - gone → to_at ≡ offset_of to * w → w ≡ row_size layout
-    → new ≡ set pieces to_piece (take to_at (get_or pieces to_piece []) ++ (take w (drop from_at (get_or pieces from_piece [])) ++ drop (to_at + w) (get_or pieces to_piece [])))
-    → new ≡ set pieces (piece_of to - gone) (written layout (offset_of to * row_size layout) (row_at layout gone pieces from) (get_or pieces (piece_of to - gone) []))
-row_over_row layout gone pieces new from to from_piece from_at to_piece to_at w fp fa tp ta size is =
-    is
-    ∙ (λ i. set pieces (tp i) (take (ta i) (get_or pieces (tp i) []) ++ (take w (drop (fa i) (get_or pieces (fp i) [])) ++ drop (ta i + w) (get_or pieces (tp i) []))))
-    ∙ ap (λ n. set pieces (piece_of to - gone) (take (offset_of to * n) (get_or pieces (piece_of to - gone) [])
-    ++ (take n (drop (offset_of from * n) (get_or pieces (piece_of from - gone) [])) ++ drop (offset_of to * n + n) (get_or pieces (piece_of to - gone) [])))) size

@@ -13,5 +13,8 @@ pub mod Moving
 pub mod Wider
 pub mod Behind
 pub mod Exchanging
+pub mod Members
 pub mod Cycles
+pub mod Beginning
+pub mod Rounds
 pub mod Permuted

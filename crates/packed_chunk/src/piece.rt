@@ -1,6 +1,6 @@
 //! One buffer of rows.
 
-ghost use Rattle.std.specs.Prelude.{◌≡◌, ◌+◌, ◌≤◌, ◌++◌, [], length, take, drop, IfOk};
+ghost use Rattle.std.specs.Prelude.{◌≡◌, ◌+◌, ◌≤◌, ◌++◌, length, take, drop, IfOk};
 ghost use Rattle.packed_chunk.specs.Rows.{row, row_size};
 
 use crate::Packing;
@@ -31,15 +31,6 @@ impl Piece {
         Ok(Piece { bytes })
     }
 
-    /// No bytes.
-    pub fn none(alloc: Global) -> Piece
-        ensures { result ≡ [] }
-    {
-        Piece {
-            bytes: Vec::new(alloc),
-        }
-    }
-
     /// Lends the bytes.
     #[inline(always)]
     pub fn bytes(&self) -> &[u8]
@@ -65,15 +56,5 @@ impl Piece {
         ensures { self.new ≡ take at self.old ++ (bytes.now ++ drop (at + length bytes.now) self.old) }
     {
         self.bytes[at..at + bytes.len()].copy_from_slice(bytes);
-    }
-
-    /// Writes so many bytes from one place on again from another on.
-    #[inline(always)]
-    pub fn copy_within(&mut self, from: usize, to: usize, count: usize)
-        requires from { from + count ≤ length self.old }
-        requires to { to + count ≤ length self.old }
-        ensures { self.new ≡ take to self.old ++ (take count (drop from self.old) ++ drop (to + count) self.old) }
-    {
-        self.bytes.copy_within(from..from + count, to);
     }
 }

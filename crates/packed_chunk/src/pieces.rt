@@ -1,38 +1,16 @@
 //! The pieces of rows, in a list.
 
-ghost use Rattle.std.specs.Prelude.{◌≡◌, ◌+◌, ◌-◌, ◌*◌, ◌<◌, ◌≤◌, ◌++◌, [], length, take, drop, get_or, set, OnOk, OnErr};
+ghost use Rattle.std.specs.Prelude.{◌≡◌, ◌+◌, ◌<◌, ◌≤◌, ◌++◌, [], length, take, drop, get_or, set, OnOk, OnErr};
 ghost use Rattle.packed_chunk.specs.Fitting.{FitsTypes};
-ghost use Rattle.packed_chunk.specs.Held.{HasRoom, offset_of, piece_of};
+ghost use Rattle.packed_chunk.specs.Held.{HasRoom};
 ghost use Rattle.packed_chunk.specs.Rows.{row, row_size};
 
 use crate::Packing;
 use crate::known::known_numbers;
 use crate::piece::Piece;
-use crate::places::{offset_of, piece_of};
 use cloud_points::Point;
 use std::alloc::{AllocError, Global};
 use std::collections::VecDeque;
-use std::mem;
-
-/// Where the bytes of a row begin: in which piece, and at which of its bytes.
-#[derive(Clone, Copy)]
-pub(crate) struct Spot {
-    pub(crate) piece: usize,
-    pub(crate) at: usize,
-}
-
-/// That of the row at a place, where so many pieces at the front are gone.
-pub(crate) fn spot_of(place: usize, gone: usize, width: usize) -> Spot
-    requires begins { gone ≤ piece_of place }
-    requires small { width ≤ 128 }
-    ensures piece { result.piece ≡ piece_of place - gone }
-    ensures at { result.at ≡ offset_of place * width }
-{
-    Spot {
-        piece: piece_of(place) - gone,
-        at: offset_of(place) * width,
-    }
-}
 
 /// Lets go so many pieces at the front.
 pub(crate) fn let_go(pieces: &mut VecDeque<Piece>, count: usize)
@@ -92,31 +70,4 @@ pub(crate) fn put_bytes(pieces: &mut VecDeque<Piece>, piece: usize, at: usize, r
 {
     let bytes = &mut pieces[piece];
     bytes.put_bytes(at, row);
-}
-
-/// Copies the bytes of a row over those of another. The other row's piece is taken out for that, where they stand in two.
-pub(crate) fn copy_bytes(
-    alloc: Global,
-    pieces: &mut VecDeque<Piece>,
-    from: Spot,
-    to: Spot,
-    width: usize,
-)
-    requires from_piece { from.piece < length pieces.old.items }
-    requires from_room { from.at + width ≤ length (get_or pieces.old.items from.piece []) }
-    requires to_piece { to.piece < length pieces.old.items }
-    requires to_room { to.at + width ≤ length (get_or pieces.old.items to.piece []) }
-    ensures { let bytes = get_or pieces.old.items to.piece [] in
-        let row = take width (drop from.at (get_or pieces.old.items from.piece [])) in
-        pieces.new.items ≡ set pieces.old.items to.piece (take to.at bytes ++ (row ++ drop (to.at + width) bytes)) }
-{
-    if from.piece == to.piece {
-        let piece = &mut pieces[to.piece];
-        piece.copy_within(from.at, to.at, width);
-        return;
-    }
-    let mut target = mem::replace(&mut pieces[to.piece], Piece::none(alloc));
-    let row = &pieces[from.piece].bytes()[from.at..from.at + width];
-    target.put_bytes(to.at, row);
-    pieces[to.piece] = target;
 }

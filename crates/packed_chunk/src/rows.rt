@@ -13,7 +13,7 @@ ghost use Rattle.packed_chunk.specs.Unpacked.{unpacked_at};
 
 use crate::Packing;
 use crate::piece::Piece;
-use crate::pieces::{copy_bytes, let_go, make_room, put_bytes, put_row, spot_of};
+use crate::pieces::{let_go, make_room, put_bytes, put_row};
 use crate::places::{offset_of, piece_of, rows_of};
 use crate::widening::widened;
 use cloud_points::{Layout, Point, Spread};
@@ -285,19 +285,6 @@ impl PackedRows {
             offset_of(place) * self.packing.width(),
             bytes,
         );
-    }
-
-    /// Writes the bytes of the row at a place over those of the row at another.
-    pub(crate) fn copy_row(&mut self, from: usize, to: usize)
-        requires source { from < length self.old.points }
-        requires target { to < length self.old.points }
-        ensures { self.new ≡ record self.old
-            { points = set self.old.points to (get_or self.old.points from zero_point) } }
-    {
-        let width = self.packing.width();
-        let source = spot_of(self.first + from, self.gone, width);
-        let target = spot_of(self.first + to, self.gone, width);
-        copy_bytes(self.alloc, &mut self.pieces, source, target, width);
     }
 
     /// Puts `count` points from a place on in place of what the spread held. It allocates nothing.

@@ -13,7 +13,7 @@ use std::os::unix::fs::{OpenOptionsExt, PermissionsExt};
 use std::{fs, io};
 
 // How many bytes are read and written together.
-const BLOCK: usize = 65_536;
+const BLOCK: usize = 131_072;
 
 /// The files of the system, with the runtime's right to open them. Their map isn't told.
 ///

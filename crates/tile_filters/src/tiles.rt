@@ -2,10 +2,11 @@
 
 ghost use Rattle.std.specs.Prelude.{◌≡◌, ◌≤ℤ◌, pos, false, [], IfOk};
 ghost use Rattle.whole_filters.specs.Whole.{whole_set};
-ghost use Rattle.tile_filters.specs.Tiles.{squares, voxels};
+ghost use Rattle.tile_filters.specs.Tiles.{square_of, squares, voxel_of, voxels};
 
 use crate::cells::CellLength;
 use cloud_points::Point;
+use packed_chunk::PackedRows;
 use std::alloc::{AllocError, Global};
 use whole_filters::{PointKey, Views, first_of_each, group_by};
 
@@ -41,7 +42,17 @@ impl PointKey for BySquare {
     ghost key = { λ by. square_of (pos by.length.0.by) by.x by.y };
 
     #[inline(always)]
-    fn key(&self, p: &Point) -> Square {
+    fn key_at(&self, rows: &PackedRows, k: usize) -> Square {
+        self.square(&rows.get(k))
+    }
+}
+
+impl BySquare {
+    // The square of a point.
+    #[inline(always)]
+    fn square(&self, p: &Point) -> Square
+        ensures { result ≡ square_of (pos self.now.length.0.by) self.now.x self.now.y p.now }
+    {
         Square {
             x: self.length.cell(p.x, self.x),
             y: self.length.cell(p.y, self.y),
@@ -62,7 +73,17 @@ impl PointKey for ByVoxel {
     ghost key = { λ by. voxel_of (pos by.0.0.by) };
 
     #[inline(always)]
-    fn key(&self, p: &Point) -> Voxel {
+    fn key_at(&self, rows: &PackedRows, k: usize) -> Voxel {
+        self.voxel(&rows.get(k))
+    }
+}
+
+impl ByVoxel {
+    // The voxel of a point.
+    #[inline(always)]
+    fn voxel(&self, p: &Point) -> Voxel
+        ensures { result ≡ voxel_of (pos self.now.0.0.by) p.now }
+    {
         Voxel {
             x: self.0.floor(p.x),
             y: self.0.floor(p.y),

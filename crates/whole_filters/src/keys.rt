@@ -2,11 +2,14 @@
 
 ghost use Rattle.std.specs.Prelude.{◌≡◌};
 
-use cloud_points::{Dim, Point};
+use cloud_points::Dim;
+use packed_chunk::PackedRows;
 use std::hash::Hash;
 
 /// What points are told apart by.
 pub trait PointKey {
+    ghost use Rattle.std.specs.Prelude.{◌<◌, length, get_or};
+    ghost use Rattle.cloud_points.specs.Points.{zero_point};
     ghost use Rattle.cloud_points.specs.declared.point.Point.{Point};
 
     /// The keys.
@@ -14,9 +17,10 @@ pub trait PointKey {
 
     ghost key: { Self → Point → Self.Key };
 
-    /// The key of a point.
-    fn key(&self, p: &Point) -> Self::Key
-        ensures { result ≡ key self.now p.now };
+    /// The key of the point at a place. Of its row only what the key needs is read.
+    fn key_at(&self, rows: &PackedRows, k: usize) -> Self::Key
+        requires { k < length rows.now.points }
+        ensures { result ≡ key self.now (get_or rows.now.points k zero_point) };
 }
 
 /// Points are told apart by their keys in a dimension.
@@ -25,13 +29,14 @@ pub(crate) struct DimKey(pub(crate) Dim);
 
 impl PointKey for DimKey {
     ghost use Rattle.cloud_points.specs.Points.{key_of};
+    ghost use Rattle.packed_chunk.specs.Keys.{short_key};
 
-    type Key = i128;
+    type Key = i64;
 
-    ghost key = { λ by p. key_of p by.0 };
+    ghost key = { λ by p. short_key by.0 (key_of p by.0) };
 
     #[inline(always)]
-    fn key(&self, p: &Point) -> i128 {
-        p.key(self.0)
+    fn key_at(&self, rows: &PackedRows, k: usize) -> i64 {
+        rows.short_key(k, self.0)
     }
 }

@@ -52,7 +52,7 @@ impl Points {
         requires { 0 < length self.now }
         ensures { result ≡ K.key by.now (get_or self.now 0 zero_point) }
     {
-        by.key(&self.rows.get(self.at))
+        self.rows.key_at(by, self.at)
     }
 
     /// Puts the first one at the end of other rows. It is refused for want of memory alone.

@@ -7,6 +7,7 @@ ghost use Rattle.cloud_points.specs.Points.{key_of, zero_point};
 ghost use Rattle.packed_chunk.specs.Keys.{short_key};
 ghost use Rattle.whole_filters.specs.Whole.{before, sorted_by};
 
+use crate::keys::PointKey;
 use crate::places::put_in_order;
 use cloud_points::{Dim, Layout, Point, Spread};
 use packed_chunk::PackedRows;
@@ -171,6 +172,15 @@ impl Rows {
         ensures { result ≡ short_key dim (key_of (get_or self.now k zero_point) dim) }
     {
         self.packed.short_key(k, dim)
+    }
+
+    /// What tells the point at a place from others.
+    #[inline(always)]
+    pub(crate) fn key_at<K: PointKey>(&self, by: &K, k: usize) -> K::Key
+        requires { k < length self.now }
+        ensures { result ≡ K.key by.now (get_or self.now k zero_point) }
+    {
+        by.key_at(&self.packed, k)
     }
 
     /// Puts `count` points from a place on in place of what the spread held.

@@ -1,4 +1,4 @@
-use Rattle.std.proofs.Common.{◌≡◌, ℕ, ◌%◌, ◌≤◌, length, map, take, vec_len, vec_capacity}
+use Rattle.std.proofs.Common.{◌≡◌, ◌%◌, ◌≤◌, length, map, take, vec_len, vec_capacity}
 use Rattle.std.specs.List.{range_with_len}
 use Rattle.network_workers.specs.Dealt.{own_count}
 use Rattle.network_workers.proofs.rooms.takers_for.Given as goal

@@ -9,7 +9,7 @@ pub loop-start-init : goal.loop-start-init
 loop-start-init c = record {
   layout = refl;
   many = refl;
-  ends = c.len-start-end.ensures;
+  inside = omega arith;
   places = places_are (length c.args.self.now.points) c.args.sources.now c.requires;
   same = λ k l. refl;
   done = λ k l. absurd (omega (arith, l));
@@ -30,5 +30,5 @@ returns c =
     let v = c.loop-start.invariant in
     let places = places_are (length c.args.self.now.points) c.args.sources.now c.requires in
     let points = all_done c.args.self.now.points c.loop-start.self.points c.args.sources.now c.loop-start.sources v.many places.each v.same
-    (λ k l. v.done k (omega (arith, l, v.ends, c.loop-start-test.false))) in
+    (λ k l. v.done k (omega (arith, l, v.many, c.len.ensures, c.loop-start-test.false))) in
     λ j. record { layout = v.layout j; points = points j }
