@@ -1,6 +1,6 @@
 //! The file of generated points.
 
-ghost use Rattle.std.specs.Prelude.{◌≡◌, ◌≤◌, ◌+◌, ◌-◌, [], Some, true, map, IfOk, IfErr, OnOk, OnErr};
+ghost use Rattle.std.specs.Prelude.{◌≡◌, ◌≤◌, ◌+◌, ◌-◌, ◌∷◌, ℕ, [], Some, true, map, option_map, IfOk, IfErr, OnOk, OnErr};
 ghost use Rattle.std.specs.List.{range_with_len};
 ghost use Rattle.file_devices.specs.Counts.{HasCause, Rose};
 ghost use Rattle.file_devices.specs.Told.{IsAsTold};
@@ -164,6 +164,8 @@ pub fn generate<F: Files>(
     ensures err { IfErr result (IsFailure (Rose (F.faults files.old) (F.faults files.new))) }
     ensures left { IfErr result (λ e.
         IsLeft e (F.map files.old) name.now (generated_file count) (F.map files.new)) }
+    ensures gave { OnOk result ((c : ℕ) × IsAsTold (F.counts files.new)
+        (option_map (λ counts. c ∷ counts) (F.counts files.old))) }
     ensures lent { F.lent files.new ≡ F.lent files.old }
     ensures later { F.faults files.old ≤ F.faults files.new }
 {

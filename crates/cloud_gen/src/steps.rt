@@ -1,6 +1,6 @@
 //! The steps of a file, each with the operation that is told where its device fails.
 
-ghost use Rattle.std.specs.Prelude.{◌≡◌, ◌⊎◌, ◌≤◌, ◌+◌, ◌-◌, ◌++◌, [], List, Some, None, true, length, IfOk, IfErr, OnOk, OnErr};
+ghost use Rattle.std.specs.Prelude.{◌≡◌, ◌⊎◌, ◌≤◌, ◌+◌, ◌-◌, ◌++◌, ◌∷◌, [], List, Some, None, true, length, option_map, IfOk, IfErr, OnOk, OnErr};
 ghost use Rattle.cloud_points.specs.declared.point.Point.{Point};
 ghost use Rattle.file_devices.specs.Counts.{HasCause, Rose};
 ghost use Rattle.file_devices.specs.Named.{kept};
@@ -25,6 +25,7 @@ pub(crate) fn create_file<F: Files>(files: &mut F, name: &str) -> Result<F::Out,
     ensures map { F.map files.new ≡ F.map files.old }
     ensures lent { OnOk result (F.lent files.new ≡ F.lent files.old + 1) }
     ensures not_lent { OnErr result (F.lent files.new ≡ F.lent files.old) }
+    ensures counts { F.counts files.new ≡ F.counts files.old }
     ensures later { F.faults files.old ≤ F.faults files.new }
 {
     match files.create(name) {
@@ -100,6 +101,8 @@ pub(crate) fn keep_file<F: Files>(
     ensures err { IfErr result (StopsAt op_type.Op.Keep (Rose (F.faults files.old) (F.faults files.new))) }
     ensures left { OnErr result ((F.map files.new ≡ F.map files.old)
         ⊎ (F.map files.new ≡ kept (F.map files.old) name.now (F.Out.bytes file))) }
+    ensures gave { IsAsTold (F.counts files.new)
+        (option_map (λ counts. F.Out.faults file ∷ counts) (F.counts files.old)) }
     ensures lent { F.lent files.new ≡ F.lent files.old - 1 }
     ensures later { F.faults files.old ≤ F.faults files.new }
 {

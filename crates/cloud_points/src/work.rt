@@ -100,6 +100,7 @@ pub trait Work {
         ensures fewer_views { views_left self.new + views_in (made result into.new.items)
             ≤ views_left self.old }
         ensures cause { is_device (made_fault result) ≡ true → Rose (faults self.old) (faults self.new) }
+        ensures calm { is_device (made_fault result) ≡ false → faults self.new ≡ faults self.old }
         ensures named { IsOf (op self.old) (made_fault result) }
         ensures count { faults self.old ≤ faults self.new }
         ensures holds { (before : List Point) → holds self.old before ≡ true → holds self.new before ≡ true }
@@ -126,6 +127,7 @@ pub trait Work {
             → holds self.old before ≡ true → holds self.new (before ++ points.old.items) ≡ true }
 
         ensures cause { is_device result ≡ true → Rose (faults self.old) (faults self.new) }
+        ensures calm { is_device result ≡ false → faults self.new ≡ faults self.old }
         ensures named { IsOf (op self.old) result }
         ensures count { faults self.old ≤ faults self.new }
         ensures stays_short { short self.old ≡ true → short self.new ≡ true };
@@ -141,7 +143,7 @@ pub trait Work {
             → state self.new ≡ ((meaning self.old).at_view (state self.old)).0 }
         ensures goes_on { result ≡ ((meaning self.old).at_view (state self.old)).1 }
         ensures holds { (before : List Point) → holds self.old before ≡ true → holds self.new before ≡ true }
-        ensures count { faults self.old ≤ faults self.new }
+        ensures calm { faults self.new ≡ faults self.old }
         ensures stays_short { short self.old ≡ true → short self.new ≡ true };
 
     /// Whether an end of a view goes before the end of all, which comes next. `cut` says whether that is cut.
@@ -153,7 +155,7 @@ pub trait Work {
         ensures op { op self.new ≡ op self.old }
         ensures gives { (meaning self.old).at_end (state self.old) cut ≡ (state self.new, result) }
         ensures holds { (before : List Point) → holds self.old before ≡ true → holds self.new before ≡ true }
-        ensures count { faults self.old ≤ faults self.new }
+        ensures calm { faults self.new ≡ faults self.old }
         ensures stays_short { short self.new ≡ short self.old };
 
     /// Its meaning keeps the law of cutting.

@@ -9,7 +9,7 @@ use borrow.Rule.Slice.PartMut.{put_mid}
 -- so many bytes are there
 pub record Filling (before bytes : Option (List ℕ)) (faults_before faults reached_before reached at done : ℕ) (old new : List ℕ) : Type 0 where
   pub same : bytes ≡ before
-  pub later : faults_before ≤ faults
+  pub calm : faults ≡ faults_before
   pub got : reached ≤ max reached_before (at + done)
   pub within : done ≤ length old
   pub rest : drop done new ≡ drop done old
@@ -37,14 +37,14 @@ more_given b xs ys at d n h given read =
     ∙ ap (λ zs. take d (drop at b) ++ zs) (read ∙ ap (take n) (sym (drop-drop d at b))) ∙ sym (take-add d n (drop at b))
 
 -- the loop goes on
-pub filling_more : (before bytes bytes_after : Option (List ℕ)) (f0 f1 f2 r0 r1 r2 at d n : ℕ) (old xs ys : List ℕ) → length xs ≡ length old → bytes_after ≡ bytes → f1 ≤ f2 → r2 ≡ max r1 (at + d + n)
+pub filling_more : (before bytes bytes_after : Option (List ℕ)) (f0 f1 f2 r0 r1 r2 at d n : ℕ) (old xs ys : List ℕ) → length xs ≡ length old → bytes_after ≡ bytes → f2 ≡ f1 → r2 ≡ max r1 (at + d + n)
     → Filling before bytes f0 f1 r0 r1 at d old xs → ReadsAt bytes (at + d) n (take (length xs - d) (drop d xs)) ys → Filling before bytes_after f0 f2 r0 r2 at (d + n) old (put_mid d (length xs - d) xs ys)
-filling_more before bytes bytes_after f0 f1 f2 r0 r1 r2 at d n old xs ys len same later got was read =
+filling_more before bytes bytes_after f0 f1 f2 r0 r1 r2 at d n old xs ys len same calm got was read =
     let inside : d ≤ length xs = omega (arith, was.within) in
     let within : n ≤ length xs - d = omega (arith, read.within, ap length (left_is xs d), length-drop d xs) in
     record {
       same = same ∙ was.same;
-      later = omega (arith, was.later);
+      calm = calm ∙ was.calm;
       got = omega (arith, was.got, was.within);
       within = omega (arith, was.within);
       rest = rw (part_to_end xs ys d) (rest_stays old xs ys d n inside was.rest (read.rest ∙ ap (drop n) (left_is xs d)));
@@ -65,11 +65,11 @@ filled_all before bytes f0 f1 r0 r1 at d old xs len whole was =
       all = λ b e. omega (arith, was.within, amount b xs at d inside (was.given b e));
     }
 
-pub filled_to_end : (before bytes bytes_after : Option (List ℕ)) (f0 f1 f2 r0 r1 r2 at d n : ℕ) (old xs ys : List ℕ) → length xs ≡ length old → bytes_after ≡ bytes → f1 ≤ f2 → r2 ≡ max r1 (at + d + n)
+pub filled_to_end : (before bytes bytes_after : Option (List ℕ)) (f0 f1 f2 r0 r1 r2 at d n : ℕ) (old xs ys : List ℕ) → length xs ≡ length old → bytes_after ≡ bytes → f2 ≡ f1 → r2 ≡ max r1 (at + d + n)
     → d < length xs → n ≡ 0 → Filling before bytes f0 f1 r0 r1 at d old xs → ReadsAt bytes (at + d) n (take (length xs - d) (drop d xs)) ys → Fills before at d old (put_mid d (length xs - d) xs ys)
-filled_to_end before bytes bytes_after f0 f1 f2 r0 r1 r2 at d n old xs ys len same later got more none was read =
+filled_to_end before bytes bytes_after f0 f1 f2 r0 r1 r2 at d n old xs ys len same calm got more none was read =
     let inside : d ≤ length xs = omega arith in
-    let now = filling_more before bytes bytes_after f0 f1 f2 r0 r1 r2 at d n old xs ys len same later got was read in
+    let now = filling_more before bytes bytes_after f0 f1 f2 r0 r1 r2 at d n old xs ys len same calm got was read in
     let still : d + n ≡ d = omega arith in
     let room : 0 < length (take (length xs - d) (drop d xs)) = omega (arith, ap length (left_is xs d), length-drop d xs) in
     record {

@@ -5,6 +5,10 @@ use Rattle.std.specs.Prelude.{◌≡◌, ℕ, ◌<◌, ◌-◌, ◌^◌, List, �
 abbrev pub no_faults : ℕ
 no_faults = 0
 
+-- what is told of the counts of devices that never fail
+abbrev pub no_counts : Option (List ℕ)
+no_counts = None
+
 -- what it tells, by whether it went past its room and what it holds
 abbrev pub sure_bytes : Bool → List ℕ → Option (List ℕ)
 sure_bytes over content = if over then None else Some content

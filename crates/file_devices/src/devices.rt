@@ -1,10 +1,10 @@
 //! What a source, a sink and a store of files promise.
 //!
-//! Each has a count of faults, which never falls: a call fails only where it raised the count. A count is
-//! kept as a u64 and stays at the greatest one, so "rose" is read as "rose, or is the greatest u64 now".
+//! Each has a count of faults, which never falls: a call on an object fails only where it raised the count of that
+//! object, and any other call leaves it. A count is kept as a u64 and stays at the greatest one, so "rose" is read as "rose, or is the greatest u64 now".
 //! What an object tells of its content is an option: an object of the system tells nothing, one in memory
 //! tells its bytes, and the promises on content hold where it is told.
-ghost use Rattle.std.specs.Prelude.{◌≡◌, ◌⊎◌, ◌+◌, ◌-◌, ◌^◌, ◌<◌, ◌≤◌, List, [], ℕ, length, max, min, Option, Some, None, Result, IfOk, IfErr, OnOk, OnErr, option_map, IsErrOf, IfSome, ⊤};
+ghost use Rattle.std.specs.Prelude.{◌≡◌, ◌⊎◌, ◌+◌, ◌-◌, ◌^◌, ◌<◌, ◌≤◌, List, [], ◌∷◌, ℕ, length, max, min, Option, Some, None, Result, IfOk, IfErr, OnOk, OnErr, option_map, IsErrOf, IfSome, ⊤};
 ghost use Rattle.file_devices.specs.Counts.{Rose, HasCause, saturating};
 ghost use Rattle.file_devices.specs.Told.{IsAsTold};
 ghost use Rattle.file_devices.specs.Content.{ReadsAt, Appends, AppendsPart, Patches, PatchesSomehow};
@@ -134,6 +134,10 @@ pub trait Files {
 
     ghost faults: { Self → ℕ };
 
+    // The counts of faults of the objects that were taken back, the last one first, where they are told. Counts that stop being
+    // told aren't told again.
+    ghost counts: { Self → Option (List ℕ) };
+
     /// Hands out a source of the named bytes, with no fault and nothing read.
     ///
     /// It answers Absent only where the map is told and has no file of the name.
@@ -147,6 +151,7 @@ pub trait Files {
         ensures failed { IsErrOf result DeviceFailed → Rose (faults self.old) (faults self.new) }
         ensures map { map self.new ≡ map self.old }
         ensures read_to { read_to self.new ≡ read_to self.old }
+        ensures counts { counts self.new ≡ counts self.old }
         ensures lent_ok { OnOk result (lent self.new ≡ lent self.old + 1) }
         ensures lent_err { OnErr result (lent self.new ≡ lent self.old) };
 
@@ -159,6 +164,7 @@ pub trait Files {
         ensures failed { IsErrOf result DeviceFailed → Rose (faults self.old) (faults self.new) }
         ensures map { map self.new ≡ map self.old }
         ensures read_to { read_to self.new ≡ read_to self.old }
+        ensures counts { counts self.new ≡ counts self.old }
         ensures lent_ok { OnOk result (lent self.new ≡ lent self.old + 1) }
         ensures lent_err { OnErr result (lent self.new ≡ lent self.old) };
 
@@ -174,6 +180,8 @@ pub trait Files {
         ensures counted { saturating (faults self.old) (Self.Out.faults out) ≤ faults self.new }
         ensures failed { IsErrOf result DeviceFailed → Rose (faults self.old) (faults self.new) }
         ensures read_to { read_to self.new ≡ read_to self.old }
+        ensures counts { IsAsTold (counts self.new)
+            (option_map (λ cs. Self.Out.faults out ∷ cs) (counts self.old)) }
         ensures lent { lent self.new ≡ lent self.old - 1 };
 
     /// Takes a source back. Its count is added to that of the files, and its `reached` to `read_to`.
@@ -181,6 +189,8 @@ pub trait Files {
         ensures map { map self.new ≡ map self.old }
         ensures read_to { IsAsTold (read_to self.new)
             (option_map (λ n. n + Self.In.reached source) (read_to self.old)) }
+        ensures counts { IsAsTold (counts self.new)
+            (option_map (λ cs. Self.In.faults source ∷ cs) (counts self.old)) }
         ensures later { faults self.old ≤ faults self.new }
         ensures counted { saturating (faults self.old) (Self.In.faults source) ≤ faults self.new }
         ensures lent { lent self.new ≡ lent self.old - 1 };
@@ -189,6 +199,8 @@ pub trait Files {
     fn done_out(&mut self, out: Self::Out)
         ensures map { map self.new ≡ map self.old }
         ensures read_to { read_to self.new ≡ read_to self.old }
+        ensures counts { IsAsTold (counts self.new)
+            (option_map (λ cs. Self.Out.faults out ∷ cs) (counts self.old)) }
         ensures later { faults self.old ≤ faults self.new }
         ensures counted { saturating (faults self.old) (Self.Out.faults out) ≤ faults self.new }
         ensures lent { lent self.new ≡ lent self.old - 1 };

@@ -1,6 +1,6 @@
 //! Files in memory, of which chosen calls fail.
-ghost use Rattle.std.specs.Prelude.{◌≡◌, ◌<◌, ◌≤◌, ◌+◌, ◌-◌, ◌^◌, ◌⊎◌, ◌↔◌, ℕ, List, [], Contains, length, Some, None, if◌then◌else◌, IfSome, IsSome, IfOk, OnOk, OnErr, IsErrOf, IsTrue, option_map, min};
-ghost use Rattle.file_devices.specs.Counts.{Rose, saturating};
+ghost use Rattle.std.specs.Prelude.{◌≡◌, ◌<◌, ◌≤◌, ◌+◌, ◌-◌, ◌^◌, ◌⊎◌, ◌↔◌, ℕ, List, [], ◌∷◌, Contains, length, Some, None, if◌then◌else◌, IfSome, IsSome, IfOk, OnOk, OnErr, IsErrOf, IsTrue, option_map, min};
+ghost use Rattle.file_devices.specs.Counts.{Rose, last_first, saturating};
 ghost use Rattle.file_devices.specs.Told.{IsAsTold};
 ghost use Rattle.file_devices.specs.Named.{Names, put, kept};
 ghost use Rattle.file_devices.specs.Stored.{found};
@@ -29,6 +29,8 @@ pub struct MemFiles {
     faults: u64,
     lent: u64,
     read_to: Option<u64>,
+    // The counts of what was taken back, until memory for one was wanting.
+    counts: Option<Vec<u64>>,
     ghost some: { 0 < most },
 }
 
@@ -45,6 +47,7 @@ impl MemFiles {
         ensures map { ⟦<MemFiles as Files>⟧.map result ≡ Some (found files.items) }
         ensures read_to { ⟦<MemFiles as Files>⟧.read_to result ≡ Some 0 }
         ensures faults { ⟦<MemFiles as Files>⟧.faults result ≡ 0 }
+        ensures none_back { ⟦<MemFiles as Files>⟧.counts result ≡ Some [] }
         ensures lent { ⟦<MemFiles as Files>⟧.lent result ≡ 0 }
         ensures room { result.room ≡ room }
         ensures most { result.most ≡ most }
@@ -62,6 +65,7 @@ impl MemFiles {
             faults: 0,
             lent: 0,
             read_to: Some(0),
+            counts: Some(Vec::new(alloc)),
         }
     }
 
@@ -101,9 +105,12 @@ impl MemFiles {
     // Takes an object with this count of faults back.
     fn take_back(&mut self, faults: u64)
         ensures exact { self.new ≡ record self.old
-            { lent = self.old.lent - 1; faults = saturating self.old.faults faults } }
+            { lent = self.old.lent - 1; faults = saturating self.old.faults faults; counts = self.new.counts } }
         ensures later { self.old.faults ≤ self.new.faults }
+        ensures counts { IsAsTold (last_first self.new.counts)
+            (option_map (λ cs. faults ∷ cs) (last_first self.old.counts)) }
     {
+        self.counts = with_count(self.counts.take(), faults);
         self.lent = self.lent.saturating_sub(1);
         self.faults = self.faults.saturating_add(faults);
     }
@@ -124,6 +131,15 @@ impl MemFiles {
     }
 }
 
+// Counts with one more; None where there were none, or memory for it is wanting.
+fn with_count(counts: Option<Vec<u64>>, count: u64) -> Option<Vec<u64>>
+    ensures { IsAsTold (last_first result) (option_map (λ cs. count ∷ cs) (last_first counts)) }
+{
+    let mut counts = counts?;
+    counts.push(count).ok()?;
+    Some(counts)
+}
+
 impl Files for MemFiles {
     type In = MemIn;
 
@@ -137,6 +153,8 @@ impl Files for MemFiles {
 
     ghost faults = { λ s. s.faults };
 
+    ghost counts = { λ s. last_first s.counts };
+
     fn open_in(&mut self, name: &str) -> Result<MemIn, DeviceErr>
         ensures ok { IfOk result (λ source. (m : Names) → Some (found self.old.entries.items) ≡ Some m
             → (b : List ℕ) × (m name.now ≡ Some b) × (Some source.content.items ≡ Some b)) }
@@ -148,6 +166,7 @@ impl Files for MemFiles {
         ensures failed { IsErrOf result DeviceFailed → Rose self.old.faults self.new.faults }
         ensures map { Some (found self.new.entries.items) ≡ Some (found self.old.entries.items) }
         ensures read_to { self.new.read_to ≡ self.old.read_to }
+        ensures counts { last_first self.new.counts ≡ last_first self.old.counts }
         ensures lent_ok { OnOk result (self.new.lent ≡ self.old.lent + 1) }
         ensures lent_err { OnErr result (self.new.lent ≡ self.old.lent) }
 
@@ -195,6 +214,7 @@ impl Files for MemFiles {
         ensures failed { IsErrOf result DeviceFailed → Rose self.old.faults self.new.faults }
         ensures map { Some (found self.new.entries.items) ≡ Some (found self.old.entries.items) }
         ensures read_to { self.new.read_to ≡ self.old.read_to }
+        ensures counts { last_first self.new.counts ≡ last_first self.old.counts }
         ensures lent_ok { OnOk result (self.new.lent ≡ self.old.lent + 1) }
         ensures lent_err { OnErr result (self.new.lent ≡ self.old.lent) }
 
@@ -240,6 +260,8 @@ impl Files for MemFiles {
         ensures counted { saturating self.old.faults out.faults ≤ self.new.faults }
         ensures failed { IsErrOf result DeviceFailed → Rose self.old.faults self.new.faults }
         ensures read_to { self.new.read_to ≡ self.old.read_to }
+        ensures counts { IsAsTold (last_first self.new.counts)
+            (option_map (λ cs. out.faults ∷ cs) (last_first self.old.counts)) }
         ensures lent { self.new.lent ≡ self.old.lent - 1 }
 
         // It fails exactly at the numbers given for object 0, and then keeps nothing.
@@ -267,6 +289,8 @@ impl Files for MemFiles {
     fn done_in(&mut self, source: MemIn)
         ensures map { Some (found self.new.entries.items) ≡ Some (found self.old.entries.items) }
         ensures read_to { IsAsTold self.new.read_to (option_map (λ n. n + source.reached) self.old.read_to) }
+        ensures counts { IsAsTold (last_first self.new.counts)
+            (option_map (λ cs. source.faults ∷ cs) (last_first self.old.counts)) }
         ensures later { self.old.faults ≤ self.new.faults }
         ensures counted { saturating self.old.faults source.faults ≤ self.new.faults }
         ensures lent { self.new.lent ≡ self.old.lent - 1 }
@@ -276,7 +300,7 @@ impl Files for MemFiles {
             → self.new.read_to ≡ Some (n + source.reached)) }
         ensures exact { self.new.faults ≡ saturating self.old.faults source.faults }
         ensures same { self.new ≡ record self.old
-            { faults = self.new.faults; lent = self.new.lent; read_to = self.new.read_to } }
+            { faults = self.new.faults; lent = self.new.lent; read_to = self.new.read_to; counts = self.new.counts } }
     {
         self.take_back(source.faults());
         self.read_to = self.read_to.and_then(|n| n.checked_add(source.reached()));
@@ -285,12 +309,15 @@ impl Files for MemFiles {
     fn done_out(&mut self, out: MemOut)
         ensures map { Some (found self.new.entries.items) ≡ Some (found self.old.entries.items) }
         ensures read_to { self.new.read_to ≡ self.old.read_to }
+        ensures counts { IsAsTold (last_first self.new.counts)
+            (option_map (λ cs. out.faults ∷ cs) (last_first self.old.counts)) }
         ensures later { self.old.faults ≤ self.new.faults }
         ensures counted { saturating self.old.faults out.faults ≤ self.new.faults }
         ensures lent { self.new.lent ≡ self.old.lent - 1 }
 
         ensures exact { self.new.faults ≡ saturating self.old.faults out.faults }
-        ensures same { self.new ≡ record self.old { faults = self.new.faults; lent = self.new.lent } }
+        ensures same { self.new ≡ record self.old
+            { faults = self.new.faults; lent = self.new.lent; counts = self.new.counts } }
     {
         let (_content, count) = out.into_content();
         self.take_back(count);

@@ -1,8 +1,8 @@
 //! Devices in memory that never fail.
-ghost use Rattle.std.specs.Prelude.{◌≡◌, ◌+◌, ◌-◌, ◌^◌, ◌<◌, ◌≤◌, ◌++◌, ◌⊎◌, ◌↔◌, List, [], ℕ, length, min, Some, None, true, false, if◌then◌else◌, vec_len, vec_capacity, nat_lt, ◌||◌, IsTrue, IfOk, IfSome, OnOk, OnErr, IsErrOf, max, option_map};
+ghost use Rattle.std.specs.Prelude.{◌≡◌, ◌+◌, ◌-◌, ◌^◌, ◌<◌, ◌≤◌, ◌++◌, ◌⊎◌, ◌↔◌, List, [], ◌∷◌, ℕ, length, min, Some, None, true, false, if◌then◌else◌, vec_len, vec_capacity, nat_lt, ◌||◌, IsTrue, IfOk, IfSome, OnOk, OnErr, IsErrOf, max, option_map};
 ghost use Rattle.file_devices.specs.Counts.{HasCause, Rose, saturating};
 ghost use Rattle.file_devices.specs.Content.{ReadsAt, Appends, AppendsPart, Patches, PatchesSomehow};
-ghost use Rattle.file_devices.specs.Sure.{no_faults, sure_bytes, sure_appended, sure_held};
+ghost use Rattle.file_devices.specs.Sure.{no_counts, no_faults, sure_bytes, sure_appended, sure_held};
 ghost use Rattle.file_devices.specs.Told.{IsAsTold};
 ghost use Rattle.file_devices.specs.declared.devices.DeviceErr.TheVariants.{Absent, Failed as DeviceFailed};
 ghost use Rattle.file_devices.specs.Named.{Names, kept};
@@ -232,6 +232,8 @@ impl Files for SureFiles {
 
     ghost faults = { λ _. no_faults };
 
+    ghost counts = { λ _. no_counts };
+
     fn open_in(&mut self, name: &str) -> Result<SureIn, DeviceErr>
         ensures ok { IfOk result (λ source. (m : Names)
             → told_map self.old.told self.old.entries.items ≡ Some m
@@ -246,6 +248,7 @@ impl Files for SureFiles {
         ensures map { told_map self.new.told self.new.entries.items
             ≡ told_map self.old.told self.old.entries.items }
         ensures read_to { self.new.read_to ≡ self.old.read_to }
+        ensures counts { no_counts ≡ no_counts }
         ensures lent_ok { OnOk result (self.new.lent ≡ self.old.lent + 1) }
         ensures lent_err { OnErr result (self.new.lent ≡ self.old.lent) }
 
@@ -283,6 +286,7 @@ impl Files for SureFiles {
         ensures map { told_map self.new.told self.new.entries.items
             ≡ told_map self.old.told self.old.entries.items }
         ensures read_to { self.new.read_to ≡ self.old.read_to }
+        ensures counts { no_counts ≡ no_counts }
         ensures lent_ok { OnOk result (self.new.lent ≡ self.old.lent + 1) }
         ensures lent_err { OnErr result (self.new.lent ≡ self.old.lent) }
 
@@ -312,6 +316,7 @@ impl Files for SureFiles {
         ensures counted { saturating no_faults no_faults ≤ no_faults }
         ensures failed { IsErrOf result DeviceFailed → Rose no_faults no_faults }
         ensures read_to { self.new.read_to ≡ self.old.read_to }
+        ensures counts { IsAsTold no_counts (option_map (λ cs. no_faults ∷ cs) no_counts) }
         ensures lent { self.new.lent ≡ self.old.lent - 1 }
 
         // Want of memory keeps nothing.
@@ -332,6 +337,7 @@ impl Files for SureFiles {
         ensures map { told_map self.new.told self.new.entries.items
             ≡ told_map self.old.told self.old.entries.items }
         ensures read_to { IsAsTold self.new.read_to (option_map (λ n. n + source.reached) self.old.read_to) }
+        ensures counts { IsAsTold no_counts (option_map (λ cs. no_faults ∷ cs) no_counts) }
         ensures later { no_faults ≤ no_faults }
         ensures counted { saturating no_faults no_faults ≤ no_faults }
         ensures lent { self.new.lent ≡ self.old.lent - 1 }
@@ -349,6 +355,7 @@ impl Files for SureFiles {
         ensures map { told_map self.new.told self.new.entries.items
             ≡ told_map self.old.told self.old.entries.items }
         ensures read_to { self.new.read_to ≡ self.old.read_to }
+        ensures counts { IsAsTold no_counts (option_map (λ cs. no_faults ∷ cs) no_counts) }
         ensures later { no_faults ≤ no_faults }
         ensures counted { saturating no_faults no_faults ≤ no_faults }
         ensures lent { self.new.lent ≡ self.old.lent - 1 }

@@ -1,9 +1,11 @@
 -- Works that are released from the last one on.
 use Rattle.std.proofs.Common.{◌≡◌, ℕ, zero, suc, ◌+◌, ◌≤◌, List, [], ◌∷◌, ◌++◌, slice_get, Option, Some, None, option_map, refl, ap, sym, ◌∙◌, subst, arith}
-use Rattle.std.specs.Prelude.{sum_by}
+use Rattle.std.specs.Prelude.{map, sum_by}
+use Rattle.std.proofs.lemmas.Grind.{flat_map-append}
+use Rattle.std.proofs.lemmas.List.{map-append}
 use Rattle.std.proofs.lemmas.List.{append_assoc, append-nil}
 use Rattle.std.proofs.lemmas.Option.{none-some, same_Some}
-use Rattle.file_devices.specs.Counts.{saturating}
+use Rattle.file_devices.specs.Counts.{all_listed, listed, saturating}
 use Rattle.file_devices.specs.Told.{IsAsTold}
 use Rattle.held_devices.proofs.Sums.{sum-pop}
 use Rattle.stage_kinds.specs.declared.stage_work.StageWork.{StageWork}
@@ -59,3 +61,38 @@ read-all first now reached all left none so-far x e =
     let empty : sum_by reached left ≡ 0 = ap (sum_by reached) none in
     let whole : y + sum_by reached all ≡ x = omega (arith, sum, empty) in
     ap (option_map (λ n. n + sum_by reached all)) at ∙ ap (λ n. Some n) whole
+
+-- ---- what is told of the counts
+
+before-listed : (o : Option (List ℕ)) (ns xs : List ℕ) → option_map (λ cs. ns ++ cs) o ≡ Some xs → (zs : List ℕ) × (o ≡ Some zs) × (ns ++ zs ≡ xs)
+before-listed None ns xs e = absurd (none-some xs e)
+before-listed (Some zs) ns xs e = (zs, refl, same_Some (ns ++ zs) xs e)
+
+-- in front of what was told stand the counts of what was given back
+abbrev pub ToldSoFar : {W : Type 0} → Option (List ℕ) → Option (List ℕ) → (W → Option ℕ) → List W → List W → Type 0
+ToldSoFar first now count all left = (xs : List ℕ) → now ≡ Some xs → (ys : List ℕ) × (first ≡ Some ys) × (all_listed (map count left) ++ xs ≡ all_listed (map count all) ++ ys)
+
+last-listed : {W : Type 0} (count : W → Option ℕ) (left rest : List W) (w : W) → left ≡ rest ++ w ∷ [] → all_listed (map count left) ≡ all_listed (map count rest) ++ listed (count w)
+last-listed count left rest w is =
+    ap (λ ws. all_listed (map count ws)) is ∙ ap all_listed (map-append count rest (w ∷ [])) ∙ flat_map-append listed (map count rest) (count w ∷ [])
+    ∙ ap (λ zs. all_listed (map count rest) ++ zs) (append-nil (listed (count w)))
+
+pub told-one : {W : Type 0} (first before now : Option (List ℕ)) (count : W → Option ℕ) (all left rest : List W) (w : W) → left ≡ rest ++ w ∷ [] → ToldSoFar first before count all left
+    → IsAsTold now (option_map (λ cs. listed (count w) ++ cs) before) → ToldSoFar first now count all rest
+told-one first before now count all left rest w is so-far told xs e =
+    let (zs, was, more) = before-listed before (listed (count w)) xs (told xs e) in
+    let (ys, at, whole) = so-far zs was in (
+      ys,
+      at,
+      ap (λ l. all_listed (map count rest) ++ l) (sym more) ∙ sym (append_assoc (all_listed (map count rest)) (listed (count w)) zs)
+          ∙ ap (λ l. l ++ zs) (sym (last-listed count left rest w is)) ∙ whole,
+    )
+
+-- where there was nothing to give back, nothing more is told
+pub told-none : {W : Type 0} (first now : Option (List ℕ)) (count : W → Option ℕ) (all left rest : List W) (w : W) → left ≡ rest ++ w ∷ [] → count w ≡ None → ToldSoFar first now count all left → ToldSoFar first now count all rest
+told-none first now count all left rest w is none so-far = told-one first now now count all left rest w is so-far (λ xs e. ap (option_map (λ cs. listed (count w) ++ cs)) e ∙ ap (λ o. Some (listed o ++ xs)) none)
+
+pub told-all : {W : Type 0} (first now : Option (List ℕ)) (count : W → Option ℕ) (all left : List W) → left ≡ [] → ToldSoFar first now count all left → IsAsTold now (option_map (λ cs. all_listed (map count all) ++ cs) first)
+told-all first now count all left none so-far xs e =
+    let (ys, at, whole) = so-far xs e in
+    ap (option_map (λ cs. all_listed (map count all) ++ cs)) at ∙ ap (λ l. Some l) (sym whole ∙ ap (λ ws. all_listed (map count ws) ++ xs) none)

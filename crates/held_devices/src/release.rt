@@ -1,7 +1,7 @@
 //! What a run holds is given back.
 
-ghost use Rattle.std.specs.Prelude.{◌≡◌, ◌≤◌, ◌+◌, ℕ, Bool, List, [], Option, slice_get, sum_by, option_map, Some};
-ghost use Rattle.file_devices.specs.Counts.{saturating};
+ghost use Rattle.std.specs.Prelude.{◌≡◌, ◌≤◌, ◌+◌, ◌++◌, ℕ, Bool, List, [], Option, slice_get, sum_by, option_map, Some};
+ghost use Rattle.file_devices.specs.Counts.{all_listed, listed, saturating};
 ghost use Rattle.file_devices.specs.Told.{IsAsTold};
 ghost use Rattle.plug_stages.specs.Handed.{filter_nature, tally_nature_at};
 ghost use Rattle.plug_stages.specs.Out.{AreOut};
@@ -9,19 +9,21 @@ ghost use Rattle.stage_kinds.specs.declared.stage_work.StageWork as work_type;
 ghost use Rattle.stage_kinds.specs.Held.{faults_of, held_by, op_of};
 ghost use Rattle.stage_kinds.specs.Leads.{reached_of};
 ghost use Rattle.held_devices.specs.Handing.{FiltersOut, TalliesOut, with_filter, with_tally};
-ghost use Rattle.held_devices.specs.Holding.{there, all_there, all_held};
+ghost use Rattle.held_devices.specs.Holding.{there, all_there, all_held, count_on, counts_on, source_counts};
 
 use file_devices::Files;
 use las_reader::LasReader;
 use plug_stages::{Places, PlugFilter, PlugTally, put_back};
 use stage_kinds::{Held, StageWork};
 
-/// Gives back the sources of readers.
+/// Gives back the sources of readers, from the last one on.
 pub fn give_back<F: Files>(files: &mut F, readers: Vec<Option<LasReader<F::In>>>)
     ensures map { F.map files.new ≡ F.map files.old }
     ensures lent { (others : ℕ) → F.lent files.old ≡ others + all_there readers.items
         → F.lent files.new ≡ others }
     ensures later { F.faults files.old ≤ F.faults files.new }
+    ensures told { IsAsTold (F.counts files.new)
+        (option_map (λ cs. all_listed (source_counts F.In.faults readers.items) ++ cs) (F.counts files.old)) }
 {
     let mut readers = readers;
     while let Some(reader) = readers.pop() {
@@ -46,6 +48,8 @@ fn release_work<F: Files, P: PlugFilter, Q: PlugTally>(
         ≤ F.faults files.new }
     ensures read { IsAsTold (F.read_to files.new)
         (option_map (λ n. n + reached_of F.In.reached work) (F.read_to files.old)) }
+    ensures told { IsAsTold (F.counts files.new)
+        (option_map (λ cs. listed (count_on F.In.faults F.Out.faults (held_by work)) ++ cs) (F.counts files.old)) }
     ensures filters { places.new.filters.items ≡ with_filter (held_by work) places.old.filters.items }
     ensures tallies { places.new.tallies.items ≡ with_tally (held_by work) places.old.tallies.items }
 {
@@ -58,7 +62,7 @@ fn release_work<F: Files, P: PlugFilter, Q: PlugTally>(
     }
 }
 
-/// Gives back the devices of works, and puts back what they hold of the caller's; no writer's file is kept.
+/// Gives back the devices of works, from the last one on, and puts back what they hold of the caller's; no writer's file is kept.
 pub fn release_works<F: Files, P: PlugFilter, Q: PlugTally>(
     files: &mut F,
     places: &mut Places<P, Q>,
@@ -72,6 +76,8 @@ pub fn release_works<F: Files, P: PlugFilter, Q: PlugTally>(
         → saturating (F.faults files.old) (faults_of F.In.faults F.Out.faults w) ≤ F.faults files.new }
     ensures read { IsAsTold (F.read_to files.new)
         (option_map (λ n. n + sum_by (reached_of F.In.reached) works.items) (F.read_to files.old)) }
+    ensures told { IsAsTold (F.counts files.new)
+        (option_map (λ cs. all_listed (counts_on F.In.faults F.Out.faults works.items) ++ cs) (F.counts files.old)) }
     ensures filters { (used : ℕ → Bool) (before : List (Option P))
         → FiltersOut P.PlugFilter used works.items before places.old.filters.items
         → AreOut (filter_nature P.PlugFilter) used [] before places.new.filters.items }

@@ -15,7 +15,7 @@ use Rattle.las_reader.proofs.Pieces.{length-points_from, points_none, points-app
 pub record Reads (header : Header) (fields : List ExtraField) (given most : ℕ) (told now : Option (List ℕ)) (faults_before faults reached_before reached : ℕ) (points : List Point) (size : ℕ) : Type 0 where
   pub within : size ≤ most
   pub same : now ≡ told
-  pub later : faults_before ≤ faults
+  pub calm : faults ≡ faults_before
   pub got_to : reached ≤ max reached_before (header.points_at + header.record_length * (given + most))
   pub points_are : (file : List ℕ) → told ≡ Some file → points ≡ points_from (point_with header fields) header.record_length given size (drop header.points_at file)
   pub held : (file : List ℕ) → told ≡ Some file → out_from fields header.record_length given size (drop header.points_at file) ≡ None
@@ -25,7 +25,7 @@ pub reads_none : (header : Header) (fields : List ExtraField) (given most : ℕ)
 reads_none header fields given most told faults reached points size empty none = record {
   within = omega arith;
   same = refl;
-  later = omega arith;
+  calm = refl;
   got_to = omega arith;
   points_are = λ file e. empty ∙ sym (points_none (point_with header fields) header.record_length given (drop header.points_at file)) ∙ ap (λ n. points_from (point_with header fields) header.record_length given n (drop header.points_at file)) (sym none);
   held = λ file e. ap (λ n. out_from fields header.record_length given n (drop header.points_at file)) none ∙ out_none fields header.record_length given (drop header.points_at file);
@@ -59,17 +59,17 @@ outs_behind header fields given wanted size n buffer file has was =
 
 -- all of the records that were asked for are read
 pub reads_more : (header : Header) (fields : List ExtraField) (given most wanted n c : ℕ) (out : Option Dim) (told now now_after : Option (List ℕ)) (f0 f1 f2 r0 r1 r2 : ℕ) (before points : List Point) (size size_after : ℕ) (buffer : List ℕ)
-    → size + wanted ≤ most → n ≤ wanted → c ≤ n → wanted ≤ c → now_after ≡ now → f1 ≤ f2 → r2 ≤ max r1 (header.points_at + header.record_length * (given + size + wanted))
+    → size + wanted ≤ most → n ≤ wanted → c ≤ n → wanted ≤ c → now_after ≡ now → f2 ≡ f1 → r2 ≤ max r1 (header.points_at + header.record_length * (given + size + wanted))
     → ((file : List ℕ) → now ≡ Some file → HasRecords header file (given + size) wanted n buffer)
     → points ≡ before ++ points_from (point_with header fields) header.record_length 0 c buffer
     → out_from fields header.record_length 0 n buffer ≡ out_or c out None → size_after ≡ size + c
     → Reads header fields given most told now f0 f1 r0 r1 before size → Reads header fields given most told now_after f0 f2 r0 r2 points size_after
-reads_more header fields given most wanted n c out told now now_after f0 f1 f2 r0 r1 r2 before points size size_after buffer room few some all same later got records is outs sum was =
+reads_more header fields given most wanted n c out told now now_after f0 f1 f2 r0 r1 r2 before points size size_after buffer room few some all same calm got records is outs sum was =
     let L = header.record_length in
     record {
       within = omega arith;
       same = same ∙ was.same;
-      later = omega (arith, was.later);
+      calm = calm ∙ was.calm;
       got_to = let within = ends_within L given most size wanted room in omega (arith, got, was.got_to, within);
       points_are = λ file e.
           longer header fields given wanted size n c before points buffer file some (records file (was.same ∙ e)) is (was.points_are file e)

@@ -1,6 +1,6 @@
 //! What is read before the points.
 
-ghost use Rattle.std.specs.Prelude.{◌≡◌, ◌≢◌, ◌≤◌, ℕ, List, max, take, Some, Ok, IfOk, IfErr};
+ghost use Rattle.std.specs.Prelude.{OnOk, ◌≡◌, ◌≢◌, ◌≤◌, ℕ, List, max, take, Some, Ok, IfOk, IfErr};
 ghost use Rattle.file_devices.specs.Counts.{HasCause, Rose};
 ghost use Rattle.las_header.specs.Headers.{minor_of};
 ghost use Rattle.las_header.specs.Sound.{IsSound};
@@ -84,6 +84,7 @@ fn read_block<S: Source>(source: &mut S) -> Result<Header, OpenErr>
         → Rose (S.faults source.old) (S.faults source.new)) }
     ensures not_memory { IfErr result (λ e. e ≢ OpenErr.Memory) }
     ensures later { S.faults source.old ≤ S.faults source.new }
+    ensures calm { OnOk result (S.faults source.new ≡ S.faults source.old) }
     ensures reached { IfOk result (λ header. S.reached source.new
         ≤ max (S.reached source.old) header.header_size) }
     ensures no_further { (file : List ℕ) → S.bytes source.old ≡ Some file
@@ -111,6 +112,7 @@ pub(crate) fn read_frame<S: Source>(alloc: Global, source: &mut S) -> Result<Las
     ensures failed { IfErr result (λ e. e ≡ OpenErr.ReadFailed
         → Rose (S.faults source.old) (S.faults source.new)) }
     ensures later { S.faults source.old ≤ S.faults source.new }
+    ensures calm { OnOk result (S.faults source.new ≡ S.faults source.old) }
     ensures in_front { IfOk result (λ frame. frame.header.evlrs ≡ 0
         → S.reached source.new ≤ max (S.reached source.old) frame.header.points_at) }
     ensures no_further { IfErr result (λ e. IsOfHeader e → (file : List ℕ) → S.bytes source.old ≡ Some file

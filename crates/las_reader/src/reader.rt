@@ -81,6 +81,7 @@ impl<S: Source> LasReader<S> {
         ensures lists { IfOk result (λ r. HasLists r.header r.vlrs r.evlrs) }
         ensures source { IfOk result (λ r.
             IsOpened (S.bytes source) (S.bytes r.source) (S.faults source) (S.faults r.source)) }
+        ensures calm { IfOk result (λ r. S.faults r.source ≡ S.faults source) }
         ensures in_front { IfOk result (λ r. r.header.evlrs ≡ 0
             → S.reached r.source ≤ max (S.reached source) r.header.points_at) }
         ensures no_further { IfErr result (λ e. IsOfHeader e.1 → (file : List ℕ) → S.bytes source ≡ Some file
@@ -182,6 +183,8 @@ impl<S: Source> LasReader<S> {
             self.new.progress }
         ensures failed { result ≡ read_failed → Rose (S.faults self.old.source) (S.faults self.new.source) }
         ensures later { S.faults self.old.source ≤ S.faults self.new.source }
+        ensures calm { (result ≡ read_failed → ⊥)
+            → S.faults self.new.source ≡ S.faults self.old.source }
         ensures reached { S.reached self.new.source
             ≤ max (S.reached self.old.source) (asked_to self.old.header chunk self.old.progress) }
         ensures bytes { S.bytes self.new.source ≡ S.bytes self.old.source }
@@ -245,6 +248,8 @@ impl<S: Source> LasReader<S> {
             self.new.progress }
         ensures failed { result ≡ read_failed → Rose (S.faults self.old.source) (S.faults self.new.source) }
         ensures later { S.faults self.old.source ≤ S.faults self.new.source }
+        ensures calm { (result ≡ read_failed → ⊥)
+            → S.faults self.new.source ≡ S.faults self.old.source }
         ensures reached { S.reached self.new.source
             ≤ max (S.reached self.old.source) (asked_to self.old.header chunk (Progress.Records given)) }
         ensures bytes { S.bytes self.new.source ≡ S.bytes self.old.source }

@@ -31,7 +31,7 @@ prefixed_more front v (Err f) = refl
 pub record Reading (kind : ListKind) (count start number at before : ℕ) (told now : Option (List ℕ)) (faults_before faults reached_before reached : ℕ) (vlrs : List Vlr) : Type 0 where
   pub so_far : (file : List ℕ) → told ≡ Some file → entries_from kind count 0 start 0 file ≡ prefixed vlrs (entries_from kind (count - number) number at before file)
   pub same : now ≡ told
-  pub later : faults_before ≤ faults
+  pub calm : faults ≡ faults_before
   pub in_front : IsInFront kind reached_before reached
   pub unread : number ≡ 0 → reached ≡ reached_before
   pub room : before ≤ 16777216
@@ -51,7 +51,7 @@ pub reading_none : (kind : ListKind) (count start : ℕ) (told : Option (List �
 reading_none kind count start told faults reached = record {
   so_far = λ file e. let all : count ≡ count - 0 = omega arith in ap (λ n. entries_from kind n 0 start 0 file) all ∙ sym (prefixed_none (entries_from kind (count - 0) 0 start 0 file));
   same = refl;
-  later = omega arith;
+  calm = refl;
   in_front = in_front_none kind reached;
   unread = λ none. refl;
   room = omega arith;
@@ -73,11 +73,11 @@ pub no_entries : (kind : ListKind) (k at before : ℕ) (file : List ℕ) → ent
 unfolding entries_from
 no_entries kind k at before file = refl
 
-pub reading_more : (kind : ListKind) (count start number at before size : ℕ) (told now now_after : Option (List ℕ)) (f0 f1 f2 r0 r1 r2 : ℕ) (vlrs : List Vlr) (v : Vlr) → number < count → now_after ≡ now → f1 ≤ f2 → IsInFront kind r1 r2 → before + size ≤ 16777216
+pub reading_more : (kind : ListKind) (count start number at before size : ℕ) (told now now_after : Option (List ℕ)) (f0 f1 f2 r0 r1 r2 : ℕ) (vlrs : List Vlr) (v : Vlr) → number < count → now_after ≡ now → f2 ≡ f1 → IsInFront kind r1 r2 → before + size ≤ 16777216
     → size ≡ payload_size v → IsOf kind v
     → ((file : List ℕ) → now ≡ Some file → entry_fault kind number at before file ≡ None) → ((file : List ℕ) → now ≡ Some file → v ≡ entry_of kind (drop at file)) → ((file : List ℕ) → now ≡ Some file → size ≡ payload_length kind (drop at file))
     → Reading kind count start number at before told now f0 f1 r0 r1 vlrs → Reading kind count start (number + 1) (at + (head_size kind + size)) (before + size) told now_after f0 f2 r0 r2 (vlrs ++ v ∷ [])
-reading_more kind count start number at before size told now now_after f0 f1 f2 r0 r1 r2 vlrs v more same later in_front room own held none is long was = record {
+reading_more kind count start number at before size told now now_after f0 f1 f2 r0 r1 r2 vlrs v more same calm in_front room own held none is long was = record {
   so_far = λ file e.
       let one : count - number ≡ suc (count - (number + 1)) = omega arith in
       was.so_far file e
@@ -85,7 +85,7 @@ reading_more kind count start number at before size told now now_after f0 f1 f2 
       ∙ ap (prefixed vlrs) (next_entry kind (count - (number + 1)) number at before file v size (none file (was.same ∙ e)) (is file (was.same ∙ e)) (long file (was.same ∙ e)))
       ∙ prefixed_more vlrs v (entries_from kind (count - (number + 1)) (number + 1) (at + (head_size kind + size)) (before + size) file);
   same = same ∙ was.same;
-  later = omega (arith, was.later);
+  calm = calm ∙ was.calm;
   in_front = in_front_more kind r0 r1 r2 was.in_front in_front;
   unread = λ none. absurd (omega (arith, none));
   room = room;

@@ -84,6 +84,7 @@ fn read_piece<S: Source>(
         → IsFault (past kind number (at + length into.old) file) e) }
     ensures failed { result ≡ Err VlrErr.ReadFailed → Rose (S.faults source.old) (S.faults source.new) }
     ensures later { S.faults source.old ≤ S.faults source.new }
+    ensures calm { OnOk result (S.faults source.new ≡ S.faults source.old) }
     ensures in_front { IsInFront kind (S.reached source.old) (S.reached source.new) }
     ensures same { S.bytes source.new ≡ S.bytes source.old }
 {
@@ -118,6 +119,7 @@ fn read_payload<S: Source>(
         → IsFault (past kind number (at + size) file) e) }
     ensures failed { result ≡ Err VlrErr.ReadFailed → Rose (S.faults source.old) (S.faults source.new) }
     ensures later { S.faults source.old ≤ S.faults source.new }
+    ensures calm { OnOk result (S.faults source.new ≡ S.faults source.old) }
     ensures in_front { IsInFront kind (S.reached source.old) (S.reached source.new) }
     ensures same { S.bytes source.new ≡ S.bytes source.old }
 {
@@ -150,6 +152,7 @@ fn read_head<S: Source>(
         → IsFault (past kind number (at + head_size kind) file) e) }
     ensures failed { result ≡ Err VlrErr.ReadFailed → Rose (S.faults source.old) (S.faults source.new) }
     ensures later { S.faults source.old ≤ S.faults source.new }
+    ensures calm { OnOk result (S.faults source.new ≡ S.faults source.old) }
     ensures in_front { IsInFront kind (S.reached source.old) (S.reached source.new) }
     ensures same { S.bytes source.new ≡ S.bytes source.old }
 {
@@ -200,6 +203,7 @@ fn read_entry<S: Source>(
         → IsFault (entry_fault kind number at before file) e) }
     ensures failed { result ≡ Err VlrErr.ReadFailed → Rose (S.faults source.old) (S.faults source.new) }
     ensures later { S.faults source.old ≤ S.faults source.new }
+    ensures calm { OnOk result (S.faults source.new ≡ S.faults source.old) }
     ensures in_front { IsInFront kind (S.reached source.old) (S.reached source.new) }
     ensures same { S.bytes source.new ≡ S.bytes source.old }
 {
@@ -230,6 +234,7 @@ fn read_list<S: Source>(
         → IsRefusal (entries kind count start file) e) }
     ensures failed { result ≡ Err VlrErr.ReadFailed → Rose (S.faults source.old) (S.faults source.new) }
     ensures later { S.faults source.old ≤ S.faults source.new }
+    ensures calm { OnOk result (S.faults source.new ≡ S.faults source.old) }
     ensures in_front { IsInFront kind (S.reached source.old) (S.reached source.new) }
     ensures unread { count ≡ 0 → S.reached source.new ≡ S.reached source.old }
     ensures same { S.bytes source.new ≡ S.bytes source.old }
@@ -273,6 +278,7 @@ pub fn read_vlrs<S: Source>(
         → IsRefusal (vlrs_of start points_at count file) e) }
     ensures failed { result ≡ Err VlrErr.ReadFailed → Rose (S.faults source.old) (S.faults source.new) }
     ensures later { S.faults source.old ≤ S.faults source.new }
+    ensures calm { OnOk result (S.faults source.new ≡ S.faults source.old) }
     ensures reached { S.reached source.new ≤ max (S.reached source.old) points_at }
     ensures same { S.bytes source.new ≡ S.bytes source.old }
 {
@@ -299,6 +305,7 @@ pub fn read_evlrs<S: Source>(
         → IsRefusal (evlrs_of at count file) e) }
     ensures failed { result ≡ Err VlrErr.ReadFailed → Rose (S.faults source.old) (S.faults source.new) }
     ensures later { S.faults source.old ≤ S.faults source.new }
+    ensures calm { OnOk result (S.faults source.new ≡ S.faults source.old) }
     ensures unread { count ≡ 0 → S.reached source.new ≡ S.reached source.old }
     ensures same { S.bytes source.new ≡ S.bytes source.old }
 {

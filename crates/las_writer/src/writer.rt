@@ -175,7 +175,7 @@ impl<K: FileSink> LasWriter<K> {
             → holds_las (K.bytes w.sink) form w.totals [] ≡ true) }
         ensures totals { IfOk result (λ w. w.totals ≡ totals_of form []) }
         ensures form { IfOk result (λ w. w.form ≡ form) }
-        ensures later { IfOk result (λ w. K.faults sink ≤ K.faults w.sink) }
+        ensures calm { IfOk result (λ w. K.faults w.sink ≡ K.faults sink) }
         ensures part { IfErr result (λ e. AppendsPart (K.bytes sink) (las_unfinished form []) (K.bytes e.0)) }
         ensures unchanged { IfErr result (λ e. e.1 ≡ LasBeginErr.Memory → e.0 ≡ sink) }
         ensures failed { IfErr result (λ e. e.1 ≡ LasBeginErr.Failed → Rose (K.faults sink) (K.faults e.0)) }
@@ -233,6 +233,7 @@ impl<K: FileSink> LasWriter<K> {
         ensures failed { IfErr result (λ e. e ≡ ChunkErr.Failed
             → Rose (K.faults self.old.sink) (K.faults self.new.sink)) }
         ensures later { K.faults self.old.sink ≤ K.faults self.new.sink }
+        ensures calm { OnOk result (K.faults self.new.sink ≡ K.faults self.old.sink) }
     {
         let parts = &mut self.parts;
         known_u64(parts.totals.count);
@@ -279,6 +280,7 @@ impl<K: FileSink> LasWriter<K> {
         ensures failed { IfErr result (λ e. e ≡ PutFault.Failed
             → Rose (K.faults self.old.sink) (K.faults self.new.sink)) }
         ensures later { K.faults self.old.sink ≤ K.faults self.new.sink }
+        ensures calm { OnOk result (K.faults self.new.sink ≡ K.faults self.old.sink) }
     {
         let alone = [*point];
         match self.put_all(&alone) {

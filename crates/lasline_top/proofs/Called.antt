@@ -22,6 +22,7 @@ use Rattle.lasline_top.specs.Answer.{answer, runnable_in, runnable_of, trial_tex
 use Rattle.lasline_top.specs.Calls.{Seen, FilesRose, OutRose, Told, HasAnswered, HasReadAhead}
 use Rattle.lasline_top.specs.Cause.{AtTask, Risen, ToldWhy}
 use Rattle.lasline_top.specs.Ends.{WasDone, WasRefused}
+use Rattle.lasline_top.specs.Least.{IsLeastNamed}
 use Rattle.lasline_top.specs.Left.{IsLeftBy}
 use Rattle.lasline_top.specs.Reading.{IsReadAhead, IsReadBy}
 use Rattle.lasline_top.specs.Refusals.{status_for}
@@ -99,6 +100,7 @@ module _ (handed : Handed) (words : List (List ℕ)) (before after : Seen) (lent
     device = λ p o e. absurd (cc);
     risen = λ p o e. absurd (cc);
     out_risen = λ o e. absurd (cc);
+    least = λ r e. absurd (never-ok r e);
     complete = λ m t _ _. inl (ends-ok handed words m (IsDone before.map after.map before.out after.out) (done m t));
     refused = λ r e. absurd (never-ok r e);
     quiet = λ other. absurd (other refl);
@@ -115,9 +117,10 @@ module _ (handed : Handed) (words : List (List ℕ)) (before after : Seen) (lent
       → WasRefused handed (task_of words) (FilesRose before after) (OutRose before after) before.map after.map before.out after.out refusal
       → ((text : List ℕ) → task_of words ≡ Ok (Print text) → AppendsPart before.out text after.out) → ((r : Refusal) → task_of words ≡ Err r → refusal ≡ r)
       → ((k : ℕ) → refusal ≡ of.Usage k → task_of words ≡ Err (of.Usage k)) → ToldWhy before.err after.err before.err_faults after.err_faults (fault_line refusal)
+      → ((m : Names) → Told words before after m → IsLeastNamed handed (task_of words) m before.counts after.counts refusal)
       → (goes_alone words ≡ true → (m : Names) → Told words before after m → IsReadAhead (task_of words) m before.read_to after.read_to refusal)
       → HasAnswered handed words before after status
-  refused_answered refusal status is was part words_first of_words told ahead = record {
+  refused_answered refusal status is was part words_first of_words told least ahead = record {
     kept = λ e. absurd (not_ok e);
     report = λ e. absurd (not_ok e);
     page = λ e. absurd (not_ok e);
@@ -129,6 +132,7 @@ module _ (handed : Handed) (words : List (List ℕ)) (before after : Seen) (lent
     device = λ p o e m t. device-cause handed words before after m p o (cause (of.Device p o) e m t);
     risen = λ p o e. subst (Risen (FilesRose before after) (OutRose before after) before.map) (same (of.Device p o) e) was.risen;
     out_risen = λ o e. was.out_risen o (same (of.Device at.Out o) e);
+    least = λ r e m t. subst (IsLeastNamed handed (task_of words) m before.counts after.counts) (same r e) (least m t);
     complete = λ m t no_files no_output. answer_or_memory handed (FilesRose before after) (OutRose before after) m (task_of words) refusal status is no_files no_output (was.because m t);
     refused = λ r e m t. subst (λ x. IsLeftBy handed (task_of words) x before.map after.map m) (same r e) (was.left m t);
     quiet = λ _. elim was.quiet [ inl e ↦ inl e | inr p ↦ inr (is ∙ ap status_for p.0, p.1) ];

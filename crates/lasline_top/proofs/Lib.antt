@@ -11,3 +11,4 @@ pub mod Reading
 pub mod Runnable
 pub mod Back
 mod Crossing
+pub mod Least

@@ -21,6 +21,7 @@ use Rattle.lasline_top.specs.Words.{Print, task_of}
 use Rattle.lasline_top.specs.Answer.{answer}
 use Rattle.lasline_top.specs.Cause.{AtTask, HasFailed, ToldWhy}
 use Rattle.lasline_top.specs.Codes.{code_of}
+use Rattle.lasline_top.specs.Least.{IsLeastNamed}
 use Rattle.lasline_top.specs.Left.{AreTold, IsLeftBy}
 use Rattle.lasline_top.specs.Reading.{IsReadAhead, IsReadBy}
 use Rattle.lasline_top.specs.Refusals.{status_for}
@@ -28,13 +29,15 @@ use Rattle.lasline_top.specs.Stopping.{MayCome, MayEnd}
 use Rattle.lasline_top.specs.Threads.{goes_alone}
 use Rattle.plug_stages.specs.Handed.{Handed}
 
--- what can be seen at one time: of the files what names have, how often they failed, how far they were read and how many objects
--- are handed out; of the output and of the errors their bytes and how often they failed
+-- what can be seen at one time: of the files what names have, how often they failed, how far they were read, how many objects are
+-- handed out, and how often each of those failed that were given back; of the output and of the errors their bytes and how often they
+-- failed
 pub record Seen : Type 0 where
   pub map : Option Names
   pub faults : ℕ
   pub read_to : Option ℕ
   pub lent : ℕ
+  pub counts : Option (List ℕ)
   pub out : Option (List ℕ)
   pub out_faults : ℕ
   pub err : Option (List ℕ)
@@ -47,6 +50,7 @@ seen f k e files out err = record {
   faults = f.faults files;
   read_to = f.read_to files;
   lent = f.lent files;
+  counts = f.counts files;
   out = k.bytes out;
   out_faults = k.faults out;
   err = e.bytes err;
@@ -95,6 +99,9 @@ pub record HasAnswered (handed : Handed) (words : List (List ℕ)) (before after
   pub risen : (p : Place) (o : Op) → status ≡ ends.Device p o
       → HasFailed (FilesRose before after) (OutRose before after) before.map p o
   pub out_risen : (o : Op) → status ≡ ends.Device at.Out o → (o ≡ op.Write) × OutRose before after
+  -- of a pipeline's stages the first one whose own file failed is named, where the files tell the counts
+  pub least : (refusal : Refusal) → status ≡ status_for refusal → (m : Names) → Told words before after m
+      → IsLeastNamed handed (task_of words) m before.counts after.counts refusal
   -- where no device fails, the answer is one that is defined, or want of memory
   pub complete : (m : Names) → Told words before after m → (FilesRose before after → ⊥) → (OutRose before after → ⊥)
       → MayEnd handed (task_of words) m status ⊎ (status ≡ ends.Memory)

@@ -13,3 +13,4 @@ pub mod Codes
 pub mod Calls
 pub mod Threads
 pub mod Back
+pub mod Least

@@ -7,6 +7,7 @@ ghost use Rattle.plug_stages.specs.Handed.{Handed};
 ghost use Rattle.lasline_top.specs.Words.{Make_file};
 ghost use Rattle.lasline_top.specs.Cause.{IsOfFiles};
 ghost use Rattle.lasline_top.specs.Ends.{WasDone, WasRefused, WasUnmade};
+ghost use Rattle.lasline_top.specs.Least.{GaveOne};
 
 use crate::count::PointCount;
 use crate::printing::print_text;
@@ -27,6 +28,7 @@ pub(crate) fn make<F: Files>(
         (F.map files.new)) }
     ensures err { IfErr result (WasUnmade (Rose (F.faults files.old) (F.faults files.new))
         (F.map files.old) name.now (generated_file count.points) (F.map files.new)) }
+    ensures gave { OnOk result (GaveOne (F.counts files.old) (F.counts files.new)) }
     ensures lent { F.lent files.new ≡ F.lent files.old }
     ensures later { F.faults files.old ≤ F.faults files.new }
 {

@@ -1,6 +1,6 @@
 //! The file of a pipeline, and its stages.
 
-ghost use Rattle.std.specs.Prelude.{◌≡◌, ◌+◌, Some, Ok, IfOk, IfErr, length};
+ghost use Rattle.std.specs.Prelude.{◌≡◌, ◌+◌, Some, Ok, IfOk, IfErr, OnOk, length};
 ghost use Rattle.file_devices.specs.Counts.{Rose};
 ghost use Rattle.file_devices.specs.Named.{Names};
 ghost use Rattle.answer_model.specs.Runs.{file_at};
@@ -9,6 +9,7 @@ ghost use Rattle.run_outcome.specs.Cause.{Because, IsSettled};
 ghost use Rattle.stage_options.specs.TreeShown.{specs_view};
 ghost use Rattle.lasline_top.specs.Answer.{plan_in, stages_in};
 ghost use Rattle.lasline_top.specs.Cause.{AtText, Never, Risen, IsOfPlan, IsOfText};
+ghost use Rattle.lasline_top.specs.Least.{GaveOne};
 ghost use Rattle.run_engine.specs.ReadAhead.{ReadAtMost};
 ghost use Rattle.lasline_top.specs.Refusals.{refusal_of};
 
@@ -39,6 +40,7 @@ pub(crate) fn read_text<F: Files>(
     ensures opened { ReadAtMost (MOST_BYTES + 1) (F.read_to files.old) (F.read_to files.new) }
     ensures no_further { IfOk result (λ text. ReadAtMost (length text.items) (F.read_to files.old)
         (F.read_to files.new)) }
+    ensures gave { OnOk result (GaveOne (F.counts files.old) (F.counts files.new)) }
 {
     let mut source = match files.open_in(name) {
         Ok(source) => source,

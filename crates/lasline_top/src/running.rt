@@ -8,10 +8,11 @@ ghost use Rattle.plug_stages.specs.Handed.{handed_by};
 ghost use Rattle.run_outcome.specs.Cause.{IsRun};
 ghost use Rattle.lasline_top.specs.Tasks.{engine_view};
 ghost use Rattle.lasline_top.specs.Words.{Run_file, Trial, stop_in};
-ghost use Rattle.lasline_top.specs.Answer.{runnable_in, stages_or, text_run, trial_name, trial_text};
+ghost use Rattle.lasline_top.specs.Answer.{runnable_in, runnable_of, stages_or, text_run, trial_name, trial_text};
 ghost use Rattle.lasline_top.specs.Cause.{IsOfFiles};
 ghost use Rattle.lasline_top.specs.Back.{IsHandedBack, IsRemembered, Remember};
 ghost use Rattle.lasline_top.specs.Ends.{WasDone, WasRefused, WasStopped};
+ghost use Rattle.lasline_top.specs.Least.{IsPlanNamed, IsTextNamed};
 ghost use Rattle.lasline_top.specs.Reading.{IsReadAhead, IsTextAhead};
 
 use crate::count::PointCount;
@@ -45,6 +46,8 @@ fn run_text<F: Files, P: PlugFilter, Q: PlugTally, T: Scheduler<StageWork<F::In,
     ensures err { IfErr result (WasStopped (handed_by P.PlugFilter Q.PlugTally places.old)
         (stop_in (engine_view (T.stop scheduler.now) engine))
         (Rose (F.faults files.old) (F.faults files.new)) (F.map files.old) (F.map files.new) text.now) }
+    ensures least { IfErr result (IsTextNamed (handed_by P.PlugFilter Q.PlugTally places.old) text.now
+        (F.counts files.old) (F.counts files.new)) }
     ensures ahead { IfErr result (λ refusal. T.bounded scheduler.now → (m : Names) → F.map files.old ≡ Some m
         → IsTextAhead (engine_view (T.stop scheduler.now) engine) m text.now (F.read_to files.old)
         (F.read_to files.new) refusal) }
@@ -92,6 +95,9 @@ pub(crate) fn run_file<
     ensures remembered { OnOk result (IsRemembered P.PlugFilter Q.PlugTally
         (Ok (Run_file name.now (engine_view (T.stop scheduler.now) engine)))
         (F.map files.old) (F.map files.new) places.old places.new) }
+    ensures least { IfErr result (λ refusal. (m : Names) → F.map files.old ≡ Some m
+        → IsPlanNamed (runnable_of (handed_by P.PlugFilter Q.PlugTally places.old) m name.now)
+        (F.counts files.old) (F.counts files.new) refusal) }
     ensures ahead { IfErr result (λ refusal. T.bounded scheduler.now → (m : Names) → F.map files.old ≡ Some m
         → IsReadAhead (Ok (Run_file name.now (engine_view (T.stop scheduler.now) engine))) m
         (F.read_to files.old)
@@ -149,6 +155,9 @@ pub(crate) fn run_trial<
     ensures remembered { OnOk result (IsRemembered P.PlugFilter Q.PlugTally
         (Ok (Trial count.points (engine_view (T.stop scheduler.now) engine)))
         (F.map files.old) (F.map files.new) places.old places.new) }
+    ensures least { IfErr result (IsPlanNamed
+        (runnable_in (handed_by P.PlugFilter Q.PlugTally places.old) trial_text)
+        (F.counts files.old) (F.counts files.new)) }
     ensures lent { F.lent files.new ≡ F.lent files.old }
     ensures later { F.faults files.old ≤ F.faults files.new }
 {

@@ -10,6 +10,7 @@ ghost use Rattle.lasline_top.specs.Words.{Print, stop_for, task_of};
 ghost use Rattle.lasline_top.specs.Refusals.{status_for};
 ghost use Rattle.lasline_top.specs.Cause.{ToldWhy};
 ghost use Rattle.lasline_top.specs.Ends.{WasDone, WasRefused};
+ghost use Rattle.lasline_top.specs.Least.{IsLeastNamed};
 ghost use Rattle.lasline_top.specs.Left.{AreTold};
 ghost use Rattle.lasline_top.specs.Reading.{IsReadAhead, IsReadBy};
 ghost use Rattle.lasline_top.specs.Back.{IsHandedBack, IsRemembered};
@@ -71,6 +72,10 @@ fn run_command<
     ensures later { F.faults files.old ≤ F.faults files.new }
     ensures opened { IsReadBy (task_of (map string_bytes words.now)) (F.read_to files.old)
         (F.read_to files.new) }
+    ensures least { IfErr result (λ refusal. (m : Names)
+        → AreTold (task_of (map string_bytes words.now)) (F.map files.old) (F.map files.new) m
+        → IsLeastNamed (handed_by P.PlugFilter Q.PlugTally places.old) (task_of (map string_bytes words.now)) m
+        (F.counts files.old) (F.counts files.new) refusal) }
     ensures ahead { IfErr result (λ refusal. T.bounded scheduler.now → (m : Names)
         → AreTold (task_of (map string_bytes words.now)) (F.map files.old) (F.map files.new) m
         → IsReadAhead (task_of (map string_bytes words.now)) m (F.read_to files.old)

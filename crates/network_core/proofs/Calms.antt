@@ -11,7 +11,8 @@ use Rattle.network_core.specs.declared.node.Node.{Node}
 use Rattle.chunk_queue.specs.declared.tag.ItemKind.{ItemKind}
 use Rattle.network_theory.specs.Net.{holds_end}
 use Rattle.network_core.specs.Hands.{kind_item, seen_hand}
-use Rattle.network_core.specs.Calm.{Calm, NoEvent, Told}
+use Rattle.network_theory.specs.Flight.{hand_points}
+use Rattle.network_core.specs.Calm.{Calm, IsClean, NoEvent, Told}
 
 no_device : {A : Type 0} (f : Option StageFault) → is_some f ≡ false → is_device f ≡ true → A
 no_device None h d = absurd (true≢false (sym d))
@@ -34,6 +35,8 @@ calm-self g n = record {
   chunk = refl;
   extent = λ e. refl;
   spare = λ h. h;
+  clean = λ h. h;
+  kept = λ h d. refl;
 }
 
 -- counts that rose over a part rose over the whole
@@ -86,11 +89,17 @@ calm-on g l m n a b = record {
   chunk = b.chunk ∙ a.chunk;
   extent = λ e. b.extent (a.leaf ∙ e) ∙ a.extent e;
   spare = λ h. b.spare (a.spare h);
+  clean = λ h. b.clean (a.clean h);
+  kept = λ h d. b.kept (a.clean h) d ∙ a.kept h (between (is_some m.fault) refl d);
 }
   where
     by_fault : (x : Bool) → is_some m.fault ≡ x → is_some l.fault ≡ false → is_device n.fault ≡ true → Rose (g.faults l.work) (g.faults n.work)
     by_fault true e f d = rose-first (g.faults l.work) (g.faults m.work) (g.faults n.work) (a.cause f (sym (ap is_device (b.stays e)) ∙ d)) b.faults
     by_fault false e f d = rose-second (g.faults l.work) (g.faults m.work) (g.faults n.work) a.faults (b.cause e d)
+
+    between : (x : Bool) → is_some m.fault ≡ x → is_device n.fault ≡ false → is_device m.fault ≡ false
+    between true e d = sym (ap is_device (b.stays e)) ∙ d
+    between false e d = none-of-device m.fault e
 
     named_by : (x : Bool) → is_some m.fault ≡ x → is_some l.fault ≡ false → IsOf (g.op l.work) n.fault
     named_by true e f = subst (IsOf (g.op l.work)) (sym (b.stays e)) (a.named f)
@@ -107,3 +116,33 @@ told_given g old new kind hand work fault done told = λ leaf undone none.
     let both = or_none old.done (is_end (kind_item kind old.spread.items)) (sym done ∙ undone) in
     let before = told (ap g.leaf (sym work) ∙ leaf) both.0 (ap (λ h. holds_end (seen_hand h old.spread.items)) hand ∙ both.1) in
     (ap g.tells work ∙ before.0, fault ∙ before.1)
+
+-- and so it has no fault before
+clean_given : {W S : Type 0} (g : Ghosts W S) (old new : Node W) (kind : ItemKind) → old.hand ≡ Some kind → new.work ≡ old.work → new.fault ≡ old.fault
+    → new.done ≡ (old.done || is_end (kind_item kind old.spread.items)) → IsClean g old → IsClean g new
+clean_given g old new kind hand work fault done clean = λ leaf undone none.
+    let both = or_none old.done (is_end (kind_item kind old.spread.items)) (sym done ∙ undone) in
+    fault ∙ clean (ap g.leaf (sym work) ∙ leaf) both.0 (ap (λ h. holds_end (seen_hand h old.spread.items)) hand ∙ both.1)
+
+-- a node that gave what was in its hand, and else is as it was
+pub calm-given : {W S : Type 0} (g : Ghosts W S) (old new : Node W) (kind : ItemKind) → old.hand ≡ Some kind → new.hand ≡ None → new.work ≡ old.work → new.fault ≡ old.fault
+    → new.inputs ≡ old.inputs → new.chunk ≡ old.chunk → new.done ≡ (old.done || is_end (kind_item kind old.spread.items)) → Calm g old new
+calm-given g old new kind hand empty work fault inputs chunk done = record {
+  faults = let same = ap g.faults work in omega (arith, same);
+  short = λ h. ap g.short work ∙ h;
+  leaf = ap g.leaf work;
+  op = ap g.op work;
+  inputs = inputs;
+  stays = λ h. fault;
+  cause = λ f d. no_device new.fault (ap is_some fault ∙ f) d;
+  named = λ f. unnamed (g.op old.work) new.fault (ap is_some fault ∙ f);
+  chunk = chunk;
+  extent = λ e. ap g.extent work;
+  spare = λ h leaf.
+      let before = h (ap g.leaf (sym work) ∙ leaf) in
+      let none = ap (λ x. hand_points (seen_hand x new.spread.items)) empty in
+      let ahead = ap g.ahead work in
+      omega (arith, before, none, ahead, chunk);
+  clean = clean_given g old new kind hand work fault done;
+  kept = λ h d. ap g.faults work;
+}

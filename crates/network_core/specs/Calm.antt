@@ -13,7 +13,11 @@ use Rattle.network_core.specs.Shown.{shown, choice}
 abbrev pub IsSpare : {W S : Type 0} (g : Ghosts W S) → Node W → Type 0
 IsSpare g n = g.leaf n.work ≡ true → hand_points (seen_hand n.hand n.spread.items) + g.ahead n.work ≤ n.chunk
 
--- counts of faults do not fall, want of memory stays noted, a leaf stays one, a work keeps its device's operation, a node its inputs
+-- a leaf whose end isn't made yet has no fault
+abbrev pub IsClean : {W S : Type 0} (g : Ghosts W S) → Node W → Type 0
+IsClean g n = g.leaf n.work ≡ true → n.done ≡ false → holds_end (seen_hand n.hand n.spread.items) ≡ false → n.fault ≡ None
+
+-- counts of faults do not fall, and stay where no device's fault stands at the node; want of memory stays noted, a leaf stays one, a work keeps its device's operation, a node its inputs
 -- and its first fault, a new fault of a device has its cause and names that operation, and what a leaf reads stays the same
 pub record Calm {W S : Type 0} (g : Ghosts W S) (old new : Node W) : Type 0 where
   pub faults : g.faults old.work ≤ g.faults new.work
@@ -27,6 +31,8 @@ pub record Calm {W S : Type 0} (g : Ghosts W S) (old new : Node W) : Type 0 wher
   pub chunk : new.chunk ≡ old.chunk
   pub extent : g.leaf old.work ≡ true → g.extent new.work ≡ g.extent old.work
   pub spare : IsSpare g old → IsSpare g new
+  pub clean : IsClean g old → IsClean g new
+  pub kept : IsClean g old → is_device new.fault ≡ false → g.faults new.work ≡ g.faults old.work
 
 -- no device's fault stands at the node, and no want of memory was noted in between
 pub record NoEvent {W S : Type 0} (g : Ghosts W S) (old new : Node W) : Type 0 where

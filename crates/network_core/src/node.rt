@@ -191,6 +191,7 @@ impl<W: Work> Node<W> {
     /// A leaf makes its next item.
     fn make_next(&mut self)
         requires leaf { W.leaf self.old.work ≡ true }
+        requires hand { self.old.hand ≡ None }
         requires undone { self.old.done ≡ false }
         ensures calm { Calm W.Work self.old self.new }
         ensures holds { KeepsHolding W.Work self.old self.new }

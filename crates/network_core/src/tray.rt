@@ -87,6 +87,7 @@ impl Tray {
         ensures fewer_views { W.views_left work.new + views_in (made result self.new.items)
             ≤ W.views_left work.old }
         ensures cause { is_device (made_fault result) ≡ true → Rose (W.faults work.old) (W.faults work.new) }
+        ensures calm { is_device (made_fault result) ≡ false → W.faults work.new ≡ W.faults work.old }
         ensures named { IsOf (W.op work.old) (made_fault result) }
         ensures count { W.faults work.old ≤ W.faults work.new }
         ensures holds { (before : List Point) → W.holds work.old before ≡ true
@@ -117,6 +118,7 @@ impl Tray {
         ensures holds { happened result (W.short work.old) (W.short work.new) ≡ false → (before : List Point)
             → W.holds work.old before ≡ true → W.holds work.new (before ++ self.old.items) ≡ true }
         ensures cause { is_device result ≡ true → Rose (W.faults work.old) (W.faults work.new) }
+        ensures calm { is_device result ≡ false → W.faults work.new ≡ W.faults work.old }
         ensures named { IsOf (W.op work.old) result }
         ensures count { W.faults work.old ≤ W.faults work.new }
         ensures stays_short { W.short work.old ≡ true → W.short work.new ≡ true }

@@ -170,6 +170,8 @@ impl<'a, R: std::rt::Files<File = File>> Files for RealFiles<'a, R> {
 
     ghost faults = { λ s. s.faults };
 
+    ghost counts = { λ _. None };
+
     fn open_in(&mut self, name: &str) -> Result<BlockReader<File>, DeviceErr> {
         if self.lent == u64::MAX {
             return Err(DeviceErr::Memory);

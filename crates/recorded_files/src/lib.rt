@@ -1,7 +1,7 @@
 //! What tests run over: a store of files that notes which calls are made on it, and in which order, and a small LAS file.
 #![tactic(auto)]
 
-ghost use Rattle.std.specs.Prelude.{◌≡◌, ◌++◌, ◌+◌, ◌-◌, ◌^◌, ◌≤◌, ◌⊎◌, List, [], ℕ, Some, None, codes, decimal, length, string_bytes, IfOk, OnOk, OnErr, IsErrOf};
+ghost use Rattle.std.specs.Prelude.{◌≡◌, ◌++◌, ◌∷◌, ◌+◌, ◌-◌, ◌^◌, ◌≤◌, ◌⊎◌, List, [], ℕ, option_map, Some, None, codes, decimal, length, string_bytes, IfOk, OnOk, OnErr, IsErrOf};
 ghost use Rattle.recorded_files.specs.Notes.{note_of};
 ghost use Rattle.file_devices.specs.Counts.{Rose, saturating};
 ghost use Rattle.file_devices.specs.Told.{IsAsTold};
@@ -83,6 +83,8 @@ impl Files for RecordedFiles {
 
     ghost faults = { λ s. ⟦<MemFiles as Files>⟧.faults s.files };
 
+    ghost counts = { λ s. ⟦<MemFiles as Files>⟧.counts s.files };
+
     fn open_in(&mut self, name: &str) -> Result<MemIn, DeviceErr>
         ensures ok { IfOk result (λ source. (m : Names)
             → ⟦<MemFiles as Files>⟧.map self.old.files ≡ Some m → (b : List ℕ)
@@ -100,6 +102,7 @@ impl Files for RecordedFiles {
         ensures map { ⟦<MemFiles as Files>⟧.map self.new.files ≡ ⟦<MemFiles as Files>⟧.map self.old.files }
         ensures read_to { ⟦<MemFiles as Files>⟧.read_to self.new.files
             ≡ ⟦<MemFiles as Files>⟧.read_to self.old.files }
+        ensures counts { ⟦<MemFiles as Files>⟧.counts self.new.files ≡ ⟦<MemFiles as Files>⟧.counts self.old.files }
         ensures lent_ok { OnOk result (⟦<MemFiles as Files>⟧.lent self.new.files
             ≡ ⟦<MemFiles as Files>⟧.lent self.old.files + 1) }
         ensures lent_err { OnErr result (⟦<MemFiles as Files>⟧.lent self.new.files
@@ -125,6 +128,7 @@ impl Files for RecordedFiles {
         ensures map { ⟦<MemFiles as Files>⟧.map self.new.files ≡ ⟦<MemFiles as Files>⟧.map self.old.files }
         ensures read_to { ⟦<MemFiles as Files>⟧.read_to self.new.files
             ≡ ⟦<MemFiles as Files>⟧.read_to self.old.files }
+        ensures counts { ⟦<MemFiles as Files>⟧.counts self.new.files ≡ ⟦<MemFiles as Files>⟧.counts self.old.files }
         ensures lent_ok { OnOk result (⟦<MemFiles as Files>⟧.lent self.new.files
             ≡ ⟦<MemFiles as Files>⟧.lent self.old.files + 1) }
         ensures lent_err { OnErr result (⟦<MemFiles as Files>⟧.lent self.new.files
@@ -154,6 +158,8 @@ impl Files for RecordedFiles {
             → Rose (⟦<MemFiles as Files>⟧.faults self.old.files) (⟦<MemFiles as Files>⟧.faults self.new.files) }
         ensures read_to { ⟦<MemFiles as Files>⟧.read_to self.new.files
             ≡ ⟦<MemFiles as Files>⟧.read_to self.old.files }
+        ensures counts { IsAsTold (⟦<MemFiles as Files>⟧.counts self.new.files)
+            (option_map (λ cs. ⟦<MemOut as Sink>⟧.faults out ∷ cs) (⟦<MemFiles as Files>⟧.counts self.old.files)) }
         ensures lent { ⟦<MemFiles as Files>⟧.lent self.new.files
             ≡ ⟦<MemFiles as Files>⟧.lent self.old.files - 1 }
 

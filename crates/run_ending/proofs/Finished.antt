@@ -57,14 +57,16 @@ module _ {S K P Q : Type 0} (fs : plug_type.Ghosts P) (ts : tally_type.Ghosts Q)
     | inr p ↦ (let ne = p.1 in before x a b (omega (arith, lt, ne)) e (sym (slice_get-set_other now i x w ne) ∙ f))
   ]
 
-  pub unfinished-here : (o : Op) → slice_get old i ≡ Some v → option_map (λ (x : Writing). finishing_op x.form) (writing_of v) ≡ Some o → Rose (faults v) (faults w) → UnfinishedAt faults old (slice_set now i w) i o
-  unfinished-here o was named rose = record {
+  pub unfinished-here : (o : Op) → slice_get old i ≡ Some v → option_map (λ (x : Writing). finishing_op x.form) (writing_of v) ≡ Some o → Rose (faults v) (faults w)
+      → ((x : ℕ) (a b : StageWork S K P Q) → x < i → slice_get old x ≡ Some a → slice_get now x ≡ Some b → faults b ≡ faults a) → UnfinishedAt faults old (slice_set now i w) i o
+  unfinished-here o was named rose calm = record {
     before = v;
     after = w;
     was = was;
     is = slice_get-set_same now i w inside;
     named = named;
     rose = rose;
+    others = λ j a b lt e f. calm j a b lt e (sym (slice_get-set_other now i j w (λ same. absurd (omega (arith, lt, same)))) ∙ f);
   }
 
   pub left-more : (k : ℕ) → i < k → ((x : ℕ) → i ≤ x → slice_get now x ≡ slice_get old x) → (x : ℕ) → k ≤ x → slice_get (slice_set now i w) x ≡ slice_get old x

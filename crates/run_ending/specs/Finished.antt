@@ -1,5 +1,5 @@
 -- Writers that finish their files.
-use Rattle.std.specs.Prelude.{◌≡◌, ℕ, List, slice_get, option_map, Option, Some, None}
+use Rattle.std.specs.Prelude.{◌≡◌, ◌<◌, ℕ, List, slice_get, option_map, Option, Some, None}
 use Rattle.file_devices.specs.Counts.{Rose}
 use Rattle.file_devices.specs.Told.{IsAsTold}
 use Rattle.file_devices.specs.declared.devices.Op.{Op}
@@ -28,7 +28,7 @@ AreKept {S} {K} {P} {Q} old new = (i : ℕ) (v w : StageWork S K P Q) → slice_
 abbrev pub OthersStay : {S K P Q : Type 0} → List (StageWork S K P Q) → List (StageWork S K P Q) → Type 0
 OthersStay {S} {K} {P} {Q} old new = (i : ℕ) (w : StageWork S K P Q) → slice_get old i ≡ Some w → writing_of w ≡ None → slice_get new i ≡ Some w
 
--- the device of a writer failed in this as its file was finished
+-- the device of a writer failed in this as its file was finished, and that of no earlier one did
 pub record UnfinishedAt {S K P Q : Type 0} (faults : StageWork S K P Q → ℕ) (old new : List (StageWork S K P Q)) (i : ℕ) (o : Op) : Type 0 where
   pub before : StageWork S K P Q
   pub after : StageWork S K P Q
@@ -36,6 +36,7 @@ pub record UnfinishedAt {S K P Q : Type 0} (faults : StageWork S K P Q → ℕ) 
   pub is : slice_get new i ≡ Some after
   pub named : option_map (λ (x : Writing). finishing_op x.form) (writing_of before) ≡ Some o
   pub rose : Rose (faults before) (faults after)
+  pub others : (j : ℕ) (v w : StageWork S K P Q) → j < i → slice_get old j ≡ Some v → slice_get new j ≡ Some w → faults w ≡ faults v
 
 -- a writer couldn't finish, since its device failed
 abbrev pub IsUnfinished : {S K P Q : Type 0} → (StageWork S K P Q → ℕ) → List (StageWork S K P Q) → List (StageWork S K P Q) → Refusal → Type 0

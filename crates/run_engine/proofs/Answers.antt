@@ -84,7 +84,7 @@ module _ {S K P Q : Type 0} (s : source.Ghosts S) (k : sink.Ghosts K) (fs : plug
   -- no device fails in a keeping before the files are kept
   pub fault-early : (r : Refusal) → refusal_for found ≡ Some r → IsEarly r
   fault-early r e = elim (why-refused found r e) [
-    | inl d ↦ (let c = ended.caused d.stage d.op d.has in subst IsEarly (sym d.is) (op-early d.stage (held_by c.before) d.op c.does))
+    | inl d ↦ (let c = ended.caused.failed d.stage d.op d.has in subst IsEarly (sym d.is) (op-early d.stage (held_by c.before) d.op c.does))
     | inr p ↦ subst IsEarly (sym p.is) tt
   ]
 
@@ -96,7 +96,7 @@ module _ {S K P Q : Type 0} (s : source.Ghosts S) (k : sink.Ghosts K) (fs : plug
       (low : start ≤ mid) (back : (i : ℕ) (w : StageWork S K P Q) → slice_get new i ≡ Some w → saturating mid (faults_of s.faults k.faults w) ≤ end) where
     device-cause : (i : ℕ) (o : Op) → fault_at found i ≡ Some (stage.Device o) → IsCause (Rose start end) handed map stages (of.Device (at.Stage i) o)
     device-cause i o has =
-        let c = ended.caused i o has in
+        let c = ended.caused.failed i o has in
         let faults = faults_of s.faults k.faults in
         inr (
           (let a = rose-given (faults c.before) (faults c.after) mid end c.rose (back i c.after c.is) in omega (arith, a, low)),

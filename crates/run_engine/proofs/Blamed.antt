@@ -1,5 +1,5 @@
 -- Which device is named where a run is closed.
-use Rattle.std.proofs.Common.{◌≡◌, ℕ, ◌≤◌, false, true, List, length, Option, Some, None, slice_get, refl, ap, sym, subst, ◌∙◌, arith, inl, inr}
+use Rattle.std.proofs.Common.{◌≡◌, ℕ, ◌<◌, ◌≤◌, false, true, List, length, Option, Some, None, slice_get, refl, ap, sym, subst, ◌∙◌, arith, inl, inr}
 use Rattle.file_devices.specs.Counts.{Rose, saturating}
 use Rattle.file_devices.specs.Named.{Names}
 use Rattle.file_devices.specs.declared.devices.Op.{Op}
@@ -61,27 +61,45 @@ first-is faults i o e = go (first_failed faults) (first_faulty faults) e
     go None None e = absurd cc
 
 module _ {S K P Q : Type 0} (s : source.Ghosts S) (k : sink.Ghosts K) (fs : plug_type.Ghosts P) (ts : tally_type.Ghosts Q) (stages : List StageSpec) where
+  -- no device had failed as the stages were prepared
+  abbrev pub WereCalm : List (StageWork S K P Q) → Type 0
+  WereCalm works = (i : ℕ) (w : StageWork S K P Q) → slice_get works i ≡ Some w → faults_of s.faults k.faults w ≡ 0
+
+  -- so the device of a stage without a device's fault has never failed
+  calm-at : (stop : Stop) (old works : List (StageWork S K P Q)) (faults : List (Option StageFault)) (counts : List StageCount) → HaveEndedBy s k fs ts stop stages old works faults counts → AreLater fs ts (faults_of s.faults k.faults) old works
+      → WereCalm old → (j : ℕ) (w : StageWork S K P Q) → slice_get works j ≡ Some w → is_device (fault_at faults j) ≡ false → faults_of s.faults k.faults w ≡ 0
+  calm-at stop old works faults counts ended later start j w at quiet =
+      let v = some_at old j (let a = slice_get_within works j w at in let b = later.count in omega (arith, a, b)) in
+      ended.caused.calm j v.0 w v.1 at quiet ∙ start j v.0 v.1
+
+  pub all-calm : (stop : Stop) (old works : List (StageWork S K P Q)) (faults : List (Option StageFault)) (counts : List StageCount) → HaveEndedBy s k fs ts stop stages old works faults counts → AreLater fs ts (faults_of s.faults k.faults) old works
+      → WereCalm old → AreSound faults → WereCalm works
+  all-calm stop old works faults counts ended later start sound j w at = calm-at stop old works faults counts ended later start j w at (ap is_device (sound j))
+
   pub failed-first : (stop : Stop) (old works : List (StageWork S K P Q)) (faults : List (Option StageFault)) (counts : List StageCount) → HaveEndedBy s k fs ts stop stages old works faults counts → AreLater fs ts (faults_of s.faults k.faults) old works
-      → (i : ℕ) (o : Op) → refusal_for faults ≡ Some (Device (Stage i) o) → FailedFirst (faults_of s.faults k.faults) faults works i o
-  failed-first stop old works faults counts ended later i o e =
+      → WereCalm old → (i : ℕ) (o : Op) → refusal_for faults ≡ Some (Device (Stage i) o) → FailedFirst (faults_of s.faults k.faults) faults works i o
+  failed-first stop old works faults counts ended later start i o e =
       let r = found (λ j. device_op (fault_at faults j)) (length faults) 0 i o (first-is faults i o e) in
       let has = a-device (fault_at faults i) o r.here in
-      let c = ended.caused i o has in
+      let c = ended.caused.failed i o has in
+      let least : (j : ℕ) → j < i → is_device (fault_at faults j) ≡ false = λ j lt. no-device (fault_at faults j) (r.least j (omega arith) lt) in
       record {
         has = has;
-        least = λ j lt. no-device (fault_at faults j) (r.least j (omega arith) lt);
+        least = least;
         work = c.after;
         at = c.is;
         does = later.op i c.before c.after c.was c.is ∙ c.does;
         count = (let rose = c.rose in omega (arith, rose));
+        others = λ j w lt at. calm-at stop old works faults counts ended later start j w at (least j lt);
       }
 
   -- a writer whose file couldn't be finished
-  pub failed-finish : (works new : List (StageWork S K P Q)) (faults : List (Option StageFault)) (start end : ℕ) → AreSound faults
+  pub failed-finish : (works new : List (StageWork S K P Q)) (faults : List (Option StageFault)) (start end : ℕ) → AreSound faults → WereCalm works
       → ((i : ℕ) (w : StageWork S K P Q) → slice_get new i ≡ Some w → saturating start (faults_of s.faults k.faults w) ≤ end)
-      → (i : ℕ) (o : Op) → IsUnfinished (faults_of s.faults k.faults) works new (Device (Stage i) o) → FailedLast (Rose start end) faults works i o
-  failed-finish works new faults start end sound back i o c = record {
+      → (i : ℕ) (o : Op) → IsUnfinished (faults_of s.faults k.faults) works new (Device (Stage i) o) → FailedLast (faults_of s.faults k.faults) (Rose start end) faults works i o
+  failed-finish works new faults start end sound calm back i o c = record {
     sound = sound;
+    calm = calm;
     rises = rose-given (faults_of s.faults k.faults c.before) (faults_of s.faults k.faults c.after) start end c.rose (back i c.after c.is);
     work = c.before;
     at = c.was;
@@ -96,9 +114,9 @@ module _ {S K P Q : Type 0} (s : source.Ghosts S) (k : sink.Ghosts K) (fs : plug
   does-write (Writes name) e = refl
 
   -- one whose file wasn't kept
-  pub failed-keep : {bytes : K → Option (List ℕ)} (works done : List (StageWork S K P Q)) (faults : List (Option StageFault)) (rose : Type 0) (old new : Option Names) → AreSound faults → HaveDevices stages works
-      → AreLater fs ts (faults_of s.faults k.faults) works done → (i : ℕ) (o : Op) → BrokeOff bytes rose old new stages done (Device (Stage i) o) → FailedLast rose faults works i o
-  failed-keep works done faults rose old new sound fit later i o broke = elim broke.why [
+  pub failed-keep : {bytes : K → Option (List ℕ)} (works done : List (StageWork S K P Q)) (faults : List (Option StageFault)) (rose : Type 0) (old new : Option Names) → AreSound faults → WereCalm works → HaveDevices stages works
+      → AreLater fs ts (faults_of s.faults k.faults) works done → (i : ℕ) (o : Op) → BrokeOff bytes rose old new stages done (Device (Stage i) o) → FailedLast (faults_of s.faults k.faults) rose faults works i o
+  failed-keep works done faults rose old new sound calm fit later i o broke = elim broke.why [
     | inl m ↦ absurd (let no : Device (Stage i) o ≡ Memory = m in cc)
     | inr d ↦ (
         let same : Device (Stage i) o ≡ Device (Stage broke.stage) Keep = d.0 in
@@ -107,6 +125,7 @@ module _ {S K P Q : Type 0} (s : source.Ghosts S) (k : sink.Ghosts K) (fs : plug
         let w = some_at works i (let a = broke.inside in let b = later.count in omega (arith, a, b, number)) in
         record {
           sound = sound;
+          calm = calm;
           rises = d.1;
           work = w.0;
           at = w.1;
@@ -115,9 +134,9 @@ module _ {S K P Q : Type 0} (s : source.Ghosts S) (k : sink.Ghosts K) (fs : plug
   ]
 
   -- one of a file for each view, where one of these wasn't kept
-  pub failed-each : (works done : List (StageWork S K P Q)) (faults : List (Option StageFault)) (rose : Type 0) (mid new : Option Names) → AreSound faults → AreKept works done → length done ≡ length works
-      → (i : ℕ) (o : Op) → BrokeOffAt rose mid new stages (kept_from 0 done) (Device (Stage i) o) → FailedLast rose faults works i o
-  failed-each works done faults rose mid new sound kept size i o broke = elim broke.stops.why [
+  pub failed-each : (works done : List (StageWork S K P Q)) (faults : List (Option StageFault)) (rose : Type 0) (mid new : Option Names) → AreSound faults → WereCalm works → AreKept works done → length done ≡ length works
+      → (i : ℕ) (o : Op) → BrokeOffAt rose mid new stages (kept_from 0 done) (Device (Stage i) o) → FailedLast (faults_of s.faults k.faults) rose faults works i o
+  failed-each works done faults rose mid new sound calm kept size i o broke = elim broke.stops.why [
     | inl m ↦ absurd (let no : Device (Stage i) o ≡ Memory = m in cc)
     | inr d ↦ (
         let same : Device (Stage i) o ≡ Device (Stage broke.stage) d.0 = d.1 in
@@ -128,6 +147,7 @@ module _ {S K P Q : Type 0} (s : source.Ghosts S) (k : sink.Ghosts K) (fs : plug
         let here : i ≡ w.0 = (let a = w.3 in omega (arith, number, a)) in
         record {
           sound = sound;
+          calm = calm;
           rises = d.3;
           work = v.0;
           at = ap (slice_get works) here ∙ v.1;
@@ -135,12 +155,12 @@ module _ {S K P Q : Type 0} (s : source.Ghosts S) (k : sink.Ghosts K) (fs : plug
         })
   ]
 
-  pub failed-all : {bytes : K → Option (List ℕ)} (works done : List (StageWork S K P Q)) (faults : List (Option StageFault)) (rose : Type 0) (old new : Option Names) → AreSound faults → HaveDevices stages works
-      → AreLater fs ts (faults_of s.faults k.faults) works done → AreKept works done → (i : ℕ) (o : Op) → IsUnkept bytes rose old new stages done (Device (Stage i) o) → FailedLast rose faults works i o
-  failed-all works done faults rose old new sound fit later kept i o unkept = elim unkept [
+  pub failed-all : {bytes : K → Option (List ℕ)} (works done : List (StageWork S K P Q)) (faults : List (Option StageFault)) (rose : Type 0) (old new : Option Names) → AreSound faults → WereCalm works → HaveDevices stages works
+      → AreLater fs ts (faults_of s.faults k.faults) works done → AreKept works done → (i : ℕ) (o : Op) → IsUnkept bytes rose old new stages done (Device (Stage i) o) → FailedLast (faults_of s.faults k.faults) rose faults works i o
+  failed-all works done faults rose old new sound calm fit later kept i o unkept = elim unkept [
     | inl m ↦ absurd (let no : Device (Stage i) o ≡ Memory = m.0 in cc)
     | inr b ↦ elim b [
-      | inl broke ↦ failed-keep works done faults rose old new sound fit later i o broke
-      | inr each ↦ failed-each works done faults rose each.mid new sound kept later.count i o each.broke
+      | inl broke ↦ failed-keep works done faults rose old new sound calm fit later i o broke
+      | inr each ↦ failed-each works done faults rose each.mid new sound calm kept later.count i o each.broke
     ]
   ]

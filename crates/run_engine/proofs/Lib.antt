@@ -1,3 +1,4 @@
+pub mod Come
 pub mod Counted
 pub mod NewNodes
 pub mod Inputs
@@ -13,3 +14,4 @@ pub mod Stopping
 pub mod Given
 pub mod Remembered
 pub mod Roles
+pub mod Named

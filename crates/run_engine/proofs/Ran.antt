@@ -175,12 +175,23 @@ module _ {S K P Q : Type 0} (s : source.Ghosts S) (k : sink.Ghosts K) (fs : plug
         rose = later.cause (ap is_device is);
       }
 
+  -- and that of any other node has the count that it had
+  calm-in : (found : List (Option StageFault)) → AreFaultsOf new found → (i : ℕ) (v w : StageWork S K P Q) → slice_get works i ≡ Some v → slice_get (map work_of new) i ≡ Some w → is_device (fault_at found i) ≡ false → faults_of s.faults k.faults w ≡ faults_of s.faults k.faults v
+  calm-in found are i v w e f quiet =
+      let n = was i v e in
+      let m = mapped-at work_of new i w f in
+      let told : fault_at found i ≡ m.0.fault = ap (λ fs. fault_at fs i) are ∙ fault-of new i m.0 m.1 in
+      ap (faults_of s.faults k.faults) (sym m.2) ∙ (lasted.each i n.0 m.0 n.1 m.1).kept (ap is_device (sym told) ∙ quiet) ∙ ap (faults_of s.faults k.faults) n.2
+
   -- so the stages of the nodes have ended
   pub have-ended : AreRanStages s k fs ts stages old new → (found : List (Option StageFault)) (counts : List StageCount) → AreFaultsOf new found → length counts ≡ length stages → AreCounted ts stages new counts
       → HaveEnded s k fs ts stages works (map work_of new) found counts
   have-ended ran found counts are size counted = record {
     count = ap (λ fs. length fs) are ∙ length-mapped (λ (n : Node (StageWork S K P Q)). n.fault) new ∙ lasted.count ∙ fresh.count;
-    caused = λ i o e. let m = node-of new i (stage.Device o) (ap (λ fs. fault_at fs i) (sym are) ∙ e) in failed-at i o m.0 m.1 m.2;
+    caused = record {
+      failed = λ i o e. let m = node-of new i (stage.Device o) (ap (λ fs. fault_at fs i) (sym are) ∙ e) in failed-at i o m.0 m.1 m.2;
+      calm = calm-in found are;
+    };
     faulty = λ none opened tell i lt.
         let m = after i lt in
         told i m.0 m.1 ∙ (ends ran opened tell (calm none) i m.0 m.1).fault;
@@ -201,7 +212,10 @@ module _ {S K P Q : Type 0} (s : source.Ghosts S) (k : sink.Ghosts K) (fs : plug
       → HaveEndedBy s k fs ts First stages works (map work_of new) found counts
   have-stopped stopped found counts are faulty = record {
     count = ap (λ fs. length fs) are ∙ length-mapped (λ (n : Node (StageWork S K P Q)). n.fault) new ∙ lasted.count ∙ fresh.count;
-    caused = λ i o e. let m = node-of new i (stage.Device o) (ap (λ fs. fault_at fs i) (sym are) ∙ e) in failed-at i o m.0 m.1 m.2;
+    caused = record {
+      failed = λ i o e. let m = node-of new i (stage.Device o) (ap (λ fs. fault_at fs i) (sym are) ∙ e) in failed-at i o m.0 m.1 m.2;
+      calm = calm-in found are;
+    };
     faulty = λ none opened tell i f e.
         let m = node-of new i f (ap (λ fs. fault_at fs i) (sym are) ∙ e) in
         (stopped (λ j n at. ap is_device (sym (ap (λ fs. fault_at fs j) are ∙ fault-of new j n at)) ∙ none j) opened (run-on opened tell)).1 i m.0 f m.1 m.2;

@@ -24,6 +24,7 @@ ghost use Rattle.held_devices.specs.Holding.{all_held};
 ghost use Rattle.network_core.specs.declared.stop.Stop.{Stop};
 ghost use Rattle.network_core.specs.declared.stop.Stop.TheVariants.{First};
 ghost use Rattle.run_outcome.specs.Cause.{IsRun, IsLeft};
+ghost use Rattle.run_outcome.specs.Least.{IsNamedBy};
 ghost use Rattle.run_engine.specs.declared.engine.Engine.{Engine as Chosen};
 ghost use Rattle.run_engine.specs.Blame.{IsBlamed};
 ghost use Rattle.run_engine.specs.Jobs.{TakesTurns, IsReady, IsWaiting, IsShort, CameTo, HasRun, HaveReadBy};
@@ -203,6 +204,7 @@ impl<S: Source, K: FileSink, P: PlugFilter, Q: PlugTally, E> Job<S, K, P, Q, E> 
         ensures blamed { (i : ℕ) (o : Op) → result ≡ Err (refused.Refusal.Device (place.Place.Stage i) o)
             → IsBlamed (faults_of S.faults K.faults) (Rose (F.faults files.old) (F.faults files.new))
             self.works.items self.step i o }
+        ensures least { IfErr result (IsNamedBy stages.now (F.counts files.old) (F.counts files.new)) }
         ensures back { (before : Places P Q)
             → AreTakenOut P.PlugFilter Q.PlugTally stages.now before self.works.items places.old
             → AreBack P.PlugFilter Q.PlugTally stages.now before places.new }

@@ -9,6 +9,7 @@ ghost use Rattle.plug_stages.specs.Handed.{handed_by};
 ghost use Rattle.stage_forms.specs.Out.{AreTakenOut};
 ghost use Rattle.held_devices.specs.Holding.{all_held};
 ghost use Rattle.run_outcome.specs.Cause.{IsCause, IsEarly};
+ghost use Rattle.run_outcome.specs.Least.{IsNamedBy};
 ghost use Rattle.run_opening.specs.Opening.{IsBeforePoints};
 ghost use Rattle.run_engine.specs.Jobs.{IsReady, IsWaiting};
 
@@ -77,6 +78,8 @@ pub fn prepare<F: Files, P: PlugFilter, Q: PlugTally, T: Scheduler<StageWork<F::
     ensures lent_ok { IfOk result (λ job. F.lent files.new ≡ F.lent files.old + all_held job.works.items) }
     ensures lent_err { OnErr result (F.lent files.new ≡ F.lent files.old) }
     ensures read { OnOk result (F.read_to files.new ≡ F.read_to files.old) }
+    ensures counts { OnOk result (F.counts files.new ≡ F.counts files.old) }
+    ensures least { IfErr result (IsNamedBy stages.now (F.counts files.old) (F.counts files.new)) }
     ensures later { F.faults files.old ≤ F.faults files.new }
 {
     let works = ready_works(alloc, files, places, stages)?;

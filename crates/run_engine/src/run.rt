@@ -10,6 +10,7 @@ ghost use Rattle.answer_model.specs.Naming.{AreBack, AreNamed, AreRemembered};
 ghost use Rattle.answer_model.specs.Runs.{opened_in, run_of};
 ghost use Rattle.plug_stages.specs.Handed.{handed_by};
 ghost use Rattle.run_outcome.specs.Cause.{IsRun, IsLeft};
+ghost use Rattle.run_outcome.specs.Least.{IsNamedBy};
 ghost use Rattle.cloud_points.specs.declared.faults.PointFault.{PointFault};
 ghost use Rattle.cloud_points.specs.declared.faults.StageFault.TheVariants as stage;
 ghost use Rattle.network_core.specs.declared.stop.Stop.TheVariants.{First};
@@ -68,6 +69,7 @@ pub fn run_pipeline<
     ensures left { IfErr result (λ refusal. (m : Names) → F.map files.old ≡ Some m
         → IsLeft refusal (F.map files.old) (F.map files.new)
         (run_of (handed_by P.PlugFilter Q.PlugTally places.old) m stages.now)) }
+    ensures least { IfErr result (IsNamedBy stages.now (F.counts files.old) (F.counts files.new)) }
     ensures back { AreBack P.PlugFilter Q.PlugTally stages.now places.old places.new }
     ensures remembered { OnOk result ((m : Names) → F.map files.old ≡ Some m
         → AreRemembered P.PlugFilter Q.PlugTally stages.now

@@ -29,6 +29,7 @@ use Rattle.answer_model.specs.Runs.{AreRead, opened_in, unless_unbound, run_with
 use Rattle.stage_forms.specs.Starts.{AreAtStart, AreHandedIn}
 use Rattle.run_opening.specs.Begun.{AreOpened, AreBegun, AreForms, AreLayouts, AreNamesBound, FitStages, IsForm, IsLaidOut, IsUnbound, IsWork, over_files, read_with, reader_of}
 use Rattle.run_outcome.specs.Cause.{CanBegin, IsCause, IsEarly}
+use Rattle.run_outcome.specs.Least.{IsNamedBy}
 use Rattle.run_opening.specs.Opening.{IsBeforePoints}
 use Rattle.run_opening.specs.Ready.{AreReady}
 use Rattle.run_outcome.proofs.Runs.{all-read}
@@ -76,6 +77,13 @@ unbound-before stages readers (of.Pipeline f) why = tt
 unbound-before stages readers (of.Data i f) why = absurd why
 unbound-before stages readers (of.Device p o) why = tt
 unbound-before stages readers (of.Usage k) why = tt
+
+pub unbound-named : {S : Type 0} (stages : List StageSpec) (readers : List (Option (LasReader S))) (before after : Option (List ℕ)) (refusal : Refusal) → IsUnbound stages readers refusal → IsNamedBy stages before after refusal
+unbound-named stages readers before after of.Memory why = tt
+unbound-named stages readers before after (of.Pipeline f) why = tt
+unbound-named stages readers before after (of.Data i f) why = tt
+unbound-named stages readers before after (of.Device p o) why = absurd why
+unbound-named stages readers before after (of.Usage k) why = tt
 
 -- where the readers are opened over the map and all names are bound, a run can begin
 pub can-begin : {S : Type 0} (s : source.Ghosts S) (handed : Handed) (map : Option Names) (stages : List StageSpec) (readers : List (Option (LasReader S))) → length readers ≡ length stages → AreOpened s map stages readers
@@ -141,4 +149,5 @@ module _ {S K P Q : Type 0} (s : source.Ghosts S) (k : sink.Ghosts K) (map : Opt
     front = λ i r at. (work-at i (Reader r) at).2.front r refl;
     headers = λ m e i r at. (work-at i (Reader r) at).2.header m e r refl;
     come = can-begin s handed map stages readers all_read opened bound;
+    calm = λ i w e. (work-at i w e).2.calm;
   }

@@ -4,3 +4,4 @@ pub mod Binding
 pub mod Bound
 pub mod Taken
 pub mod Works
+pub mod Named

@@ -19,7 +19,7 @@ use Rattle.stage_kinds.specs.declared.file_form.StageForm.{StageForm}
 use Rattle.stage_kinds.specs.declared.file_form.StageForm.TheVariants as formed
 use Rattle.stage_kinds.specs.declared.stage_work.StageWork.{StageWork}
 use Rattle.stage_kinds.specs.declared.stage_work.StageWork.TheVariants.{Reader, Filter, Plug, Tally, Collector, Views, ViewFiles, Writer}
-use Rattle.stage_kinds.specs.Held.{op_of}
+use Rattle.stage_kinds.specs.Held.{faults_of, op_of}
 use Rattle.stage_options.specs.Roles.{Role, Reads, Filters, Gathers, Writes, WritesEach, role_of, is_reading, is_writing}
 use Rattle.stage_options.specs.declared.options.Options.{Options}
 use Rattle.stage_options.specs.declared.stage.StageSpec.{StageSpec}
@@ -130,6 +130,7 @@ reader-work {S} {K} {P} {Q} s k map i o r q fields layout is source header vlrs 
   tells = λ m e x w. (let also : q ≡ x = cc in subst (λ (x : LasReader S). Tells s (over_files (λ j. holds m j (role_of o))) i x) also (told m e));
   front = λ x w. (let also : q ≡ x = cc in subst (λ (x : LasReader S). IsInFront s.reached x) also in-front);
   header = λ m e x w. (let also : q ≡ x = cc in subst (λ (x : LasReader S). header_at m (role_of o) ≡ Some x.header) also (opened.1.header m e ∙ ap (λ h. Some h) (sym header)));
+  calm = ap s.faults source ∙ opened.1.calm;
 }
   where
     nowhere : Setting
@@ -155,14 +156,15 @@ reader-work {S} {K} {P} {Q} s k map i o r q fields layout is source header vlrs 
 
 -- a work that is no reader's is that of a stage that doesn't read
 pub other-work : {S K P Q : Type 0} (s : source.Ghosts S) (k : sink.Ghosts K) (map : Option Names) (i : ℕ) (o : Options) (form : StageForm) (layout : Layout) (w : StageWork S K P Q) → is_reading (role_of o) ≡ false
-    → op_of w ≡ op_for (role_of o) → ((setting : Setting) → form ≡ form_for o setting → IsLaidOut layout setting.dims form → IsAtStart k.bytes o setting w) → IsWork s k map i o None form layout w
-other-work {S} {K} {P} {Q} s k map i o form layout w inner device start = record {
+    → op_of w ≡ op_for (role_of o) → ((setting : Setting) → form ≡ form_for o setting → IsLaidOut layout setting.dims form → IsAtStart k.bytes o setting w) → faults_of s.faults k.faults w ≡ 0 → IsWork s k map i o None form layout w
+other-work {S} {K} {P} {Q} s k map i o form layout w inner device start calm = record {
   same = ap read_with (no_reader w device);
   start = start;
   device = device;
   tells = λ m e r is. absurd (reads_not (role_of o) inner (ap op_of (sym is) ∙ device));
   front = λ r is. absurd (reads_not (role_of o) inner (ap op_of (sym is) ∙ device));
   header = λ m e r is. absurd (reads_not (role_of o) inner (ap op_of (sym is) ∙ device));
+  calm = calm;
 }
   where
     reads_not : (role : Role) → is_reading role ≡ false → Some op.Read ≡ op_for role → ⊥

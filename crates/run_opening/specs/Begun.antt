@@ -16,7 +16,7 @@ use Rattle.stage_kinds.specs.declared.stage_work.StageWork.TheVariants.{Reader}
 use Rattle.stage_kinds.specs.declared.file_form.StageForm.{StageForm}
 use Rattle.stage_kinds.specs.declared.file_form.StageForm.TheVariants as form
 use Rattle.stage_kinds.specs.Files.{IsFileForm}
-use Rattle.stage_kinds.specs.Held.{op_of}
+use Rattle.stage_kinds.specs.Held.{faults_of, op_of}
 use Rattle.stage_kinds.specs.Makings.{IsGoodMaking}
 use Rattle.plug_stages.specs.Handed.{none_handed}
 use Rattle.run_opening.specs.Headers.{header_at}
@@ -41,13 +41,14 @@ IsInFront reached r = r.header.evlrs ≡ 0 → reached r.source ≤ r.header.poi
 abbrev pub over_files : (ℕ → LasFile) → Opened
 over_files files = record { file = files; handed = none_handed }
 
--- a reader at its start, of stage i, which does this; where the map is told, its file can be read, and its source tells it
+-- a reader at its start, of stage i, which does this; where the map is told, its file can be read, and its source, which didn't fail, tells it
 pub record IsReading {S : Type 0} (s : source.Ghosts S) (map : Option Names) (i : ℕ) (role : Role) (r : LasReader S) : Type 0 where
   pub start : r.progress ≡ Records 0
   pub read : (m : Names) → map ≡ Some m → unread m i role ≡ None
   pub tells : (m : Names) → map ≡ Some m → Tells s (over_files (λ k. holds m k role)) i r
   pub front : IsInFront s.reached r
   pub header : (m : Names) → map ≡ Some m → header_at m role ≡ Some r.header
+  pub calm : s.faults r.source ≡ 0
 
 -- a stage has a reader exactly where it reads
 abbrev pub IsOpened : {S : Type 0} → source.Ghosts S → Option Names → ℕ → Role → Option (LasReader S) → Type 0
@@ -100,6 +101,16 @@ IsUnbound stages readers Memory = ⊤
 IsUnbound stages readers (Pipeline f) = (opened : Opened) → HaveReaders readers opened → (i : ℕ) × (least_from (unbound_at stages opened) (length stages) 0 ≡ Some (i, f))
 IsUnbound stages readers refusal = ⊥
 
+-- what the works of stages are made of: for each stage its place for a reader, which is opened where the stage reads, a form that does what the
+-- stage does, and a layout
+pub record AreMade {S : Type 0} (s : source.Ghosts S) (map : Option Names) (stages : List StageSpec) (readers : List (Option (LasReader S))) (forms : List StageForm) (layouts : List Layout) : Type 0 where
+  pub opened : AreOpened s map stages readers
+  pub readers_each : length readers ≡ length stages
+  pub fits : FitStages stages forms
+  pub fine : AreFine readers forms
+  pub forms_each : length forms ≡ length stages
+  pub layouts_each : length layouts ≡ length stages
+
 -- ---- works
 
 -- the reader of a work
@@ -126,7 +137,8 @@ abbrev pub IsLaidOut : Layout → (Dim → Bool) → StageForm → Type 0
 IsLaidOut layout has (form.Plugs only) = (dim : Dim) → laid.holds layout dim ≡ has dim
 IsLaidOut layout has _ = ⊤
 
--- the work of stage i, which has these options, at its start: over its reader, or made of this; a reader's source tells its file
+-- the work of stage i, which has these options, at its start: over its reader, or made of this; a reader's source tells its file, and its
+-- device didn't fail
 pub record IsWork {S K P Q : Type 0} (s : source.Ghosts S) (k : sink.Ghosts K) (map : Option Names) (i : ℕ) (o : Options) (reader : Option (LasReader S)) (form : StageForm) (layout : Layout) (w : StageWork S K P Q) : Type 0 where
   pub same : read_with (reader_of w) ≡ read_with reader
   pub start : (setting : Setting) → form ≡ form_for o setting → IsLaidOut layout setting.dims form → IsAtStart k.bytes o setting w
@@ -134,6 +146,7 @@ pub record IsWork {S K P Q : Type 0} (s : source.Ghosts S) (k : sink.Ghosts K) (
   pub tells : (m : Names) → map ≡ Some m → (r : LasReader S) → w ≡ Reader r → Tells s (over_files (λ j. holds m j (role_of o))) i r
   pub front : (r : LasReader S) → w ≡ Reader r → IsInFront s.reached r
   pub header : (m : Names) → map ≡ Some m → (r : LasReader S) → w ≡ Reader r → header_at m (role_of o) ≡ Some r.header
+  pub calm : faults_of s.faults k.faults w ≡ 0
 
 -- so it is at the first stages, as many as there are
 abbrev pub AreBegun : {S K P Q : Type 0} → source.Ghosts S → sink.Ghosts K → Option Names → List StageSpec → List (Option (LasReader S)) → List StageForm → List Layout → List (StageWork S K P Q) → Type 0

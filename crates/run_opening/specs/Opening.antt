@@ -1,5 +1,6 @@
 -- Why a stage's file isn't opened or created.
-use Rattle.std.specs.Prelude.{◌≡◌, ◌⊎◌, ℕ, Option, Some, ⊤}
+use Rattle.std.specs.Prelude.{◌≡◌, ◌⊎◌, ◌<◌, ℕ, List, ◌∷◌, Option, Some, None, option_map, ⊤}
+use Rattle.file_devices.specs.Told.{IsAsTold}
 use Rattle.file_devices.specs.Named.{Names}
 use Rattle.file_devices.specs.declared.devices.Op.TheVariants as op
 use Rattle.las_reader.specs.declared.opening.OpenErr.{OpenErr}
@@ -32,9 +33,16 @@ IsUnopened rose map i (Reads name) (of.Device (at.Stage j) o) =
     (j ≡ i) × (((m : Names) × (map ≡ Some m) × (unread m i (Reads name) ≡ Some (of.Device (at.Stage i) o))) ⊎ (rose × AtRole ⊤ ⊥ ⊥ (Reads name) o))
 IsUnopened rose map i role refusal = ⊥
 
--- why the file of stage i couldn't be created: memory was wanting, or its device failed
-abbrev pub IsUncreated : Type 0 → ℕ → Refusal → Type 0
-IsUncreated rose i of.Memory = ⊤
-IsUncreated rose i (of.Device (at.Stage j) op.Create) = (j ≡ i) × rose
-IsUncreated rose i (of.Device (at.Stage j) op.Write) = (j ≡ i) × rose
-IsUncreated rose i refusal = ⊥
+-- what is told then of the counts: a file that couldn't be read was given back, of which a read failed
+abbrev pub ToldUnopened : Option (List ℕ) → Option (List ℕ) → Refusal → Type 0
+ToldUnopened before after (of.Device p op.Open) = after ≡ before
+ToldUnopened before after (of.Device p op.Read) = (c : ℕ) × (0 < c) × IsAsTold after (option_map (λ cs. c ∷ cs) before)
+ToldUnopened before after (of.Device p o) = ⊥
+ToldUnopened before after refusal = ⊤
+
+-- why the file of stage i couldn't be created, or begun on this sink: memory was wanting, or its device failed
+abbrev pub IsUncreated : {K : Type 0} → (K → ℕ) → Type 0 → ℕ → Option K → Refusal → Type 0
+IsUncreated faults rose i sink of.Memory = ⊤
+IsUncreated faults rose i sink (of.Device (at.Stage j) op.Create) = (j ≡ i) × (sink ≡ None) × rose
+IsUncreated {K} faults rose i sink (of.Device (at.Stage j) op.Write) = (j ≡ i) × ((k : K) × (sink ≡ Some k) × (0 < faults k))
+IsUncreated faults rose i sink refusal = ⊥

@@ -3,6 +3,7 @@ use Rattle.std.specs.Prelude.{◌≡◌, ℕ, List, length, slice_get, Option, S
 use Rattle.file_devices.specs.Named.{Names}
 use Rattle.file_devices.specs.declared.devices.Source as source
 use Rattle.file_devices.specs.declared.devices.Sink as sink
+use Rattle.stage_kinds.specs.Held.{faults_of}
 use Rattle.stage_kinds.specs.Leads.{AreInFront}
 use Rattle.las_reader.specs.declared.reader.LasReader.{LasReader}
 use Rattle.stage_kinds.specs.declared.stage_work.StageWork.{StageWork}
@@ -18,8 +19,8 @@ use Rattle.plug_stages.specs.declared.tally.PlugTally as tally_type
 use Rattle.plug_stages.specs.Handed.{Handed}
 
 module _ {S K P Q : Type 0} (s : source.Ghosts S) (k : sink.Ghosts K) (fs : plug_type.Ghosts P) (ts : tally_type.Ghosts Q) where
-  -- the works of stages before their first turn, over these files and what was handed in: each is at its start and holds its device, the
-  -- sources of readers tell their files, of which no more than the front was read, and the run can begin
+  -- the works of stages before their first turn, over these files and what was handed in: each is at its start and holds its device, which
+  -- didn't fail, the sources of readers tell their files, of which no more than the front was read, and the run can begin
   pub record AreReady (given : Handed) (map : Option Names) (stages : List StageSpec) (works : List (StageWork S K P Q)) : Type 0 where
     pub count : length works ≡ length stages
     pub starts : AreAtStart k.bytes stages works
@@ -29,3 +30,4 @@ module _ {S K P Q : Type 0} (s : source.Ghosts S) (k : sink.Ghosts K) (fs : plug
     pub front : AreInFront s.reached works
     pub headers : (m : Names) → map ≡ Some m → (i : ℕ) (r : LasReader S) → slice_get works i ≡ Some (Reader r) → header_at m (role_at stages i) ≡ Some r.header
     pub come : (m : Names) → map ≡ Some m → CanBegin given m stages
+    pub calm : (i : ℕ) (w : StageWork S K P Q) → slice_get works i ≡ Some w → faults_of s.faults k.faults w ≡ 0

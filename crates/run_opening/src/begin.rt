@@ -1,22 +1,24 @@
 //! The works of a tree's stages at their start.
 
-ghost use Rattle.std.specs.Prelude.{◌≡◌, ◌≤◌, ◌+◌, ℕ, length, set, None, Some, is_some, true, IfOk, IfErr, OnOk, OnErr};
+ghost use Rattle.std.specs.Prelude.{◌≡◌, ◌≤◌, ◌+◌, ◌++◌, ℕ, length, set, None, Some, is_some, option_map, true, IfOk, IfErr, IfSome, OnOk, OnErr};
 ghost use Rattle.answer_model.specs.Naming.{AreBack, AreNamed};
 ghost use Rattle.cloud_points.specs.Layouts.{holds};
-ghost use Rattle.file_devices.specs.Counts.{Rose};
+ghost use Rattle.file_devices.specs.Counts.{Rose, listed, saturating};
 ghost use Rattle.file_devices.specs.Named.{Names};
 ghost use Rattle.plug_stages.specs.Handed.{filter_nature, handed_by, named_in, natures_from, tally_nature_at};
 ghost use Rattle.plug_stages.specs.Works.{plug_nature, tally_nature};
 ghost use Rattle.stage_kinds.specs.Files.{IsFileForm};
-ghost use Rattle.stage_kinds.specs.Held.{filter_in, op_of, tally_in};
+ghost use Rattle.stage_kinds.specs.Held.{faults_of, filter_in, op_of, tally_in};
 ghost use Rattle.stage_options.specs.Roles.{role_of, is_writing};
 ghost use Rattle.stage_forms.specs.Out.{AreTakenOut};
 ghost use Rattle.stage_forms.specs.Starts.{AreHandedIn, IsBegun, IsHandedIn, ShowsNone, TellsNone};
 ghost use Rattle.las_reader.specs.Lists.{AreFields};
-ghost use Rattle.run_opening.specs.Begun.{AreFine, AreOpened, AreBegun, FitStages, IsFine, IsForm, IsOpened, IsReaderOf, IsWork};
+ghost use Rattle.run_opening.specs.Begun.{AreBegun, AreMade, IsFine, IsForm, IsOpened, IsReaderOf, IsWork};
 ghost use Rattle.run_opening.specs.Taken.{AreFound, without};
 ghost use Rattle.held_devices.specs.Holding.{there, all_there, all_held};
+ghost use Rattle.file_devices.specs.Told.{IsAsTold};
 ghost use Rattle.run_outcome.specs.Cause.{CanBegin, IsCause, IsEarly};
+ghost use Rattle.run_outcome.specs.Least.{IsNamedBy};
 ghost use Rattle.run_opening.specs.Opening.{IsBeforePoints, IsUncreated};
 
 use crate::bind::BoundStages;
@@ -32,42 +34,55 @@ use stage_options::{Role, StageSpec};
 use std::alloc::Global;
 use std::mem::replace;
 
-/// The work of a writer, the stage with this number, on a new file. Where the file can't be created or begun, it
-/// is given back.
+/// The work of a writer, the stage with this number, on a new file. Where that can't be begun, its sink comes back.
 fn open_writer<F: Files, P: PlugFilter, Q: PlugTally>(
     alloc: Global,
     files: &mut F,
     writing: Writing,
     name: &str,
     number: u32,
-) -> Result<StageWork<F::In, F::Out, P, Q>, Refusal>
+) -> Result<StageWork<F::In, F::Out, P, Q>, (Option<F::Out>, Refusal)>
     requires { IsFileForm writing.form }
     ensures ok { IfOk result (IsBegun F.Out.bytes writing) }
     ensures writes { IfOk result (λ work. op_of work ≡ Some Op.Write) }
-    ensures err { IfErr result (IsUncreated (Rose (F.faults files.old) (F.faults files.new)) number) }
-    ensures early { IfErr result IsEarly }
-    ensures before { IfErr result IsBeforePoints }
+    ensures calm { IfOk result (λ work. faults_of F.In.faults F.Out.faults work ≡ 0) }
+    ensures err { IfErr result (λ e. IsUncreated F.Out.faults (Rose (F.faults files.old) (F.faults files.new))
+        number e.0 e.1) }
+    ensures early { IfErr result (λ e. IsEarly e.1) }
+    ensures before { IfErr result (λ e. IsBeforePoints e.1) }
     ensures map { F.map files.new ≡ F.map files.old }
     ensures lent_ok { IfOk result (λ work. F.lent files.new ≡ F.lent files.old + there (op_of work)) }
-    ensures lent_err { OnErr result (F.lent files.new ≡ F.lent files.old) }
+    ensures lent_err { IfErr result (λ e. F.lent files.new ≡ F.lent files.old + there e.0) }
     ensures read { F.read_to files.new ≡ F.read_to files.old }
+    ensures counts { F.counts files.new ≡ F.counts files.old }
     ensures later { F.faults files.old ≤ F.faults files.new }
 {
     let sink = match files.create(name) {
         Ok(sink) => sink,
-        Err(DeviceErr::Memory) => return Err(Refusal::Memory),
-        Err(_) => return Err(Refusal::Device(Place::Stage(number), Op::Create)),
+        Err(DeviceErr::Memory) => return Err((None, Refusal::Memory)),
+        Err(_) => return Err((None, Refusal::Device(Place::Stage(number), Op::Create))),
     };
     match begin_file(alloc, sink, writing) {
         Ok(work) => Ok(work),
         Err((sink, FileBeginErr::Failed)) => {
-            files.done_out(sink);
-            Err(Refusal::Device(Place::Stage(number), Op::Write))
+            let refusal = Refusal::Device(Place::Stage(number), Op::Write);
+            Err((Some(sink), refusal))
         }
-        Err((sink, FileBeginErr::Memory)) => {
-            files.done_out(sink);
-            Err(Refusal::Memory)
-        }
+        Err((sink, FileBeginErr::Memory)) => Err((Some(sink), Refusal::Memory)),
+    }
+}
+
+/// Gives back the sink of a file that couldn't be begun.
+fn drop_sink<F: Files>(files: &mut F, sink: Option<F::Out>)
+    ensures map { F.map files.new ≡ F.map files.old }
+    ensures lent { (others : ℕ) → F.lent files.old ≡ others + there sink → F.lent files.new ≡ others }
+    ensures told { IsAsTold (F.counts files.new)
+        (option_map (λ cs. listed (option_map F.Out.faults sink) ++ cs) (F.counts files.old)) }
+    ensures later { F.faults files.old ≤ F.faults files.new }
+    ensures counted { IfSome sink (λ k. saturating (F.faults files.old) (F.Out.faults k) ≤ F.faults files.new) }
+{
+    if let Some(sink) = sink {
+        files.done_out(sink);
     }
 }
 
@@ -136,7 +151,7 @@ fn begin_work<F: Files, P: PlugFilter, Q: PlugTally>(
     layout: &Layout,
     stage: &StageSpec,
     number: u32,
-) -> Result<StageWork<F::In, F::Out, P, Q>, Refusal>
+) -> Result<StageWork<F::In, F::Out, P, Q>, (Option<F::Out>, Refusal)>
     requires opened { IsOpened F.In.Source (F.map files.old) number (role_of stage.now.options) reader }
     requires form { IsForm stage.now.options form }
     requires fine { IsFine reader form }
@@ -151,15 +166,17 @@ fn begin_work<F: Files, P: PlugFilter, Q: PlugTally>(
         ≡ without (tally_in Q.PlugTally work) places.old.tallies.items) }
     ensures stay { OnErr result (places.new ≡ places.old) }
     ensures writes { OnErr result (is_writing (role_of stage.now.options) ≡ true) }
-    ensures err { IfErr result (IsUncreated (Rose (F.faults files.old) (F.faults files.new)) number) }
+    ensures err { IfErr result (λ e. IsUncreated F.Out.faults (Rose (F.faults files.old) (F.faults files.new))
+        number e.0 e.1) }
     ensures none { OnErr result (there reader ≡ 0) }
-    ensures early { IfErr result IsEarly }
-    ensures before { IfErr result IsBeforePoints }
+    ensures early { IfErr result (λ e. IsEarly e.1) }
+    ensures before { IfErr result (λ e. IsBeforePoints e.1) }
     ensures map { F.map files.new ≡ F.map files.old }
     ensures lent_ok { IfOk result (λ work. F.lent files.new + there reader
         ≡ F.lent files.old + there (op_of work)) }
-    ensures lent_err { OnErr result (F.lent files.new ≡ F.lent files.old) }
+    ensures lent_err { IfErr result (λ e. F.lent files.new ≡ F.lent files.old + there e.0) }
     ensures read { F.read_to files.new ≡ F.read_to files.old }
+    ensures counts { F.counts files.new ≡ F.counts files.old }
     ensures later { F.faults files.old ≤ F.faults files.new }
 {
     let Some(reader) = reader else {
@@ -202,12 +219,8 @@ pub(crate) fn begin_works<F: Files, P: PlugFilter, Q: PlugTally>(
     bound: BoundStages,
     stages: &[StageSpec],
 ) -> Result<Vec<StageWork<F::In, F::Out, P, Q>>, Refusal>
-    requires opened { AreOpened F.In.Source (F.map files.old) stages.now readers.items }
-    requires count { length readers.items ≡ length stages.now }
-    requires fits { FitStages stages.now bound.forms.items }
-    requires fine { AreFine readers.items bound.forms.items }
-    requires forms { length bound.forms.items ≡ length stages.now }
-    requires layouts { length bound.layouts.items ≡ length stages.now }
+    requires made { AreMade F.In.Source (F.map files.old) stages.now readers.items bound.forms.items
+        bound.layouts.items }
     requires few { length stages.now ≤ 64 }
     requires named { AreNamed (handed_by P.PlugFilter Q.PlugTally places.old) stages.now }
     requires come { (m : Names) → F.map files.old ≡ Some m
@@ -230,6 +243,8 @@ pub(crate) fn begin_works<F: Files, P: PlugFilter, Q: PlugTally>(
     ensures lent_err { OnErr result ((others : ℕ)
         → F.lent files.old ≡ others + all_there readers.items → F.lent files.new ≡ others) }
     ensures read { OnOk result (F.read_to files.new ≡ F.read_to files.old) }
+    ensures counts { OnOk result (F.counts files.new ≡ F.counts files.old) }
+    ensures least { IfErr result (IsNamedBy stages.now (F.counts files.old) (F.counts files.new)) }
     ensures later { F.faults files.old ≤ F.faults files.new }
 {
     let Ok(mut works) = Vec::with_capacity(alloc, stages.len()) else {
@@ -254,8 +269,10 @@ pub(crate) fn begin_works<F: Files, P: PlugFilter, Q: PlugTally>(
             at as u32,
         ) {
             Ok(work) => works.push_reserved(work),
-            Err(refusal) => {
+            Err((sink, refusal)) => {
+                readers.reverse();
                 give_back(files, readers);
+                drop_sink(files, sink);
                 release_works(files, places, works);
                 return Err(refusal);
             }

@@ -7,7 +7,8 @@ ghost use Rattle.stage_options.specs.Roles.{Reads, role_of};
 ghost use Rattle.run_opening.specs.Begun.{IsReading, IsOpened, AreOpened};
 ghost use Rattle.held_devices.specs.Holding.{there, all_there};
 ghost use Rattle.run_outcome.specs.Cause.{IsCause, IsEarly};
-ghost use Rattle.run_opening.specs.Opening.{IsBeforePoints, IsUnopened, opening_refusal};
+ghost use Rattle.run_outcome.specs.Least.{IsNamedBy};
+ghost use Rattle.run_opening.specs.Opening.{IsBeforePoints, IsUnopened, ToldUnopened, opening_refusal};
 
 use file_devices::{DeviceErr, Files, Op};
 use held_devices::give_back;
@@ -44,6 +45,8 @@ fn open_reader<F: Files>(
     ensures lent_ok { OnOk result (F.lent files.new ≡ F.lent files.old + 1) }
     ensures lent_err { OnErr result (F.lent files.new ≡ F.lent files.old) }
     ensures read { OnOk result (F.read_to files.new ≡ F.read_to files.old) }
+    ensures counts { OnOk result (F.counts files.new ≡ F.counts files.old) }
+    ensures told { IfErr result (ToldUnopened (F.counts files.old) (F.counts files.new)) }
     ensures later { F.faults files.old ≤ F.faults files.new }
 {
     let source = match files.open_in(name) {
@@ -76,6 +79,8 @@ fn open_stage<F: Files>(
     ensures lent_ok { IfOk result (λ reader. F.lent files.new ≡ F.lent files.old + there reader) }
     ensures lent_err { OnErr result (F.lent files.new ≡ F.lent files.old) }
     ensures read { OnOk result (F.read_to files.new ≡ F.read_to files.old) }
+    ensures counts { OnOk result (F.counts files.new ≡ F.counts files.old) }
+    ensures told { IfErr result (ToldUnopened (F.counts files.old) (F.counts files.new)) }
     ensures later { F.faults files.old ≤ F.faults files.new }
 {
     match stage.options.role() {
@@ -103,6 +108,8 @@ pub(crate) fn open_readers<F: Files>(
     ensures lent_ok { IfOk result (λ readers. F.lent files.new ≡ F.lent files.old + all_there readers.items) }
     ensures lent_err { OnErr result (F.lent files.new ≡ F.lent files.old) }
     ensures read { OnOk result (F.read_to files.new ≡ F.read_to files.old) }
+    ensures counts { OnOk result (F.counts files.new ≡ F.counts files.old) }
+    ensures least { IfErr result (IsNamedBy stages.now (F.counts files.old) (F.counts files.new)) }
     ensures later { F.faults files.old ≤ F.faults files.new }
 {
     let Ok(mut readers) = Vec::with_capacity(alloc, stages.len()) else {

@@ -10,6 +10,7 @@ ghost use Rattle.stage_forms.specs.Starts.{AreHandedIn};
 ghost use Rattle.stage_options.specs.Shapes.{shapes};
 ghost use Rattle.held_devices.specs.Holding.{all_held};
 ghost use Rattle.run_outcome.specs.Cause.{IsCause, IsEarly};
+ghost use Rattle.run_outcome.specs.Least.{IsNamedBy};
 ghost use Rattle.run_opening.specs.Opening.{IsBeforePoints};
 ghost use Rattle.run_opening.specs.Ready.{AreReady};
 
@@ -53,6 +54,8 @@ pub fn ready_works<F: Files, P: PlugFilter, Q: PlugTally>(
     ensures lent_ok { IfOk result (λ works. F.lent files.new ≡ F.lent files.old + all_held works.items) }
     ensures lent_err { OnErr result (F.lent files.new ≡ F.lent files.old) }
     ensures read { OnOk result (F.read_to files.new ≡ F.read_to files.old) }
+    ensures counts { OnOk result (F.counts files.new ≡ F.counts files.old) }
+    ensures least { IfErr result (IsNamedBy stages.now (F.counts files.old) (F.counts files.new)) }
     ensures later { F.faults files.old ≤ F.faults files.new }
 {
     let readers = open_readers(alloc, files, stages)?;

@@ -3,3 +3,4 @@ pub mod Causes
 pub mod Results
 pub mod Stages
 pub mod Runs
+pub mod Least

@@ -1,3 +1,4 @@
 pub mod Cause
 pub mod Faults
 pub mod Outcomes
+pub mod Least

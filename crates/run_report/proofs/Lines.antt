@@ -33,20 +33,20 @@ pub record Reporting (counts rest : List StageCount) (out_before out : Option (L
   pub lines : List ℕ
   pub put : Appends out_before lines out
   pub with_rest : lines ++ lines_of rest ≡ lines_of counts
-  pub later : faults_before ≤ faults
+  pub calm : faults ≡ faults_before
 
 next_line : (counts : List StageCount) (i : ℕ) (d : StageCount) → i < length counts → lines_of (drop i counts) ≡ stage_text (get_or counts i d) ++ lines_of (drop (i + 1) counts)
 next_line counts i d h = ap lines_of (drop-cons counts i d h) ∙ ap (λ n. stage_text (get_or counts i d) ++ lines_of (drop n counts)) (sym (add-one i))
 
 pub reporting_more : (counts : List StageCount) (i : ℕ) (d : StageCount) (first middle last : Option (List ℕ)) (faults0 faults1 faults2 : ℕ) → i < length counts
-    → Appends middle (stage_text (get_or counts i d)) last → faults1 ≤ faults2 → Reporting counts (drop i counts) first middle faults0 faults1 → Reporting counts (drop (i + 1) counts) first last faults0 faults2
-reporting_more counts i d first middle last faults0 faults1 faults2 h more later was =
+    → Appends middle (stage_text (get_or counts i d)) last → faults2 ≡ faults1 → Reporting counts (drop i counts) first middle faults0 faults1 → Reporting counts (drop (i + 1) counts) first last faults0 faults2
+reporting_more counts i d first middle last faults0 faults1 faults2 h more calm was =
     let line = stage_text (get_or counts i d) in
     record {
       lines = was.lines ++ line;
       put = appends_more first middle last was.lines line was.put more;
       with_rest = append_assoc was.lines line (lines_of (drop (i + 1) counts)) ∙ (ap (λ text. was.lines ++ text) (sym (next_line counts i d h)) ∙ was.with_rest);
-      later = omega (arith, later, was.later);
+      calm = calm ∙ was.calm;
     }
 
 -- the line behind those of the stages

@@ -1,13 +1,15 @@
 -- Works later, and the faults of stages.
-use Rattle.std.proofs.Common.{◌≡◌, ℕ, zero, suc, ◌<◌, ◌≤◌, false, List, [], ◌∷◌, ◌++◌, length, take, Option, Some, None, refl, ap, sym, subst, ◌∙◌, arith, inl, inr, length-set, length-append}
+use Rattle.std.proofs.Common.{◌≡◌, ℕ, zero, suc, ◌<◌, ◌≤◌, true, false, true≢false, List, [], ◌∷◌, ◌++◌, length, take, Option, Some, None, refl, ap, sym, subst, ◌∙◌, arith, inl, inr, length-set, length-append}
 use Rattle.std.specs.Prelude.{slice_get}
 use Rattle.std.proofs.Math.ListN.{set}
 use Rattle.std.proofs.lemmas.Bool.{cases_lt}
 use Rattle.std.proofs.lemmas.Bool.Decides.{eqb_tells}
-use Rattle.std.proofs.lemmas.Option.{slice_get_within}
-use Rattle.cloud_points.specs.Events.{is_device}
+use Rattle.std.proofs.lemmas.Option.{same_Some, slice_get_within}
+use Rattle.cloud_points.specs.Events.{is_device, IsOf}
 use Rattle.cloud_points.specs.declared.faults.StageFault.{StageFault}
+use Rattle.cloud_points.specs.declared.faults.StageFault.TheVariants as stage
 use Rattle.cloud_points.specs.declared.faults.StageFault.TheVariants.{Device}
+use Rattle.file_devices.specs.declared.devices.Op.{Op}
 use Rattle.file_devices.specs.Counts.{Rose}
 use Rattle.plug_stages.specs.declared.filter.PlugFilter as plug_type
 use Rattle.plug_stages.specs.declared.tally.PlugTally as tally_type
@@ -83,29 +85,57 @@ none-with found f none = (
   ap is_device (sym (fault-last found f)) ∙ none (length found),
 )
 
+-- without a device's fault the count is as it was
+calm-of : (op : Option Op) (before now : ℕ) (f : Option StageFault) → is_device f ≡ false → IsCaused op before now f → now ≡ before
+calm-of op before now None e is = is
+calm-of op before now (Some (stage.Point p)) e is = is
+calm-of op before now (Some (stage.Device o)) e is = absurd (true≢false e)
+
+pub caused-by : (op : Option Op) (before now : ℕ) (f : Option StageFault) → IsOf op f → (is_device f ≡ true → Rose before now) → (is_device f ≡ false → now ≡ before) → IsCaused op before now f
+caused-by op before now None named rose calm = calm refl
+caused-by op before now (Some (stage.Point p)) named rose calm = calm refl
+caused-by op before now (Some (stage.Device o)) named rose calm = (named, rose refl)
+
 -- one more stage, whose fault has its cause
-pub caused-more : {S K P Q : Type 0} (faults : StageWork S K P Q → ℕ) (old now : List (StageWork S K P Q)) (found : List (Option StageFault)) (i : ℕ) (v w : StageWork S K P Q) (f : Option StageFault)
-    → length found ≡ i → slice_get old i ≡ Some v → slice_get now i ≡ Some v → IsCaused (op_of v) (Rose (faults v) (faults w)) f → AreCaused faults old now found
-    → AreCaused faults old (set now i w) (found ++ f ∷ [])
-caused-more faults old now found i v w f size was at caused before j o e = elim (eqb_tells j i) as (λ _. FailedAt faults old (set now i w) j o) [
-  | inl p ↦ (
-      let is : f ≡ Some (Device o) = sym (fault-last found f) ∙ ap (fault_at (found ++ f ∷ [])) (size ∙ sym p.1) ∙ e in
-      let why = subst (IsCaused (op_of v) (Rose (faults v) (faults w))) is caused in
-      subst (λ k. FailedAt faults old (set now i w) k o) (sym p.1) (record {
-        before = v;
-        after = w;
-        was = was;
-        is = put-there now i w (slice_get_within now i v at);
-        does = why.0;
-        rose = why.1;
-      }))
-  | inr p ↦ elim (cases_lt j (length found)) as (λ _. FailedAt faults old (set now i w) j o) [
-    | inl lt ↦ (let b = before j o (sym (fault-front found f j lt) ∙ e) in
-        record { before = b.before; after = b.after; was = b.was; is = stays-elsewhere now i j w p.1 ∙ b.is; does = b.does; rose = b.rose })
-    | inr le ↦ (
-        let ne = p.1 in
-        let past : fault_at (found ++ f ∷ []) j ≡ None = fault-beyond (found ++ f ∷ []) j (let n = length-append found (f ∷ []) in omega (arith, n, le, ne, size)) in
-        let no : None ≡ Some (Device o) = sym past ∙ e in
-        absurd cc)
-  ]
-]
+module _ {S K P Q : Type 0} (faults : StageWork S K P Q → ℕ) (old now : List (StageWork S K P Q)) (found : List (Option StageFault)) (i : ℕ) (v w : StageWork S K P Q) (f : Option StageFault)
+    (size : length found ≡ i) (was : slice_get old i ≡ Some v) (at : slice_get now i ≡ Some v) (caused : IsCaused (op_of v) (faults v) (faults w) f) (before : AreCaused faults old now found) where
+  last-fault : (j : ℕ) → j ≡ i → f ≡ fault_at (found ++ f ∷ []) j
+  last-fault j same = sym (fault-last found f) ∙ ap (fault_at (found ++ f ∷ [])) (size ∙ sym same)
+
+  pub caused-more : AreCaused faults old (set now i w) (found ++ f ∷ [])
+  caused-more = record { failed = failed; calm = calm }
+    where
+      failed : (j : ℕ) (o : Op) → fault_at (found ++ f ∷ []) j ≡ Some (Device o) → FailedAt faults old (set now i w) j o
+      failed j o e = elim (eqb_tells j i) as (λ _. FailedAt faults old (set now i w) j o) [
+        | inl p ↦ (
+            let why = subst (IsCaused (op_of v) (faults v) (faults w)) (last-fault j p.1 ∙ e) caused in
+            subst (λ k. FailedAt faults old (set now i w) k o) (sym p.1) (record {
+              before = v;
+              after = w;
+              was = was;
+              is = put-there now i w (slice_get_within now i v at);
+              does = why.0;
+              rose = why.1;
+            }))
+        | inr p ↦ elim (cases_lt j (length found)) as (λ _. FailedAt faults old (set now i w) j o) [
+          | inl lt ↦ (let b = before.failed j o (sym (fault-front found f j lt) ∙ e) in
+              record { before = b.before; after = b.after; was = b.was; is = stays-elsewhere now i j w p.1 ∙ b.is; does = b.does; rose = b.rose })
+          | inr le ↦ (
+              let ne = p.1 in
+              let past : fault_at (found ++ f ∷ []) j ≡ None = fault-beyond (found ++ f ∷ []) j (let n = length-append found (f ∷ []) in omega (arith, n, le, ne, size)) in
+              let no : None ≡ Some (Device o) = sym past ∙ e in
+              absurd cc)
+        ]
+      ]
+
+      calm : (j : ℕ) (x y : StageWork S K P Q) → slice_get old j ≡ Some x → slice_get (set now i w) j ≡ Some y → is_device (fault_at (found ++ f ∷ []) j) ≡ false → faults y ≡ faults x
+      calm j x y a b quiet = elim (eqb_tells j i) as (λ _. faults y ≡ faults x) [
+        | inl p ↦ (
+            let new : w ≡ y = same_Some w y (sym (put-there now i w (slice_get_within now i v at)) ∙ ap (slice_get (set now i w)) (sym p.1) ∙ b) in
+            let same : v ≡ x = same_Some v x (sym was ∙ ap (slice_get old) (sym p.1) ∙ a) in
+            ap faults (sym new) ∙ calm-of (op_of v) (faults v) (faults w) f (ap is_device (last-fault j p.1) ∙ quiet) caused ∙ ap faults same)
+        | inr p ↦ before.calm j x y a (sym (stays-elsewhere now i j w p.1) ∙ b) (elim (cases_lt j (length found)) as (λ _. is_device (fault_at found j) ≡ false) [
+          | inl lt ↦ ap is_device (sym (fault-front found f j lt)) ∙ quiet
+          | inr le ↦ ap is_device (fault-beyond found j le)
+        ])
+      ]

@@ -5,7 +5,7 @@ use Rattle.std.proofs.lemmas.Option.{none-some}
 use Rattle.answer_model.specs.Rows.{Row, value_on}
 use Rattle.answer_model.specs.Rows as rows
 use Rattle.answer_model.specs.Values.{value_of, wrote_with, files_with}
-use Rattle.cloud_points.specs.Events.{is_device}
+use Rattle.cloud_points.specs.Events.{is_device, IsOf}
 use Rattle.cloud_points.specs.Flows.{Flow}
 use Rattle.cloud_points.specs.Marks.{flow_of, flow_marks}
 use Rattle.cloud_points.specs.Meaning.{Meaning}
@@ -32,6 +32,7 @@ use Rattle.set_engine.specs.Fits.{HasFile, IsFor, IsShowing}
 use Rattle.set_engine.specs.Given.{IsAfter, IsGivenBy, fault_of, kept_after}
 use Rattle.set_engine.specs.Stops.{IsCaused}
 use Rattle.set_engine.specs.declared.output.StageOutput.{StageOutput}
+use Rattle.set_engine.proofs.After.{caused-by}
 use Rattle.set_engine.proofs.StageGiving.{no_stop}
 
 -- a caller handed in whose it is
@@ -81,6 +82,9 @@ module _ {S K P Q : Type 0} (fs : plug_type.Ghosts P) (ts : tally_type.Ghosts Q)
         holds = same-held fs ts v w means;
       }
 
+  pub caller-calm : (sources : S → ℕ) (sinks : K → ℕ) (v w : StageWork S K P Q) → is_of_caller fs ts v ≡ true → meaning_of fs ts w ≡ meaning_of fs ts v → faults_of sources sinks w ≡ faults_of sources sinks v
+  caller-calm sources sinks v w of means = (bare w (stays-bare v w of means)).faults sources sinks ∙ sym ((bare v of).faults sources sinks)
+
   pub caller-kept : {E : Type 0} (v w : StageWork S K P Q) (r : Result StageOutput E) → is_of_caller fs ts v ≡ true → meaning_of fs ts w ≡ meaning_of fs ts v → IfOk r (λ given. keeps_of w ≡ kept_after v given.views)
   caller-kept v w (Ok given) of means = keeps-same fs ts w v means ∙ sym ((bare v of).kept given.views)
   caller-kept v w (Err e) of means = tt
@@ -119,11 +123,11 @@ module _ {S K P Q : Type 0} (fs : plug_type.Ghosts P) (ts : tally_type.Ghosts Q)
     caller-gave sources (Err e) made fault left = tt
 
 -- no device failed
-pub none-caused : {E : Type 0} (op : Option Op) (rose : Type 0) (r : Result StageOutput E) → IfOk r (λ given. is_device given.fault ≡ false) → IfOk r (λ given. IsCaused op rose given.fault)
-none-caused op rose (Ok given) calm = go given.fault calm
+pub none-caused : {E : Type 0} (op : Option Op) (before now : ℕ) (r : Result StageOutput E) → IfOk r (λ given. is_device given.fault ≡ false) → now ≡ before → IfOk r (λ given. IsCaused op before now given.fault)
+none-caused op before now (Ok given) calm same = caused-by op before now given.fault (unnamed-op given.fault calm) (λ d. absurd (true≢false (sym d ∙ calm))) (λ d. same)
   where
-    go : (fault : Option StageFault) → is_device fault ≡ false → IsCaused op rose fault
-    go None e = tt
-    go (Some (stage.Point f)) e = tt
-    go (Some (stage.Device o)) e = absurd (true≢false e)
-none-caused op rose (Err e) calm = tt
+    unnamed-op : (fault : Option StageFault) → is_device fault ≡ false → IsOf op fault
+    unnamed-op None e = tt
+    unnamed-op (Some (stage.Point f)) e = tt
+    unnamed-op (Some (stage.Device o)) e = absurd (true≢false e)
+none-caused op before now (Err e) calm same = tt

@@ -1,5 +1,5 @@
 -- Works that are evaluated one after the other.
-use Rattle.std.proofs.Common.{◌≡◌, ℕ, true, false, List, slice_get, Option, Some, None, refl, ap, sym, subst, ◌∙◌, true≢false, arith}
+use Rattle.std.proofs.Common.{◌≡◌, ℕ, true, false, List, slice_get, Option, Some, refl, ap, sym, subst, ◌∙◌, true≢false, arith}
 use Rattle.set_engine.proofs.Lists.{some-at}
 use Rattle.std.proofs.lemmas.Option.{slice_get_within}
 use Rattle.answer_model.specs.Rows.{Setting, row_of}

@@ -1,6 +1,7 @@
 -- What the stages of a tree come to that are evaluated one after the other.
-use Rattle.std.specs.Prelude.{◌≡◌, ℕ, List, length, slice_get, Option, Some}
+use Rattle.std.specs.Prelude.{◌≡◌, ℕ, false, List, length, slice_get, Option, Some}
 use Rattle.answer_model.specs.Values.{Opened}
+use Rattle.cloud_points.specs.Events.{is_device}
 use Rattle.cloud_points.specs.declared.faults.StageFault.{StageFault}
 use Rattle.cloud_points.specs.declared.faults.StageFault.TheVariants.{Device}
 use Rattle.file_devices.specs.Counts.{Rose}
@@ -26,11 +27,12 @@ pub record FailedAt {S K P Q : Type 0} (faults : StageWork S K P Q → ℕ) (old
   pub does : op_of before ≡ Some o
   pub rose : Rose (faults before) (faults after)
 
--- each stage whose fault is a device's: its own device failed in that
-abbrev pub AreCaused : {S K P Q : Type 0} → (StageWork S K P Q → ℕ) → List (StageWork S K P Q) → List (StageWork S K P Q) → List (Option StageFault) → Type 0
-AreCaused faults old new found = (i : ℕ) (o : Op) → fault_at found i ≡ Some (Device o) → FailedAt faults old new i o
+-- each stage whose fault is a device's: its own device failed in that; and the count of any other stage's device is as it was
+pub record AreCaused {S K P Q : Type 0} (faults : StageWork S K P Q → ℕ) (old new : List (StageWork S K P Q)) (found : List (Option StageFault)) : Type 0 where
+  pub failed : (i : ℕ) (o : Op) → fault_at found i ≡ Some (Device o) → FailedAt faults old new i o
+  pub calm : (i : ℕ) (v w : StageWork S K P Q) → slice_get old i ≡ Some v → slice_get new i ≡ Some w → is_device (fault_at found i) ≡ false → faults w ≡ faults v
 
--- the stages have ended: each whose fault is a device's, its own device failed in that; where none failed, each has the fault that it has
+-- the stages have ended: each whose fault is a device's, its own device failed in that, and no other one; where none failed, each has the fault that it has
 -- on whole flows; and where none has a fault, they came to their end
 pub record HaveEnded {S K P Q : Type 0} (s : source.Ghosts S) (k : sink.Ghosts K) (fs : plug_type.Ghosts P) (ts : tally_type.Ghosts Q) (stages : List StageSpec) (old new : List (StageWork S K P Q)) (found : List (Option StageFault)) (counts : List StageCount) : Type 0 where
   pub count : length found ≡ length stages

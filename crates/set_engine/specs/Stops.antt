@@ -5,15 +5,16 @@ use Rattle.cloud_points.specs.Queue.{up_to_limit}
 use Rattle.cloud_points.specs.declared.faults.StageFault.{StageFault}
 use Rattle.cloud_points.specs.declared.faults.StageFault.TheVariants as stage
 use Rattle.cloud_points.specs.declared.point.Point.{Point}
+use Rattle.file_devices.specs.Counts.{Rose}
 use Rattle.file_devices.specs.declared.devices.Op.{Op}
 use Rattle.stage_meanings.specs.declared.reason.Reason.{Reason}
 use Rattle.set_engine.specs.declared.writers.WriteErr.{WriteErr}
 use Rattle.set_engine.specs.declared.writers.WriteErr.TheVariants as write
 
--- the fault of a device names what that does, and it failed
-abbrev pub IsCaused : Option Op → Type 0 → Option StageFault → Type 0
-IsCaused op rose (Some (stage.Device o)) = (op ≡ Some o) × rose
-IsCaused op rose fault = ⊤
+-- the fault of a device names what that does, and its count of faults rose; without one the count is as it was
+abbrev pub IsCaused : Option Op → ℕ → ℕ → Option StageFault → Type 0
+IsCaused op before now (Some (stage.Device o)) = (op ≡ Some o) × Rose before now
+IsCaused op before now fault = now ≡ before
 
 -- the point that a writer doesn't take stands in a view of so many
 abbrev pub IsInside : ℕ → WriteErr → Type 0

@@ -3,7 +3,6 @@
 ghost use Rattle.std.specs.Prelude.{◌≡◌, ◌≤◌, true, false, IfOk};
 ghost use Rattle.cloud_points.specs.Events.{is_device};
 ghost use Rattle.cloud_points.specs.Marks.{flow_marks};
-ghost use Rattle.file_devices.specs.Counts.{Rose};
 ghost use Rattle.set_engine.specs.Stops.{IsCaused};
 
 use crate::output::StageOutput;
@@ -23,7 +22,7 @@ pub(crate) fn leaf_views<W: Work>(
     ensures fault { IfOk result (λ given. is_device given.fault ≡ false
         → W.tells leaf.old ≡ true → W.told_fault leaf.old ≡ given.fault) }
     ensures caused { IfOk result (λ given. IsCaused (W.op leaf.old)
-        (Rose (W.faults leaf.old) (W.faults leaf.new)) given.fault) }
+        (W.faults leaf.old) (W.faults leaf.new) given.fault) }
     ensures leaf { W.leaf leaf.new ≡ true }
     ensures op { W.op leaf.new ≡ W.op leaf.old }
     ensures meaning { W.meaning leaf.new ≡ W.meaning leaf.old }

@@ -3,7 +3,6 @@
 ghost use Rattle.std.specs.Prelude.{◌≡◌, false, IfOk};
 ghost use Rattle.answer_model.specs.Rows.{Row};
 ghost use Rattle.cloud_points.specs.Events.{is_device};
-ghost use Rattle.file_devices.specs.Counts.{Rose};
 ghost use Rattle.las_reader.specs.Files.{Las};
 ghost use Rattle.set_engine.specs.Fits.{IsFor, HasFile};
 ghost use Rattle.set_engine.specs.Given.{IsAfter, IsGivenBy, kept_after};
@@ -56,7 +55,7 @@ pub(crate) fn stage_views<S: Source, K: FileSink, P: PlugFilter, Q: PlugTally>(
         → IsFor K.bytes P.PlugFilter Q.PlugTally role row work.old → HasFile S.bytes las work.old
         → IsGivenBy K.bytes P.PlugFilter Q.PlugTally role row las taken work.new given) }
     ensures caused { IfOk result (λ given. IsCaused (op_of work.old)
-        (Rose (faults_of S.faults K.faults work.old) (faults_of S.faults K.faults work.new)) given.fault) }
+        (faults_of S.faults K.faults work.old) (faults_of S.faults K.faults work.new) given.fault) }
     ensures keeps { IfOk result (λ given. keeps_of work.new ≡ kept_after work.old given.views) }
     ensures after { IsAfter P.PlugFilter Q.PlugTally (faults_of S.faults K.faults) work.old work.new }
 {

@@ -1,6 +1,6 @@
 //! Writers on whole views.
 
-ghost use Rattle.std.specs.Prelude.{◌≡◌, ◌≤◌, ◌<◌, ◌+◌, ◌++◌, ℕ, List, [], length, option_map, true, false, None, Some, IfErr, IfOk, OnOk};
+ghost use Rattle.std.specs.Prelude.{◌≡◌, ◌≤◌, ◌<◌, ◌+◌, ◌++◌, ℕ, List, [], length, option_map, true, false, None, Some, Err, IfErr, IfOk, OnOk};
 ghost use Rattle.cloud_points.specs.Events.{is_device};
 ghost use Rattle.cloud_points.specs.Flows.{points, upto};
 ghost use Rattle.cloud_points.specs.Queue.{up_to_limit};
@@ -60,6 +60,8 @@ fn write_view<K: FileSink>(
     ensures failed { IfErr result (λ e. e ≡ WriteErr.Failed
         → Rose (K.faults (sink_of writer.old.file)) (K.faults (sink_of writer.new.file))) }
     ensures later { K.faults (sink_of writer.old.file) ≤ K.faults (sink_of writer.new.file) }
+    ensures calm { (result ≡ Err WriteErr.Failed → ⊥)
+        → K.faults (sink_of writer.new.file) ≡ K.faults (sink_of writer.old.file) }
 {
     let mut number = before;
     for k in 0..view.len() {
@@ -86,6 +88,9 @@ fn write_all<K: FileSink>(writer: &mut WriterStage<K>, views: &Views) -> Result<
     ensures failed { IfErr result (λ halt. halt.why ≡ WriteErr.Failed
         → Rose (K.faults (sink_of writer.old.file)) (K.faults (sink_of writer.new.file))) }
     ensures later { K.faults (sink_of writer.old.file) ≤ K.faults (sink_of writer.new.file) }
+    ensures calm { OnOk result (K.faults (sink_of writer.new.file) ≡ K.faults (sink_of writer.old.file)) }
+    ensures refused { IfErr result (λ halt. (halt.why ≡ WriteErr.Failed → ⊥)
+        → K.faults (sink_of writer.new.file) ≡ K.faults (sink_of writer.old.file)) }
 {
     let mut number = 0;
     for v in 0..views.views() {
@@ -143,7 +148,7 @@ pub(crate) fn written_views<K: FileSink>(
     ensures holds { IfOk result (λ given. given.fault ≡ None
         → holds_chosen K.bytes writer.old [] ≡ true → holds_chosen K.bytes writer.new (points views) ≡ true) }
     ensures caused { IfOk result (λ given. IsCaused (Some Op.Write)
-        (Rose (K.faults (sink_of writer.old.file)) (K.faults (sink_of writer.new.file))) given.fault) }
+        (K.faults (sink_of writer.old.file)) (K.faults (sink_of writer.new.file)) given.fault) }
     ensures later { K.faults (sink_of writer.old.file) ≤ K.faults (sink_of writer.new.file) }
 {
     let Err(halt) = write_all(writer, &views) else {

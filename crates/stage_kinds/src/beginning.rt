@@ -61,7 +61,7 @@ fn begin_form<K: FileSink>(
     ensures form { IfOk result (λ w. file_form w ≡ form) }
     ensures none { IfOk result (λ w. count_of w ≡ 0) }
     ensures holds { IfOk result (λ w. IsAsTold (K.bytes sink) (Some []) → file_holds K.bytes w [] ≡ true) }
-    ensures later { IfOk result (λ w. K.faults sink ≤ K.faults (sink_of w)) }
+    ensures calm { IfOk result (λ w. K.faults (sink_of w) ≡ K.faults sink) }
     ensures failed { IfErr result (λ e. e.1 ≡ FileBeginErr.Failed → Rose (K.faults sink) (K.faults e.0)) }
     ensures count { IfErr result (λ e. K.faults sink ≤ K.faults e.0) }
 {
@@ -90,7 +90,7 @@ pub(crate) fn begin_stage<K: FileSink>(
     ensures form { IfOk result (λ w. writes_of w ≡ writing) }
     ensures spot { IfOk result (λ w. spot_in w ≡ spot_at 0) }
     ensures holds { IfOk result (λ w. IsAsTold (K.bytes sink) (Some []) → holds_chosen K.bytes w [] ≡ true) }
-    ensures later { IfOk result (λ w. K.faults sink ≤ K.faults (sink_of w.file)) }
+    ensures calm { IfOk result (λ w. K.faults (sink_of w.file) ≡ K.faults sink) }
     ensures failed { IfErr result (λ e. e.1 ≡ FileBeginErr.Failed → Rose (K.faults sink) (K.faults e.0)) }
     ensures count { IfErr result (λ e. K.faults sink ≤ K.faults e.0) }
 {
@@ -122,7 +122,7 @@ pub fn begin_file<S: Source, K: FileSink, P: PlugFilter, Q: PlugTally>(
     ensures spot { IfOk result (λ w. writes_at w ≡ Some (spot_at 0)) }
     ensures holds { IfOk result (λ w. IsAsTold (K.bytes sink) (Some []) → holds_of K.bytes w [] ≡ true) }
     ensures writes { IfOk result (λ w. op_of w ≡ Some op_type.Op.Write) }
-    ensures later { IfOk result (λ w. K.faults sink ≤ faults_of S.faults K.faults w) }
+    ensures calm { IfOk result (λ w. faults_of S.faults K.faults w ≡ K.faults sink) }
     ensures failed { IfErr result (λ e. e.1 ≡ FileBeginErr.Failed → Rose (K.faults sink) (K.faults e.0)) }
     ensures count { IfErr result (λ e. K.faults sink ≤ K.faults e.0) }
 {

@@ -73,6 +73,8 @@ impl<K: FileSink> FileWriter<K> {
         ensures failed { IfErr result (λ e. e ≡ PutErr.Failed
             → Rose (K.faults (sink_of self.old)) (K.faults (sink_of self.new))) }
         ensures later { K.faults (sink_of self.old) ≤ K.faults (sink_of self.new) }
+        ensures calm { (result ≡ Err PutErr.Failed → ⊥)
+            → K.faults (sink_of self.new) ≡ K.faults (sink_of self.old) }
     {
         match self {
             FileWriter::Text(writer, count) => match writer.put(points) {
@@ -106,6 +108,7 @@ impl<K: FileSink> FileWriter<K> {
             ≡ up_to_limit (count_of self.old + length (points_before stop points.now))) }
         ensures failed { OnErr result (Rose (K.faults (sink_of self.old)) (K.faults (sink_of self.new))) }
         ensures later { K.faults (sink_of self.old) ≤ K.faults (sink_of self.new) }
+        ensures calm { OnOk result (K.faults (sink_of self.new) ≡ K.faults (sink_of self.old)) }
     {
         match self.put(points) {
             Ok(()) => Ok(None),

@@ -107,7 +107,7 @@ pub fn write_view<K: FileSink>(
     ensures file { IfOk result (λ w. IsAsTold (K.bytes sink) (Some [])
         → IsAsTold (K.bytes w.0) (Some (file_bytes writing.form (chosen writing.only view.now)))) }
     ensures writing { IfOk result (λ w. w.1 ≡ writing) }
-    ensures later { IfOk result (λ w. K.faults sink ≤ K.faults w.0) }
+    ensures calm { IfOk result (λ w. K.faults w.0 ≡ K.faults sink) }
     ensures failed { IfErr result (λ e. (o : op_type.Op) → e.1 ≡ ViewErr.Failed o
         → IsWritingOp writing.form o × Rose (K.faults sink) (K.faults e.0)) }
     ensures count { IfErr result (λ e. K.faults sink ≤ K.faults e.0) }

@@ -1,6 +1,6 @@
 //! A writer as a stage's work.
 
-ghost use Rattle.std.specs.Prelude.{◌≡◌, ◌≤◌, ◌+◌, ◌++◌, ◌∷◌, List, [], Some, None, true, false, length, option_map, IfOk, IfErr, IfSome, OnOk, OnErr};
+ghost use Rattle.std.specs.Prelude.{◌≡◌, ◌≤◌, ◌+◌, ◌++◌, ◌∷◌, List, [], Some, None, Err, true, false, length, option_map, IfOk, IfErr, IfSome, OnOk, OnErr};
 ghost use Rattle.cloud_points.specs.Queue.{up_to_limit};
 ghost use Rattle.cloud_points.specs.Events.{is_device, IsOf};
 ghost use Rattle.cloud_points.specs.declared.point.Point as point_type;
@@ -87,6 +87,7 @@ impl<K: FileSink> WriterStage<K> {
         ensures failed { OnErr result (Rose (K.faults (sink_of self.old.file))
             (K.faults (sink_of self.new.file))) }
         ensures later { K.faults (sink_of self.old.file) ≤ K.faults (sink_of self.new.file) }
+        ensures calm { OnOk result (K.faults (sink_of self.new.file) ≡ K.faults (sink_of self.old.file)) }
     {
         if self.taken.only().is_none() {
             return self.file.put_up_to(points);
@@ -126,6 +127,8 @@ impl<K: FileSink> WriterStage<K> {
         ensures failed { IfErr result (λ e. e ≡ TakeErr.Failed
             → Rose (K.faults (sink_of self.old.file)) (K.faults (sink_of self.new.file))) }
         ensures later { K.faults (sink_of self.old.file) ≤ K.faults (sink_of self.new.file) }
+        ensures calm { (result ≡ Err TakeErr.Failed → ⊥)
+            → K.faults (sink_of self.new.file) ≡ K.faults (sink_of self.old.file) }
     {
         self.known_spot();
         if self.chooses(p)? {
@@ -171,6 +174,8 @@ impl<K: FileSink> WriterStage<K> {
             → Rose (K.faults (sink_of self.old.file)) (K.faults (sink_of self.new.file)) }
         ensures named { IsOf (Some op_type.Op.Write) result }
         ensures later { K.faults (sink_of self.old.file) ≤ K.faults (sink_of self.new.file) }
+        ensures calm { is_device result ≡ false
+            → K.faults (sink_of self.new.file) ≡ K.faults (sink_of self.old.file) }
     {
         self.known_spot();
         match self.put_chosen(points.as_slice()) {

@@ -52,7 +52,8 @@ use Rattle.stage_runs.proofs.Turns.{all-forest, ins-size, some-stages}
 use Rattle.stage_runs.proofs.Under.{none-skipped, taken-below, under-below}
 use Rattle.plug_stages.specs.declared.filter.PlugFilter as plug_type
 use Rattle.plug_stages.specs.declared.tally.PlugTally as tally_type
-use Rattle.stage_runs.proofs.KeepAll.{none-gathers, in-append, cond-zero, some-size, read_of, home-is, of-last, own-last}
+use Rattle.stage_runs.proofs.ReadBytes.{node-lead, reader-bytes}
+use Rattle.stage_runs.proofs.KeepAll.{none-gathers, in-append, cond-zero, read_of, home-is, of-last, own-last}
 
 module _ {S K P Q : Type 0} (s : source.Ghosts S) (k : sink.Ghosts K) (fs : plug_type.Ghosts P) (ts : tally_type.Ghosts Q) (stages : List StageSpec) (tree : IsTree (shapes stages)) (old : List (Node (StageWork S K P Q))) (new : AreNewStages s k fs ts stages old)
     (homes : List ℕ) (are : AreHomes (gathers_of stages) (ins_of stages) homes) (besides : Besides S K P Q) (now : List (Node (StageWork S K P Q))) (count : length now ≡ length stages)
@@ -342,30 +343,13 @@ module _ {S K P Q : Type 0} (s : source.Ghosts S) (k : sink.Ghosts K) (fs : plug
       let h = law in
       omega (arith, a, b, c, d, e, h)
 
-  some-bytes : (r : LasReader S) → 0 < r.header.record_length
-  some-bytes r = let l = r.sound.long in let z = some-size r.header.format in omega (arith, l, z)
-
   records-read : sum_by (lead_of s.reached) (map work_of after) ≤ most
   records-read =
       let a = nodes-total (lead_of s.reached) after in
       let b = ap (total (λ j. at_node (λ m. lead_of s.reached (work_of m)) (slice_get after j))) after-size in
-      let c = total-up (λ j. at_node (λ m. lead_of s.reached (work_of m)) (slice_get after j)) read_in (length stages) (λ j. by_node (slice_get after j)) in
+      let c = total-up (λ j. at_node (λ m. lead_of s.reached (work_of m)) (slice_get after j)) read_in (length stages) (λ j. node-lead s (slice_get after j)) in
       let d = all-read in
       omega (arith, a, b, c, d)
-    where
-      by_work : (w : StageWork S K P Q) → lead_of s.reached w ≤ read_of s.reached w
-      by_work (Reader r) = lead-read r.header (s.reached r.source) (some-bytes r)
-      by_work (Filter x) = omega arith
-      by_work (Plug x) = omega arith
-      by_work (Tally x) = omega arith
-      by_work (Collector c) = omega arith
-      by_work (Views h) = omega arith
-      by_work (ViewFiles t) = omega arith
-      by_work (Writer x) = omega arith
-
-      by_node : (o : Option (Node (StageWork S K P Q))) → at_node (λ m. lead_of s.reached (work_of m)) o ≤ at_node (λ m. read_of s.reached (work_of m)) o
-      by_node None = omega arith
-      by_node (Some m) = by_work m.work
 
   bytes-read : (wide : ℕ) → RecordsFit wide (map work_of old) → sum_by (reached_of s.reached) (map work_of after) ≤ sum_by begins_at (map work_of old) + most * wide
   bytes-read wide fit =
@@ -389,22 +373,7 @@ module _ {S K P Q : Type 0} (s : source.Ghosts S) (k : sink.Ghosts K) (fs : plug
           by_work : (w : StageWork S K P Q) → m.0.work ≡ w → reached_of s.reached m.0.work ≤ at_node (λ m. begins_at (work_of m)) (slice_get old j) + read_of s.reached m.0.work * wide
           by_work (Reader r) e =
               let x = was-reader j n.0 m.0 r n.1 m.1 e in
-              rw (e, x.at, x.was) (reader-bytes r x.before x.file x.told x.extent (fit j x.before (map-at work_of old j x.first x.at ∙ ap (λ w. Some w) x.was)))
-            where
-              reader-bytes : (r before : LasReader S) (file : List ℕ) → s.bytes before.source ≡ Some file → extent_of {K = K} {P = P} {Q = Q} s.bytes (Reader r) ≡ extent_of {K = K} {P = P} {Q = Q} s.bytes (Reader before) → before.header.record_length ≤ wide
-                  → s.reached r.source ≤ before.header.points_at + read_at r.header (s.reached r.source) * wide
-              reader-bytes r before file told same few = by_bytes (s.bytes r.source) (same ∙ ap (option_map (extent_in before.header before.fields)) told)
-                where
-                  by_bytes : (o : Option (List ℕ)) → option_map (extent_in r.header r.fields) o ≡ Some (extent_in before.header before.fields file) → s.reached r.source ≤ before.header.points_at + read_at r.header (s.reached r.source) * wide
-                  by_bytes None g = absurd (none-some (extent_in before.header before.fields file) g)
-                  by_bytes (Some now) g =
-                      let q = same_Some (extent_in r.header r.fields now) (extent_in before.header before.fields file) g in
-                      let at : r.header.points_at ≡ before.header.points_at = ap (λ (x : Extent). x.begin) q in
-                      let long : r.header.record_length ≡ before.header.record_length = ap (λ (x : Extent). x.stride) q in
-                      let up = reaches r.header (s.reached r.source) (some-bytes r) in
-                      let wider : r.header.record_length * read_at r.header (s.reached r.source) ≤ wide * read_at r.header (s.reached r.source) = mul-le-mul_right (read_at r.header (s.reached r.source)) (omega (arith, long, few)) in
-                      let turned = mul_comm wide (read_at r.header (s.reached r.source)) in
-                      omega (arith, at, up, wider, turned)
+              rw (e, x.at, x.was) (reader-bytes K P Q s wide r x.before x.file x.told x.extent (fit j x.before (map-at work_of old j x.first x.at ∙ ap (λ w. Some w) x.was)))
           by_work (Filter x) e = rw e (omega arith)
           by_work (Plug x) e = rw e (omega arith)
           by_work (Tally x) e = rw e (omega arith)

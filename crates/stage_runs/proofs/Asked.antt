@@ -96,8 +96,8 @@ module _ {S K P Q : Type 0} (s : source.Ghosts S) (k : sink.Ghosts K) (fs : plug
 
     -- it has inputs exactly where its work is no leaf
     pub root-inputs : (is_gathering (role_at stages root) ≡ false → root + 1 ≡ length stages) → (n : Node (StageWork S K P Q)) → slice_get now root ≡ Some n
-        → (is_leaf n.work ≡ true) ↔ (length (children part root) ≡ 0)
-    root-inputs last n e = (leaf-none, none-leaf)
+        → ((is_leaf n.work ≡ true) ↔ (length (children part root) ≡ 0)) × (n.fault ≡ None)
+    root-inputs last n e = ((leaf-none, none-leaf), fresh.fault)
       where
         fresh : IsFresh (shown (as_works s k fs ts) ((stage_at stages root).ins) n)
         fresh = new.fresh root n (root-old n e)

@@ -53,7 +53,7 @@ module _ {S K P Q : Type 0} (s : source.Ghosts S) (k : sink.Ghosts K) (fs : plug
   stand-in-held x d e = ap (λ (y : Node (StageWork S K P Q)). held_by y.work) (e ∙ get_or-set_same nodes at empty d inside) ∙ leaf-empty s k fs ts empty leaf
 
   pub emptied-later : IsCollecting n.work → AreSameOrLater s k fs ts nodes emptied
-  emptied-later is = set-later s k fs ts nodes at n empty here (leaf-later s k fs ts n empty (leaf-empty s k fs ts empty leaf ∙ sym (collecting-held n.work is)) leaf.fresh.fault)
+  emptied-later is = set-later s k fs ts nodes at n empty here (leaf-later s k fs ts n empty (collecting-held n.work is) (leaf-empty s k fs ts empty leaf) leaf.fresh.fault)
 
   module _ (made : Node (StageWork S K P Q)) (is_leaf_now : IsNewLeaf s k fs ts made) where
     in-emptied : at < length emptied
@@ -61,7 +61,7 @@ module _ {S K P Q : Type 0} (s : source.Ghosts S) (k : sink.Ghosts K) (fs : plug
 
     pub made-later : IsCollecting n.work → AreSameOrLater s k fs ts nodes (slice_set emptied at made)
     made-later is = steps-later s k fs ts nodes emptied (slice_set emptied at made) (emptied-later is)
-        (set-later s k fs ts emptied at empty made (slice_get-set_same nodes at empty inside) (leaf-later s k fs ts empty made (leaf-empty s k fs ts made is_leaf_now ∙ sym (leaf-empty s k fs ts empty leaf)) is_leaf_now.fresh.fault))
+        (set-later s k fs ts emptied at empty made (slice_get-set_same nodes at empty inside) (leaf-later s k fs ts empty made (leaf-empty s k fs ts empty leaf) (leaf-empty s k fs ts made is_leaf_now) is_leaf_now.fresh.fault))
 
     pub made-there : IsGathered n.work made.work → IsGatheredAt s k fs ts at nodes (slice_set emptied at made)
     made-there is = record {

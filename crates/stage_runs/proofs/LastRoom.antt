@@ -159,8 +159,8 @@ module _ {S K P Q E : Type 0} (s : source.Ghosts S) (k : sink.Ghosts K) (fs : pl
       last-fresh i n l h f = subst (λ xss. IsFresh (shown (as_works s k fs ts) (children xss i) n)) (sym same-part)
           (fresh-before s k fs ts stages old new down forest (ins-size stages) homes is.homes besides (length stages) root at-last now count inside lower done i n l h f)
 
-      pub last-inputs : (n : Node (StageWork S K P Q)) → slice_get now root ≡ Some n → (is_leaf n.work ≡ true) ↔ (length (children part root) ≡ 0)
-      last-inputs n f = subst (λ xss. (is_leaf n.work ≡ true) ↔ (length (children xss root) ≡ 0)) (sym same-part)
+      pub last-inputs : (n : Node (StageWork S K P Q)) → slice_get now root ≡ Some n → ((is_leaf n.work ≡ true) ↔ (length (children part root) ≡ 0)) × (n.fault ≡ None)
+      last-inputs n f = subst (λ xss. ((is_leaf n.work ≡ true) ↔ (length (children xss root) ≡ 0)) × (n.fault ≡ None)) (sym same-part)
           (root-inputs s k fs ts stages old new down forest (ins-size stages) homes is.homes besides (length stages) root at-last now count inside lower done
           (λ q. let m = some in omega (arith, m)) n f)
 

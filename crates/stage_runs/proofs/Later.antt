@@ -1,12 +1,15 @@
 -- Nodes later.
-use Rattle.std.proofs.Common.{◌≡◌, ◌⊎◌, ℕ, zero, suc, ◌≤◌, ◌<◌, ◌+◌, ◌++◌, ◌∷◌, [], Bool, true, false, not, true≢false, List, length, Some, None, is_some, slice_get, slice_set, length-set, refl, ap, sym, subst, ◌∙◌, inl, inr, arith}
+use Rattle.std.proofs.Common.{◌≡◌, ◌⊎◌, ℕ, zero, suc, ◌≤◌, ◌<◌, ◌+◌, ◌++◌, ◌∷◌, [], Bool, true, false, not, true≢false, List, length, Option, Some, None, is_some, slice_get, slice_set, length-set, refl, ap, sym, subst, ◌∙◌, inl, inr, arith}
 use Rattle.std.proofs.lemmas.Bool.Decides.{eqb_tells}
 use Rattle.circular_buffer.proofs.Places.{slice_get-set_same, slice_get-set_other}
 use Rattle.std.proofs.lemmas.Option.{none-some, same_Some, slice_get_within}
 use Rattle.file_devices.specs.Counts.{Rose}
 use Rattle.file_devices.specs.declared.devices.Source as source
 use Rattle.file_devices.specs.declared.devices.Sink as sink
+use Rattle.file_devices.specs.declared.devices.Op.{Op}
 use Rattle.cloud_points.specs.Events.{is_device, IsOf}
+use Rattle.cloud_points.specs.declared.faults.StageFault.{StageFault}
+use Rattle.cloud_points.specs.declared.faults.StageFault.TheVariants as stage
 use Rattle.network_theory.specs.Forest.{IsForest, children}
 use Rattle.network_theory.specs.Shape.{Each}
 use Rattle.network_theory.specs.Opening.{IsFresh}
@@ -69,6 +72,11 @@ pub not-short : (b : Bool) → not b ≡ true → b ≡ false
 not-short true e = absurd (true≢false (sym e))
 not-short false e = refl
 
+unnamed : (f : Option StageFault) → IsOf None f → is_device f ≡ false
+unnamed None h = refl
+unnamed (Some (stage.Point p)) h = refl
+unnamed (Some (stage.Device o)) h = absurd (none-some o h)
+
 rose-back : (a b c : ℕ) → a ≤ b → Rose b c → Rose a c
 rose-back a b c l r = omega (arith, l, r)
 
@@ -79,6 +87,8 @@ module _ {S K P Q : Type 0} (s : source.Ghosts S) (k : sink.Ghosts K) (fs : plug
     op = refl;
     faults = omega arith;
     cause = λ d. absurd (true≢false (sym d ∙ ap is_device none));
+    kept = λ d. refl;
+    stays = λ o d. d;
     named = subst (IsOf (op_of n.work)) (sym none) tt;
     holds = (refl, refl);
   }
@@ -88,9 +98,17 @@ module _ {S K P Q : Type 0} (s : source.Ghosts S) (k : sink.Ghosts K) (fs : plug
     op = second.op ∙ first.op;
     faults = (let a = first.faults in let b = second.faults in omega (arith, a, b));
     cause = λ d. rose-back (faults_of s.faults k.faults n.work) (faults_of s.faults k.faults m.work) (faults_of s.faults k.faults l.work) first.faults (second.cause d);
+    kept = λ d. second.kept d ∙ first.kept (between (is_device m.fault) refl (op_of n.work) refl d);
+    stays = λ o d. second.stays (ap is_some first.op ∙ o) (first.stays o d);
     named = subst (λ o. IsOf o l.fault) first.op second.named;
     holds = (second.holds.0 ∙ first.holds.0, second.holds.1 ∙ first.holds.1);
   }
+    where
+      -- a device's fault would have stayed, and a node without a device has none
+      between : (b : Bool) → is_device m.fault ≡ b → (o : Option Op) → op_of n.work ≡ o → is_device l.fault ≡ false → is_device m.fault ≡ false
+      between false e o f d = e
+      between true e (Some o) f d = absurd (true≢false (sym (second.stays (ap is_some (first.op ∙ f)) e) ∙ d))
+      between true e None f d = unnamed m.fault (subst (λ x. IsOf x m.fault) f first.named)
 
   -- nodes that took turns, wherever these ended: each keeps what its work does, and a device's fault has its cause
   pub record AreTurnedNodes (nodes ended : List (Node (StageWork S K P Q))) : Type 0 where
@@ -118,7 +136,15 @@ module _ {S K P Q : Type 0} (s : source.Ghosts S) (k : sink.Ghosts K) (fs : plug
     each = λ i n m e f.
         let calm = ran.calm i n m e f in
         let none : is_some n.fault ≡ false = ap is_some (fresh i n e).fault in
-        record { op = calm.op; faults = calm.faults; cause = calm.cause none; named = calm.named none; holds = same-held fs ts n.work m.work (ran.work i n m e f) };
+        record {
+          op = calm.op;
+          faults = calm.faults;
+          cause = calm.cause none;
+          kept = calm.kept (λ l u h. (fresh i n e).fault);
+          stays = λ o d. absurd (true≢false (sym d ∙ ap is_device (fresh i n e).fault));
+          named = calm.named none;
+          holds = same-held fs ts n.work m.work (ran.work i n m e f);
+        };
   }
 
   pub same-later : (ins : List (List ℕ)) (nodes : List (Node (StageWork S K P Q))) → ((i : ℕ) (n : Node (StageWork S K P Q)) → slice_get nodes i ≡ Some n → IsFresh (shown (as_works s k fs ts) (children ins i) n)) → AreLaterNodes s k fs ts nodes nodes
@@ -178,12 +204,14 @@ module _ {S K P Q : Type 0} (s : source.Ghosts S) (k : sink.Ghosts K) (fs : plug
     ];
   }
 
-  -- a work in the place of one that holds the same
-  pub leaf-later : (was is : Node (StageWork S K P Q)) → held_by is.work ≡ held_by was.work → is.fault ≡ None → IsLaterNode s k fs ts was is
-  leaf-later was is same sound = record {
+  -- a work that holds nothing in the place of another
+  pub leaf-later : (was is : Node (StageWork S K P Q)) → held_by was.work ≡ Nothing → held_by is.work ≡ Nothing → is.fault ≡ None → IsLaterNode s k fs ts was is
+  leaf-later was is before now sound = let same : held_by is.work ≡ held_by was.work = now ∙ sym before in record {
     op = ap op_on same;
     faults = (let z = ap (faults_on s.faults k.faults) same in omega (arith, z));
     cause = λ d. absurd (true≢false (sym d ∙ ap is_device sound));
+    kept = λ d. ap (faults_on s.faults k.faults) same;
+    stays = λ o d. absurd (true≢false (sym o ∙ ap (λ h. is_some (op_on h)) before));
     named = subst (IsOf (op_of was.work)) (sym sound) tt;
     holds = (ap (filter_on fs) same, ap (tally_on ts) same);
   }

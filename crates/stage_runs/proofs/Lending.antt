@@ -1,5 +1,5 @@
 -- The nodes of a part are lent to its net, and come back.
-use Rattle.std.proofs.Common.{◌≡◌, ◌≢◌, ◌⊎◌, ℕ, ◌+◌, ◌-◌, ◌<◌, ◌≤◌, ◌↔◌, ◌==◌, ◌||◌, Bool, true, false, true≢false, List, [], ◌++◌, take, drop, length, slice_get, Some, refl, ap, sym, subst, ◌∙◌, inl, inr, arith, zero, suc, ◌∷◌}
+use Rattle.std.proofs.Common.{◌≡◌, ◌≢◌, ◌⊎◌, ℕ, ◌+◌, ◌-◌, ◌<◌, ◌≤◌, ◌↔◌, ◌==◌, ◌||◌, Bool, true, false, true≢false, List, [], ◌++◌, take, drop, length, slice_get, Some, None, refl, ap, sym, subst, ◌∙◌, inl, inr, arith, zero, suc, ◌∷◌}
 use Rattle.std.proofs.lemmas.Bool.Decides.{eqb_tells, leb_tells}
 use Rattle.std.proofs.lemmas.Option.{same_Some, slice_get_within}
 use Rattle.file_devices.specs.declared.devices.Source as source
@@ -15,7 +15,7 @@ use Rattle.stage_kinds.specs.declared.held.Held.TheVariants.{Nothing}
 use Rattle.stage_kinds.specs.Held.{HoldsSame, held_by, op_of, faults_of}
 use Rattle.stage_kinds.specs.Stages.{is_leaf}
 use Rattle.file_devices.specs.Counts.{Rose}
-use Rattle.cloud_points.specs.Events.{IsOf}
+use Rattle.cloud_points.specs.Events.{IsOf, is_device}
 use Rattle.stage_parts.specs.Parts.{is_of, part_ins}
 use Rattle.stage_parts.proofs.Trees.{at_stranger}
 use Rattle.stage_runs.specs.declared.plan.Plan.{Plan}
@@ -51,12 +51,14 @@ lent-over given homes home root size one other one_after other_after many same l
     (subst (λ hs. IsExchanged (is_own hs home (size - 1)) size one other one_after other_after) same lent))
 
 module _ {S K P Q : Type 0} (s : source.Ghosts S) (k : sink.Ghosts K) (fs : plug_type.Ghosts P) (ts : tally_type.Ghosts Q) where
-  -- what is later than a node is later than another one over the same work
-  later-work : (x n m : Node (StageWork S K P Q)) → x.work ≡ n.work → IsLaterNode s k fs ts x m → IsLaterNode s k fs ts n m
-  later-work x n m e later = record {
+  -- what is later than a node is later than another one over the same work that has no fault
+  later-work : (x n m : Node (StageWork S K P Q)) → x.work ≡ n.work → n.fault ≡ None → IsLaterNode s k fs ts x m → IsLaterNode s k fs ts n m
+  later-work x n m e sound later = record {
     op = later.op ∙ ap op_of e;
     faults = subst (λ w. faults_of s.faults k.faults w ≤ faults_of s.faults k.faults m.work) e later.faults;
     cause = λ d. subst (λ w. Rose (faults_of s.faults k.faults w) (faults_of s.faults k.faults m.work)) e (later.cause d);
+    kept = λ d. subst (λ w. faults_of s.faults k.faults m.work ≡ faults_of s.faults k.faults w) e (later.kept d);
+    stays = λ o d. absurd (true≢false (sym d ∙ ap is_device sound));
     named = subst (λ w. IsOf (op_of w) m.fault) e later.named;
     holds = subst (λ w. HoldsSame fs ts w m.work) e later.holds;
   }
@@ -194,11 +196,21 @@ module _ {S K P Q : Type 0} (s : source.Ghosts S) (k : sink.Ghosts K) (fs : plug
               ap (λ (y : Node (StageWork S K P Q)). y.work) (same_Some x n (sym d ∙ own-net i less (less-home i less o) ∙ e)))
         ]
 
-        own-later : (i : ℕ) (n m : Node (StageWork S K P Q)) → i ≤ root → is_own homes home root i ≡ true → slice_get nodes i ≡ Some n → slice_get after i ≡ Some m → IsLaterNode s k fs ts n m
-        own-later i n m l o e f =
+        abbrev Sound : Type 0
+        Sound = (n : Node (StageWork S K P Q)) → slice_get nodes root ≡ Some n → n.fault ≡ None
+
+        -- a node of this part has no fault before, where the root has none
+        own-sound : Sound → (i : ℕ) (n : Node (StageWork S K P Q)) → i ≤ root → is_own homes home root i ≡ true → slice_get nodes i ≡ Some n → n.fault ≡ None
+        own-sound sound i n l o e = elim (eqb_tells i root) [
+          | inl p ↦ sound n (ap (slice_get nodes) (sym p.1) ∙ e)
+          | inr p ↦ (let no = p.1 in let less : i < root = omega (arith, no, l) in (fresh i n less (less-home i less o) e).fault)
+        ]
+
+        own-later : Sound → (i : ℕ) (n m : Node (StageWork S K P Q)) → i ≤ root → is_own homes home root i ≡ true → slice_get nodes i ≡ Some n → slice_get after i ≡ Some m → IsLaterNode s k fs ts n m
+        own-later sound i n m l o e f =
             let g = sym (back i l o) ∙ f in
             let x = before i m g in
-            later-work x.0 n m (own-work i x.0 n l o x.1 e) (later.each i x.0 m x.1 g)
+            later-work x.0 n m (own-work i x.0 n l o x.1 e) (own-sound sound i n l o e) (later.each i x.0 m x.1 g)
 
         -- a node outside of this part is a leaf in the net
         stranger : (i : ℕ) (x : Node (StageWork S K P Q)) → i < root + 1 → is_own homes home root i ≡ false → slice_get renewed i ≡ Some x → IsNewLeaf s k fs ts x
@@ -207,8 +219,8 @@ module _ {S K P Q : Type 0} (s : source.Ghosts S) (k : sink.Ghosts K) (fs : plug
             let h : is_of homes home i ≡ false = sym (ap (λ b. b || is_of homes home i) (other-number i root other)) ∙ o in
             (is-net.strange i x (omega (arith, other, less)) h e).0
 
-        pub part-later : AreSameOrLater s k fs ts nodes after
-        part-later = record {
+        pub part-later : Sound → AreSameOrLater s k fs ts nodes after
+        part-later sound = record {
           count = after-count;
           each = λ i n m e f. elim (leb_tells i root) [
             | inl p ↦ by_own i n m p.1 e f (is_own homes home root i) refl
@@ -217,7 +229,7 @@ module _ {S K P Q : Type 0} (s : source.Ghosts S) (k : sink.Ghosts K) (fs : plug
         }
           where
             by_own : (i : ℕ) (n m : Node (StageWork S K P Q)) → i ≤ root → slice_get nodes i ≡ Some n → slice_get after i ≡ Some m → (b : Bool) → is_own homes home root i ≡ b → (m ≡ n) ⊎ IsLaterNode s k fs ts n m
-            by_own i n m l e f true o = inr (own-later i n m l o e f)
+            by_own i n m l e f true o = inr (own-later sound i n m l o e f)
             by_own i n m l e f false o = inl (same_Some m n (sym f ∙ other i o ∙ e))
 
         -- what stood in holds nothing

@@ -1,6 +1,6 @@
 -- What each turn of the parts of a tree of stages asks for and gives.
 use Rattle.std.proofs.Common.{◌≡◌, ◌≢◌, ℕ, zero, suc, ◌∷◌, ◌+◌, ◌-◌, ◌<◌, ◌≤◌, ◌↔◌, Bool, true, false, true≢false, List, [], length, refl, ap, sym, subst, ◌∙◌, inl, inr, arith}
-use Rattle.std.specs.Prelude.{slice_get, slice_index_or, Some}
+use Rattle.std.specs.Prelude.{slice_get, slice_index_or, Some, None}
 use Rattle.file_devices.specs.declared.devices.Source as source
 use Rattle.file_devices.specs.declared.devices.Sink as sink
 use Rattle.network_theory.specs.Forest.{IsForest, children}
@@ -140,8 +140,8 @@ module _ {S K P Q : Type 0} (s : source.Ghosts S) (k : sink.Ghosts K) (fs : plug
       part-fresh i n l h e = subst (λ xss. IsFresh (shown (as_works s k fs ts) (children xss i) n)) (sym (same-part w w))
           (fresh-before s k fs ts stages old new down forest (ins-size stages) homes are besides w w at-w now count inside (λ j m. m) done i n l h e)
 
-      pub part-inputs : (n : Node (StageWork S K P Q)) → slice_get now w ≡ Some n → (is_leaf n.work ≡ true) ↔ (length (children (part w w) w) ≡ 0)
-      part-inputs n e = subst (λ xss. (is_leaf n.work ≡ true) ↔ (length (children xss w) ≡ 0)) (sym (same-part w w))
+      pub part-inputs : (n : Node (StageWork S K P Q)) → slice_get now w ≡ Some n → ((is_leaf n.work ≡ true) ↔ (length (children (part w w) w) ≡ 0)) × (n.fault ≡ None)
+      part-inputs n e = subst (λ xss. ((is_leaf n.work ≡ true) ↔ (length (children xss w) ≡ 0)) × (n.fault ≡ None)) (sym (same-part w w))
           (root-inputs s k fs ts stages old new down forest (ins-size stages) homes are besides w w at-w now count inside (λ j m. m) done
           (λ streams. absurd (true≢false (sym gathers_w ∙ streams))) n e)
 

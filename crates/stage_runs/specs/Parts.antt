@@ -1,5 +1,5 @@
 -- The nodes of a tree's stages while its parts are run, one after the other.
-use Rattle.std.specs.Prelude.{◌≡◌, ◌≢◌, ◌⊎◌, ◌↔◌, ℕ, zero, suc, ◌+◌, ◌-◌, ◌<◌, ◌≤◌, ◌==◌, ◌||◌, nat_lt, Bool, true, false, List, [], ◌∷◌, length, map, slice_get, option_map, Option, Some, None}
+use Rattle.std.specs.Prelude.{◌≡◌, ◌≢◌, ◌⊎◌, ◌↔◌, ℕ, zero, suc, ◌+◌, ◌-◌, ◌<◌, ◌≤◌, ◌==◌, ◌||◌, nat_lt, Bool, true, false, List, [], ◌∷◌, length, map, slice_get, option_map, Option, Some, None, is_some}
 use Rattle.file_devices.specs.Counts.{Rose}
 use Rattle.file_devices.specs.declared.devices.Source as source
 use Rattle.file_devices.specs.declared.devices.Sink as sink
@@ -67,12 +67,14 @@ Besides S K P Q = List (List ℕ) → List (Node (StageWork S K P Q)) → List (
 -- ---- nodes
 
 module _ {S K P Q : Type 0} (s : source.Ghosts S) (k : sink.Ghosts K) (fs : plug_type.Ghosts P) (ts : tally_type.Ghosts Q) where
-  -- the node of a stage later: it holds the device that it held, whose count of faults didn't fall, and where that failed, it rose; and it
-  -- holds what it held of the caller's
+  -- the node of a stage later: it holds the device that it held, whose count of faults rose where that failed, and else is as it was; a
+  -- device's fault stays; and it holds what it held of the caller's
   pub record IsLaterNode (old new : Node (StageWork S K P Q)) : Type 0 where
     pub op : op_of new.work ≡ op_of old.work
     pub faults : faults_of s.faults k.faults old.work ≤ faults_of s.faults k.faults new.work
     pub cause : is_device new.fault ≡ true → Rose (faults_of s.faults k.faults old.work) (faults_of s.faults k.faults new.work)
+    pub kept : is_device new.fault ≡ false → faults_of s.faults k.faults new.work ≡ faults_of s.faults k.faults old.work
+    pub stays : is_some (op_of old.work) ≡ true → is_device old.fault ≡ true → is_device new.fault ≡ true
     pub named : IsOf (op_of old.work) new.fault
     pub holds : HoldsSame fs ts old.work new.work
 
@@ -126,10 +128,10 @@ module _ {S K P Q : Type 0} (s : source.Ghosts S) (k : sink.Ghosts K) (fs : plug
   AreFreshBefore part homes home root nodes = (i : ℕ) (n : Node (StageWork S K P Q)) → i < root → is_of homes home i ≡ true
       → slice_get nodes i ≡ Some n → IsFresh (shown (as_works s k fs ts) (children part i) n)
 
-  -- the root of a part has inputs exactly where it is no leaf
-  abbrev pub HasInputs : List (List ℕ) → ℕ → List (Node (StageWork S K P Q)) → Type 0
-  HasInputs part root nodes = (n : Node (StageWork S K P Q)) → slice_get nodes root ≡ Some n
-      → (is_leaf n.work ≡ true) ↔ (length (children part root) ≡ 0)
+  -- the root of a part has inputs exactly where it is no leaf, and no fault yet
+  abbrev pub HasWaitingRoot : List (List ℕ) → ℕ → List (Node (StageWork S K P Q)) → Type 0
+  HasWaitingRoot part root nodes = (n : Node (StageWork S K P Q)) → slice_get nodes root ≡ Some n
+      → ((is_leaf n.work ≡ true) ↔ (length (children part root) ≡ 0)) × (n.fault ≡ None)
 
   -- the nodes of a part, each at the place of its stage: the root is new over its work, and the others of the home are as they are; in
   -- the place of each stranger stands a leaf that gives nothing

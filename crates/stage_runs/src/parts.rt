@@ -4,7 +4,7 @@ ghost use Rattle.std.specs.Prelude.{◌≡◌, ◌-◌, ◌<◌, ◌≤◌, ◌�
 ghost use Rattle.network_core.specs.declared.node.Node as node_type;
 ghost use Rattle.network_core.specs.declared.stop.Stop.TheVariants.{First};
 ghost use Rattle.network_theory.specs.Forest.{IsForest};
-ghost use Rattle.stage_runs.specs.Parts.{AreFreshBefore, AreSameOrLater, AreSoundOwn, CollectsAt, HasInputs};
+ghost use Rattle.stage_runs.specs.Parts.{AreFreshBefore, AreSameOrLater, AreSoundOwn, CollectsAt, HasWaitingRoot};
 ghost use Rattle.stage_runs.specs.Parts.{is_own, IsExchanged, IsGatheredAt, IsLeafRun, IsLeafStopped, IsNewLeafAt};
 ghost use Rattle.stage_runs.specs.Parts.{IsPartRun, IsPartStopped, IsRenewed};
 ghost use Rattle.stage_runs.specs.Rooms.{IsRoom, part_of};
@@ -90,7 +90,7 @@ pub(crate) fn run_part<
     requires forest { IsForest (part_of plan.now home root) root }
     requires fresh { AreFreshBefore S.Source K.Sink P.PlugFilter Q.PlugTally
         (part_of plan.now home root) plan.now.homes.items home root nodes.old }
-    requires inputs { HasInputs S.Source K.Sink P.PlugFilter Q.PlugTally
+    requires waits { HasWaitingRoot S.Source K.Sink P.PlugFilter Q.PlugTally
         (part_of plan.now home root) root nodes.old }
     ensures later { AreSameOrLater S.Source K.Sink P.PlugFilter Q.PlugTally nodes.old nodes.new }
     ensures run { OnOk result (IsPartRun S.Source K.Sink P.PlugFilter Q.PlugTally (T.besides sizes.queue)

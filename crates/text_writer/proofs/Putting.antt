@@ -53,7 +53,7 @@ line_written form points count at start d old buffer more some order short size 
 pub record Putting (form : TextForm) (points : List Point) (count size_before size : ℕ) (sink_before sink : Option (List ℕ)) (faults_before faults : ℕ) : Type 0 where
   pub few : count ≤ length points
   pub put : Appends sink_before (flat_map (text_line form) (take count points)) sink
-  pub later : faults_before ≤ faults
+  pub calm : faults ≡ faults_before
   pub room : size ≡ size_before
 
 -- the lines of the first points, and of those up to a place
@@ -64,12 +64,12 @@ up_to form points from to order =
     ∙ flat_map-append (text_line form) (take from points) (slice_range points from to)
 
 pub putting_more : (form : TextForm) (points : List Point) (from to size_before size : ℕ) (first middle last : Option (List ℕ)) (faults0 faults1 faults2 : ℕ) → from ≤ to → to ≤ length points → size ≡ size_before
-    → Appends middle (flat_map (text_line form) (slice_range points from to)) last → faults1 ≤ faults2
-    → Appends first (flat_map (text_line form) (take from points)) middle → faults0 ≤ faults1 → Putting form points to size_before size first last faults0 faults2
-putting_more form points from to size_before size first middle last faults0 faults1 faults2 order within room more later was before = record {
+    → Appends middle (flat_map (text_line form) (slice_range points from to)) last → faults2 ≡ faults1
+    → Appends first (flat_map (text_line form) (take from points)) middle → faults1 ≡ faults0 → Putting form points to size_before size first last faults0 faults2
+putting_more form points from to size_before size first middle last faults0 faults1 faults2 order within room more calm was before = record {
   few = within;
   put = rw (up_to form points from to order) (appends_more first middle last (flat_map (text_line form) (take from points)) (flat_map (text_line form) (slice_range points from to)) was more);
-  later = omega (arith, before);
+  calm = calm ∙ before;
   room = room;
 }
 

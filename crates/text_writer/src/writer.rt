@@ -40,7 +40,7 @@ impl<K: Sink> TextWriter<K> {
         ensures holds { IfOk result (λ w. IsAsTold (K.bytes sink) (Some [])
             → holds_text (K.bytes w.sink) form [] ≡ true) }
         ensures form { IfOk result (λ w. w.form ≡ form) }
-        ensures later { IfOk result (λ w. K.faults sink ≤ K.faults w.sink) }
+        ensures calm { IfOk result (λ w. K.faults w.sink ≡ K.faults sink) }
         ensures part { IfErr result (λ e. AppendsPart (K.bytes sink) (header_line form) (K.bytes e.0)) }
         ensures failed { IfErr result (λ e. e.1 ≡ TextBeginErr.Failed → Rose (K.faults sink) (K.faults e.0)) }
         ensures unchanged { IfErr result (λ e. e.1 ≡ TextBeginErr.Memory → e.0 ≡ sink) }

@@ -129,6 +129,8 @@ impl Files for WatchedFiles {
 
     ghost faults = { λ s. ⟦<MemFiles as Files>⟧.faults s.files };
 
+    ghost counts = { λ s. ⟦<MemFiles as Files>⟧.counts s.files };
+
     fn open_in(&mut self, name: &str) -> Result<WatchedIn, DeviceErr> {
         let notes = Arc::try_clone(&self.notes)?;
         let source = self.files.open_in(name)?;

@@ -17,7 +17,7 @@ pub trait PointKey {
 
     ghost key: { Self → Point → Self.Key };
 
-    /// The key of the point at a place. Of its row only what the key needs is read.
+    /// The key of the point at a place. It should read of its row only what the key needs.
     fn key_at(&self, rows: &PackedRows, k: usize) -> Self::Key
         requires { k < length rows.now.points }
         ensures { result ≡ key self.now (get_or rows.now.points k zero_point) };

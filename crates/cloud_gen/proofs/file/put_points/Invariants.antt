@@ -9,7 +9,7 @@ invariant-loop-start g l = record {
   form : l.writer.form ≡ generated_form;
   holds : holds_las (g.K.Sink.bytes l.initial.writer.sink) generated_form l.initial.writer.totals [] ≡ true
       → holds_las (g.K.Sink.bytes l.writer.sink) generated_form l.writer.totals (generated_points l.start) ≡ true;
-  later : g.K.Sink.faults l.initial.writer.sink ≤ g.K.Sink.faults l.writer.sink;
+  calm : g.K.Sink.faults l.writer.sink ≡ g.K.Sink.faults l.initial.writer.sink;
 }
 
 abbrev pub decreases-loop-start : goal.decreases-loop-start

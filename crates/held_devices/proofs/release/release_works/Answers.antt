@@ -1,10 +1,10 @@
 use Rattle.std.proofs.Common.{◌≡◌, ◌+◌, refl, ap, ◌∙◌, arith}
-use Rattle.stage_kinds.specs.Held.{op_of}
 use Rattle.held_devices.proofs.Handing.{filter-back, filters-done, tallies-done, tally-back}
-use Rattle.held_devices.specs.Holding.{there, all_held}
+use Rattle.stage_kinds.specs.Held.{held_by, op_of}
+use Rattle.held_devices.specs.Holding.{there, all_held, count_on}
 use Rattle.held_devices.proofs.Sums.{sum-pop, none-there}
 use Rattle.stage_kinds.specs.Leads.{reached_of}
-use Rattle.held_devices.proofs.Releasing.{none-released, one-released, all-released, read-one, read-all}
+use Rattle.held_devices.proofs.Releasing.{none-released, one-released, all-released, read-one, read-all, told-one, told-all}
 use Rattle.held_devices.proofs.release.release_works.Goals as goal
 
 pub loop-work-init : goal.loop-work-init
@@ -13,6 +13,7 @@ loop-work-init g c = record {
   lent = λ others e. e;
   later = omega arith;
   read = λ x e. (x, e, refl);
+  told = λ xs e. (xs, e, refl);
   filters = λ used before are. are;
   tallies = λ used before are. are;
   released = none-released g.F.In.Source.faults g.F.Out.Sink.faults c.args.works.items (g.F.Files.faults c.args.files.now) (g.F.Files.faults c.args.files.now);
@@ -29,6 +30,8 @@ loop-work-preserved g c =
       later = (let a = now.later in let b = done.later in omega (arith, a, b));
       read = λ x e. read-one (g.F.Files.read_to c.args.files.now) (g.F.Files.read_to c.loop-work.files) (g.F.Files.read_to c.release_work.new.files) (reached_of g.F.In.Source.reached) c.args.works.items
           c.loop-work.works.items c.pop.new.self.items c.in-Some.work c.in-Some.ensures.items now.read done.read x e;
+      told = told-one (g.F.Files.counts c.args.files.now) (g.F.Files.counts c.loop-work.files) (g.F.Files.counts c.release_work.new.files) (λ w. count_on g.F.In.Source.faults g.F.Out.Sink.faults (held_by w)) c.args.works.items
+          c.loop-work.works.items c.pop.new.self.items c.in-Some.work c.in-Some.ensures.items now.told done.told;
       filters = λ used before are. filter-back c.loop-work.works.items c.pop.new.self.items c.in-Some.work c.in-Some.ensures.items used g.P.PlugFilter before c.loop-work.places.filters.items
           c.release_work.new.places.filters.items done.filters (now.filters used before are);
       tallies = λ used before are. tally-back c.loop-work.works.items c.pop.new.self.items c.in-Some.work c.in-Some.ensures.items used g.Q.PlugTally before c.loop-work.places.tallies.items
@@ -61,3 +64,7 @@ pub returns-clause-tallies : goal.returns-clause-tallies
 returns-clause-tallies g c = λ used before are. tallies-done c.args.works.items c.loop-work.works.items
     (none-there c.loop-work.works.items (let z = c.in_default.ensures.cases.0 in let k = c.loop-work.works.ok in omega (arith, z, k))) used g.Q.PlugTally
     c.args.places.now.tallies.items c.loop-work.places.tallies.items before c.loop-work.invariant.tallies are
+
+pub returns-clause-told : goal.returns-clause-told
+returns-clause-told g c = told-all (g.F.Files.counts c.args.files.now) (g.F.Files.counts c.loop-work.files) (λ w. count_on g.F.In.Source.faults g.F.Out.Sink.faults (held_by w)) c.args.works.items c.loop-work.works.items
+    (none-there c.loop-work.works.items (let z = c.in_default.ensures.cases.0 in let k = c.loop-work.works.ok in omega (arith, z, k))) c.loop-work.invariant.told

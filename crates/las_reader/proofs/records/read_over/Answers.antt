@@ -37,7 +37,7 @@ loop-done-preserved g c =
     let held = c.decode_with-held.result in
     let room : done + c.min-wanted.result ≤ c.args.most = omega (arith, c.min-wanted.ensures, c.loop-done-test.true) in (
       reads_more c.args.header.now c.args.fields.now c.args.given c.args.most c.min-wanted.result c.in_ok-whole.whole held.count held.out _ _ _ _ _ _ _ _ _ (take done c.loop-done.into.items) (take (done + held.count) c.decode_with-held.new.into.items) done (done + held.count) c.read_records.new.buffer
-          room c.in_ok-whole.ensures.most c.decode_with-held.ensures.most c.if-held-wanted.false c.in_ok-whole.ensures.bytes c.in_ok-whole.ensures.cause.later c.in_ok-whole.ensures.reached c.in_ok-whole.ensures.whole c.decode_with-held.ensures.items
+          room c.in_ok-whole.ensures.most c.decode_with-held.ensures.most c.if-held-wanted.false c.in_ok-whole.ensures.bytes c.in_ok-whole.ensures.cause.calm c.in_ok-whole.ensures.reached c.in_ok-whole.ensures.whole c.decode_with-held.ensures.items
           c.decode_with-held.ensures.out refl c.loop-done.invariant.0,
       c.in_ok-whole.ensures.len ∙ c.loop-done.invariant.1,
       omega (arith, c.decode_with-held.ensures.most, c.decode_with-held.ensures.len),

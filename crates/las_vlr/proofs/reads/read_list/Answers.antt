@@ -19,7 +19,7 @@ loop-number-preserved g c =
     let room : c.loop-number.before + length c.as_slice.result.now ≤ 16777216 = rw size c.in_ok-vlr.ensures.room in
     rw (pushed, c.head_size.ensures)
     (reading_more c.args.kind c.args.count c.args.start c.loop-number.number c.loop-number.at c.loop-number.before (length c.as_slice.result.now) _ _ _ _ _ _ _ _ _ c.loop-number.vlrs.items c.in_ok-vlr.vlr c.loop-number-test.true
-    c.in_ok-vlr.ensures.same c.in_ok-vlr.ensures.later c.in_ok-vlr.ensures.in_front room size c.in_ok-vlr.ensures.held c.in_ok-vlr.ensures.whole c.in_ok-vlr.ensures.entry (λ file e. size ∙ c.in_ok-vlr.ensures.size file e) c.loop-number.invariant)
+    c.in_ok-vlr.ensures.same c.in_ok-vlr.ensures.calm c.in_ok-vlr.ensures.in_front room size c.in_ok-vlr.ensures.held c.in_ok-vlr.ensures.whole c.in_ok-vlr.ensures.entry (λ file e. size ∙ c.in_ok-vlr.ensures.size file e) c.loop-number.invariant)
 
 pub returns-clause-ok : goal.returns-clause-ok
 returns-clause-ok g c = λ file e.

@@ -1,4 +1,4 @@
-use Rattle.std.proofs.Common.{◌+◌, ◌≤◌, max, length, vec_len, Ok, option_map, ap, subst, sym, ◌∙◌, arith}
+use Rattle.std.proofs.Common.{◌∷◌, ◌+◌, ◌≤◌, max, length, vec_len, Ok, option_map, ap, subst, sym, ◌∙◌, arith}
 use Rattle.file_devices.specs.Told.{IsAsTold}
 use Rattle.run_report.specs.declared.refusal.Place.TheVariants.{PipelineFile}
 use Rattle.answer_model.specs.Runs.{file_at}
@@ -21,3 +21,9 @@ returns-in-Ok-Some-clause-no_further g c =
     let told = subst (λ o. IsAsTold (files.read_to c.done_in.new.self) (option_map (λ n. n + now) o)) c.open_in.ensures.read_to c.done_in.ensures.read_to in
     read-at-most now (length text.items) (files.read_to c.args.files.now) (files.read_to c.done_in.new.self) told
     (omega (arith, most, c.in-Ok.ensures.fresh.1, text.ok))
+
+pub returns-in-Ok-Some-clause-gave : goal.returns-in-Ok-Some-clause-gave
+returns-in-Ok-Some-clause-gave g c =
+    let files = g.F.Files in
+    let count = g.F.In.Source.faults c.read_whole-read.new.source in
+    (count, subst (λ o. IsAsTold (files.counts c.done_in.new.self) (option_map (λ cs. count ∷ cs) o)) c.open_in.ensures.counts c.done_in.ensures.counts)

@@ -1,10 +1,12 @@
 use Rattle.std.proofs.Common.{◌≡◌, length, Some, Ok, Err, IfErr, rules, ap, subst, sym, ◌∙◌}
 use Rattle.file_devices.specs.Named.{Names}
 use Rattle.run_engine.specs.ReadAhead.{ReadAtMost}
+use Rattle.lasline_top.specs.Least.{IsPlanNamed}
 use Rattle.lasline_top.specs.Reading.{IsReadAhead}
+use Rattle.lasline_top.proofs.Least.{plan-named, plan-read, unplanned}
 use Rattle.lasline_top.specs.Words.{Run_file}
 use Rattle.run_report.proofs.Lines.{OnOk-more}
-use Rattle.lasline_top.specs.Answer.{ran}
+use Rattle.lasline_top.specs.Answer.{ran, runnable_of}
 use Rattle.lasline_top.specs.Tasks.{engine_view}
 use Rattle.lasline_top.proofs.Back.{always, file-remembered}
 use Rattle.lasline_top.proofs.Printed.{if-unprinted}
@@ -48,3 +50,26 @@ returns-clause-remembered g c =
 pub returns-clause-ahead : goal.returns-clause-ahead
 returns-clause-ahead g c = if-err c.print_report.result c.print_report.ensures.err (λ r is bounded m told.
     file-refused c.args.name.now (engine_view (g.T.Scheduler.stop c.args.scheduler.now) c.args.engine) m _ _ r (λ i f e. cc))
+
+pub returns-in_err-text-clause-least : goal.returns-in_err-text-clause-least
+returns-in_err-text-clause-least g c =
+    let files = g.F.Files in
+    let handed = handed_by g.P.PlugFilter g.Q.PlugTally c.args.places.now in
+    let refusal = c.in_err-text.field-0.0 in
+    let refused : c.from_residual.result ≡ Err refusal = search rules in
+    subst (λ r. IfErr r (λ r. (m : Names) → files.map c.args.files.now ≡ Some m → IsPlanNamed (runnable_of handed m c.args.name.now) (files.counts c.args.files.now) (files.counts c.read_text.new.files) r)) (sym refused)
+    (λ m told. unplanned (runnable_of handed m c.args.name.now) (files.counts c.args.files.now) (files.counts c.read_text.new.files) refusal c.in_err-text.ensures.of_plan)
+
+pub returns-in_err-report-clause-least : goal.returns-in_err-report-clause-least
+returns-in_err-report-clause-least g c =
+    let files = g.F.Files in
+    let handed = handed_by g.P.PlugFilter g.Q.PlugTally c.args.places.now in
+    let refusal = c.in_err-report.field-0.0 in
+    let refused : c.from_residual-in_err-report.result ≡ Err refusal = search rules in
+    subst (λ r. IfErr r (λ r. (m : Names) → files.map c.args.files.now ≡ Some m → IsPlanNamed (runnable_of handed m c.args.name.now) (files.counts c.args.files.now) (files.counts c.run_text.new.files) r)) (sym refused)
+    (λ m told. plan-named (runnable_of handed m c.args.name.now) handed c.deref.result.now (files.counts c.args.files.now) (files.counts c.read_text.new.files) (files.counts c.run_text.new.files) refusal
+    (plan-read handed m c.args.name.now c.deref.result.now (c.in_ok-text.ensures.ok m told ∙ ap (λ text. Ok text) (sym c.deref.ensures.value))) c.in_ok-text.ensures.gave c.in_err-report.ensures.least)
+
+pub returns-clause-least : goal.returns-clause-least
+returns-clause-least g c = if-err c.print_report.result c.print_report.ensures.err (λ r is m told.
+    subst (IsPlanNamed (runnable_of (handed_by g.P.PlugFilter g.Q.PlugTally c.args.places.now) m c.args.name.now) _ _) (sym is) tt)

@@ -21,7 +21,7 @@ returns-in-Err g c =
     record {
       answered = refused_answered (handed_by g.P.PlugFilter g.Q.PlugTally c.args.places.now) _ _ _ c.in-Err.ensures.lent c.in-Err.ensures.later c.in-Err.ensures.opened
           c.in-Err.refusal c.refused.result c.refused.ensures.status c.in-Err.ensures.err c.in-Err.ensures.page_part
-          (λ r e. let is = c.in-Err.ensures.words_first r e in cc) (λ k e. c.in-Err.ensures.of_words k (ap (λ r. Err r) e)) c.refused.ensures.line (λ alone. c.in-Err.ensures.ahead (c.requires.alone alone));
+          (λ r e. let is = c.in-Err.ensures.words_first r e in cc) (λ k e. c.in-Err.ensures.of_words k (ap (λ r. Err r) e)) c.refused.ensures.line c.in-Err.ensures.least (λ alone. c.in-Err.ensures.ahead (c.requires.alone alone));
       back = c.in-Err.ensures.back;
       remembered = λ is. absurd (never-ok c.in-Err.refusal (sym is ∙ c.refused.ensures.status));
       ahead = λ bounded. read_so (map string_bytes c.args.words.now) before after c.in-Err.refusal c.refused.result c.refused.ensures.status (c.in-Err.ensures.ahead bounded);

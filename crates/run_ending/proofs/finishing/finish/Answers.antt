@@ -1,4 +1,4 @@
-use Rattle.std.proofs.Common.{◌<◌, ◌+◌, ◌∙◌, length, refl, sym, subst, arith}
+use Rattle.std.proofs.Common.{◌≡◌, ◌<◌, ◌+◌, ◌∙◌, length, refl, sym, subst, arith}
 use Rattle.std.proofs.lemmas.Option.{slice_get_read, slice_get_within, same_Some}
 use Rattle.stage_kinds.specs.Held.{faults_of}
 use Rattle.run_ending.specs.Finished.{IsFinished}
@@ -22,6 +22,8 @@ loop-i-preserved g c =
       finished = finished-more g.P.PlugFilter g.Q.PlugTally faults c.args.works.items c.loop-i.works.items c.loop-i.i v c.finish.new.self now.later here c.finish.ensures.op c.finish.ensures.cause.later c.finish.ensures.handed
           (IsFinished bytes) 0 now.finished (λ a e. subst (λ x. IsFinished bytes x c.finish.new.self) (same_Some v a (sym was ∙ e))
           (λ form ps h. c.in-Ok.ensures.file form ps h.is h.holds h.nowhere));
+      calm = finished-more g.P.PlugFilter g.Q.PlugTally faults c.args.works.items c.loop-i.works.items c.loop-i.i v c.finish.new.self now.later here c.finish.ensures.op c.finish.ensures.cause.later c.finish.ensures.handed
+          (λ a b. faults b ≡ faults a) 0 now.calm (λ a e. subst (λ x. faults c.finish.new.self ≡ faults x) (same_Some v a (sym was ∙ e)) c.in-Ok.ensures.cause.calm);
       left = left-more g.P.PlugFilter g.Q.PlugTally faults c.args.works.items c.loop-i.works.items c.loop-i.i v c.finish.new.self now.later here c.finish.ensures.op c.finish.ensures.cause.later c.finish.ensures.handed
           (c.loop-i.i + 1) (omega arith) now.left;
     }
@@ -57,7 +59,7 @@ returns-in-Err-clause-err g c =
     let here = slice_get_read c.loop-i.works.items (length c.loop-i.works.items) c.loop-i.i v refl lt c.index_mut.ensures.value in
     let was = sym (now.left c.loop-i.i (omega arith)) ∙ here in
     unfinished-here g.P.PlugFilter g.Q.PlugTally (faults_of g.S.Source.faults g.K.Sink.faults) c.args.works.items c.loop-i.works.items c.loop-i.i v c.finish.new.self now.later here c.finish.ensures.op c.finish.ensures.cause.later c.finish.ensures.handed
-    c.in-Err.op was c.in-Err.ensures.named c.in-Err.ensures.cause.failed
+    c.in-Err.op was c.in-Err.ensures.named c.in-Err.ensures.cause.failed now.calm
 
 pub returns-clause-finished : goal.returns-clause-finished
 returns-clause-finished g c = λ x v w e f.

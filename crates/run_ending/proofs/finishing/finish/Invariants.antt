@@ -12,5 +12,6 @@ invariant-loop-i g l = record {
   kept : AreKept l.fn.works.items l.works.items;
   others : OthersStay l.fn.works.items l.works.items;
   finished : (x : ℕ) (v w : StageWork _ _ _ _) → x < l.i → slice_get l.fn.works.items x ≡ Some v → slice_get l.works.items x ≡ Some w → IsFinished g.K.Sink.bytes v w;
+  calm : (x : ℕ) (v w : StageWork _ _ _ _) → x < l.i → slice_get l.fn.works.items x ≡ Some v → slice_get l.works.items x ≡ Some w → faults_of g.S.Source.faults g.K.Sink.faults w ≡ faults_of g.S.Source.faults g.K.Sink.faults v;
   left : (x : ℕ) → l.i ≤ x → slice_get l.works.items x ≡ slice_get l.fn.works.items x;
 }

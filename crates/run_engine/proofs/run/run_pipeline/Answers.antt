@@ -2,6 +2,7 @@ use Rattle.std.proofs.Common.{◌+◌, IsOkAnd, option_map, refl, ap, sym, subst
 use Rattle.answer_model.specs.Runs.{run_of}
 use Rattle.run_ending.proofs.Taken.{on-ok-more}
 use Rattle.run_outcome.specs.Cause.{IsLeft, IsRun}
+use Rattle.run_outcome.specs.Least.{IsNamedBy}
 use Rattle.run_outcome.proofs.Results.{if-ok, if-err}
 use Rattle.run_outcome.proofs.Causes.{rose-within}
 use Rattle.run_engine.specs.Stopping.{ends_at}
@@ -98,3 +99,7 @@ returns-clause-untold g c = λ none. c.close.ensures.untold (c.prepare.ensures.m
 
 pub returns-clause-back : goal.returns-clause-back
 returns-clause-back g c = c.close.ensures.back c.args.places.now (c.run-enough.ensures.out c.args.places.now c.prepare.new.places c.in_ok-job.ensures.out)
+
+pub returns-clause-least : goal.returns-clause-least
+returns-clause-least g c = if-err c.close.result c.close.ensures.least (λ refusal named.
+    subst (λ o. IsNamedBy c.args.stages.now o (g.F.Files.counts c.close.new.files) refusal) c.in_ok-job.ensures.counts named)

@@ -39,7 +39,7 @@ returns-in-Filters-clause-ok g c =
     let does : role_of o ≡ role.Filters = subst (IsForm o) c.in-Filters.is c.requires.form in
     subst (λ r. IsWork s k map c.args.number o r c.args.form c.args.layout.now (Filter f)) (sym c.in_default.is)
     (other-work s k map c.args.number o c.args.form c.args.layout.now (Filter f) (ap is_reading does) (sym (ap op_for does))
-    (λ setting e laid. subst (λ form. IsStarted {S = g.row.F-In.Denot} {K = g.row.F-Out.Denot} {P = g.row.P.Denot} {Q = g.row.Q.Denot} k.bytes setting.dims form (Filter f)) (sym c.in-Filters.is ∙ e) refl))
+    (λ setting e laid. subst (λ form. IsStarted {S = g.row.F-In.Denot} {K = g.row.F-Out.Denot} {P = g.row.P.Denot} {Q = g.row.Q.Denot} k.bytes setting.dims form (Filter f)) (sym c.in-Filters.is ∙ e) refl) refl)
 
 pub returns-in-Filters-clause-lent_ok : goal.returns-in-Filters-clause-lent_ok
 returns-in-Filters-clause-lent_ok g c = let nothing = ap there c.in_default.is in omega (arith, nothing)
@@ -55,7 +55,7 @@ returns-in-Gathers-clause-ok g c =
     subst (λ r. IsWork s k map c.args.number o r c.args.form c.args.layout.now (Collector w)) (sym c.in_default.is)
     (other-work s k map c.args.number o c.args.form c.args.layout.now (Collector w) does.1 (sym does.0)
     (λ setting e laid. subst (λ form. IsStarted {S = g.row.F-In.Denot} {K = g.row.F-Out.Denot} {P = g.row.P.Denot} {Q = g.row.Q.Denot} k.bytes setting.dims form (Collector w)) (sym c.in-Gathers.is ∙ e)
-    (record { makes = c.new.ensures.making; short = c.new.ensures.short; views = c.new.ensures.views })))
+    (record { makes = c.new.ensures.making; short = c.new.ensures.short; views = c.new.ensures.views })) refl)
 
 pub returns-in-Gathers-clause-lent_ok : goal.returns-in-Gathers-clause-lent_ok
 returns-in-Gathers-clause-lent_ok g c = let nothing = ap there c.in_default.is in omega (arith, nothing)

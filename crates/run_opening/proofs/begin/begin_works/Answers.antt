@@ -1,11 +1,12 @@
-use Rattle.std.proofs.Common.{◌≡◌, ◌+◌, ◌<◌, ◌≤◌, [], ◌∷◌, length, reverse, vec_len, refl, ap, sym, subst, ◌∙◌, arith, length-set}
+use Rattle.std.proofs.Common.{◌≡◌, ◌+◌, ◌<◌, ◌≤◌, [], ◌∷◌, ◌++◌, drop, length, reverse, vec_len, refl, ap, sym, subst, ◌∙◌, arith, length-set}
 use Rattle.circular_buffer.proofs.Places.{slice_get-set_other}
 use Rattle.std.proofs.lemmas.List.{map-append, reverse-reverse}
-use Rattle.std.proofs.lemmas.Option.{slice_get_read, get_or_from_slice_get, same_Some}
-use Rattle.std.specs.Prelude.{slice_get, slice_index_or, map, None, Some}
+use Rattle.std.proofs.lemmas.Option.{slice_get_read, slice_get_within, get_or_from_slice_get, same_Some}
+use Rattle.std.specs.Prelude.{slice_get, slice_index_or, map, None, Some, option_map, IfSome}
 use Rattle.answer_model.specs.Naming.{is_used}
 use Rattle.cloud_points.specs.declared.layout.Layout.{Layout}
-use Rattle.file_devices.specs.Counts.{Rose}
+use Rattle.file_devices.specs.Counts.{Rose, all_listed, saturating}
+use Rattle.file_devices.specs.Told.{IsAsTold}
 use Rattle.stage_kinds.specs.declared.file_form.StageForm.TheVariants.{Reads}
 use Rattle.plug_stages.proofs.Out.{none-out}
 use Rattle.plug_stages.specs.Handed.{filter_nature, handed_by, tally_nature_at}
@@ -22,12 +23,12 @@ use Rattle.run_opening.proofs.Works.{filter-is, handed-before, nothing-taken, ta
 use Rattle.stage_options.specs.declared.stage.StageSpec.{StageSpec}
 use Rattle.answer_model.specs.Values.{options_at}
 use Rattle.run_opening.specs.Begun.{IsFine, IsForm, IsOpened, IsWork}
-use Rattle.held_devices.specs.Holding.{there, all_there, all_held}
-use Rattle.held_devices.proofs.Lists.{each-push, popped, one_less}
+use Rattle.held_devices.specs.Holding.{there, all_there, all_held, source_counts}
+use Rattle.held_devices.proofs.Lists.{each-push, popped, one_less, some_at}
 use Rattle.held_devices.proofs.Sums.{sum-push, sum-pop, sum-reverse, none-there}
-use Rattle.run_outcome.proofs.Causes.{rose-within, cause-weaker}
 use Rattle.run_outcome.proofs.Stages.{stage-is, role-is}
 use Rattle.run_opening.proofs.Beginning.{uncreated-cause}
+use Rattle.run_opening.proofs.Named.{uncreated-named}
 use Rattle.run_opening.proofs.begin.begin_works.Goals as goal
 
 pub loop-reader-init : goal.loop-reader-init
@@ -47,13 +48,14 @@ loop-reader-init g c =
       };
       filters = λ j le lt. refl;
       tallies = λ j le lt. refl;
-      forms = c.requires.forms;
+      forms = c.requires.made.forms_each;
       left_forms = λ j le. refl;
       works = c.in-Ok.ensures.len;
       room = c.in-Ok.ensures.capacity;
       map = refl;
       lent = λ others e. (let a = ap all_there turned ∙ sum-reverse there c.args.readers.items in let b : all_held c.in-Ok.works.items ≡ 0 = ap all_held empty in omega (arith, a, b, e));
       read = refl;
+      counts = refl;
       later = omega arith;
     }
 
@@ -62,10 +64,10 @@ begin_work-requires-clause-opened g c =
     let now = c.loop-reader.invariant in
     let p = popped c.args.readers.items c.loop-reader.readers.items c.pop.new.self.items c.loop-reader.at c.in-Some.reader now.left c.in-Some.ensures.items in
     let n = one_less c.loop-reader.at (vec_len c.loop-reader.readers) (vec_len c.pop.new.self) (length c.args.readers.items) now.count c.in-Some.ensures.cases in
-    let at = slice_get_read c.args.stages.now (length c.args.stages.now) c.loop-reader.at c.index-stages-at.result refl (let a = n.0 in let b = c.requires.count in omega (arith, a, b)) c.index-stages-at.is in
+    let at = slice_get_read c.args.stages.now (length c.args.stages.now) c.loop-reader.at c.index-stages-at.result refl (let a = n.0 in let b = c.requires.made.readers_each in omega (arith, a, b)) c.index-stages-at.is in
     subst (λ map. IsOpened g.F.In.Source map c.loop-reader.at (role_of c.index-stages-at.result.options) c.in-Some.reader) (sym now.map)
     (subst (λ role. IsOpened g.F.In.Source (g.F.Files.map c.args.files.now) c.loop-reader.at role c.in-Some.reader) (sym (role-is c.args.stages.now c.loop-reader.at c.index-stages-at.result at))
-    (c.requires.opened c.loop-reader.at c.in-Some.reader p.0))
+    (c.requires.made.opened c.loop-reader.at c.in-Some.reader p.0))
 
 pub begin_work-requires-clause-fine : goal.begin_work-requires-clause-fine
 begin_work-requires-clause-fine g c =
@@ -74,34 +76,63 @@ begin_work-requires-clause-fine g c =
     let n = one_less c.loop-reader.at (vec_len c.loop-reader.readers) (vec_len c.pop.new.self) (length c.args.readers.items) now.count c.in-Some.ensures.cases in
     let reader-here = get_or_from_slice_get c.args.readers.items c.loop-reader.at c.in-Some.reader None p.0 in
     let form-there = sym (now.left_forms c.loop-reader.at (omega arith)) ∙ slice_get_read c.loop-reader.forms.items (length c.loop-reader.forms.items) c.loop-reader.at c.index_mut.result.now refl
-    (let a = n.0 in let b = c.requires.count in let d = now.forms in omega (arith, a, b, d)) c.index_mut.ensures.value in
-    subst (IsFine c.in-Some.reader) (sym c.replace-form.ensures.value) (subst (λ r. IsFine r c.index_mut.result.now) reader-here (c.requires.fine c.loop-reader.at c.index_mut.result.now form-there))
+    (let a = n.0 in let b = c.requires.made.readers_each in let d = now.forms in omega (arith, a, b, d)) c.index_mut.ensures.value in
+    subst (IsFine c.in-Some.reader) (sym c.replace-form.ensures.value) (subst (λ r. IsFine r c.index_mut.result.now) reader-here (c.requires.made.fine c.loop-reader.at c.index_mut.result.now form-there))
 
 pub returns-in-Err-clause-err : goal.returns-in-Err-clause-err
 returns-in-Err-clause-err g c =
     let files = g.F.Files in
     let now = c.loop-reader.invariant in
     let n = one_less c.loop-reader.at (vec_len c.loop-reader.readers) (vec_len c.pop.new.self) (length c.args.readers.items) now.count c.in-Some.ensures.cases in
-    let lt : c.loop-reader.at < length c.args.stages.now = (let a = n.0 in let b = c.requires.count in omega (arith, a, b)) in
+    let lt : c.loop-reader.at < length c.args.stages.now = (let a = n.0 in let b = c.requires.made.readers_each in omega (arith, a, b)) in
     let at = slice_get_read c.args.stages.now (length c.args.stages.now) c.loop-reader.at c.index-stages-at.result refl lt c.index-stages-at.is in
-    let rose = Rose (files.faults c.loop-reader.files) (files.faults c.begin_work.new.files) in
-    let end : files.faults c.begin_work.new.files ≤ files.faults c.release_works.new.files = (let a = c.give_back-in-Err.ensures.later in let b = c.release_works.ensures.later in omega (arith, a, b)) in
+    let made = Rose (files.faults c.loop-reader.files) (files.faults c.begin_work.new.files) in
     let handed = handed_by g.P.PlugFilter g.Q.PlugTally c.args.places.now in
-    cause-weaker handed (files.map c.args.files.now) c.args.stages.now c.in-Err.refusal
-    (rose-within (files.faults c.args.files.now) (files.faults c.loop-reader.files) (files.faults c.begin_work.new.files) (files.faults c.release_works.new.files) now.later end)
-    (uncreated-cause rose handed (files.map c.args.files.now) c.args.stages.now c.loop-reader.at c.in-Err.refusal lt c.requires.come
-    (ap is_writing (sym (role-is c.args.stages.now c.loop-reader.at c.index-stages-at.result at)) ∙ c.in-Err.ensures.writes) c.in-Err.ensures.err)
+    uncreated-cause g.F.Out.Sink.faults made (Rose (files.faults c.args.files.now) (files.faults c.release_works.new.files)) handed (files.map c.args.files.now) c.args.stages.now c.loop-reader.at c.in-Err.sink c.in-Err.refusal
+    (λ rose. (let a = now.later in let b = c.give_back-in-Err.ensures.later in let d = c.drop_sink.ensures.later in let e = c.release_works.ensures.later in omega (arith, rose, a, b, d, e)))
+    (λ k is some. (
+    let one : saturating (files.faults c.give_back-in-Err.new.files) (g.F.Out.Sink.faults k) ≤ files.faults c.drop_sink.new.files = subst (λ o. IfSome o (λ x. saturating (files.faults c.give_back-in-Err.new.files) (g.F.Out.Sink.faults x) ≤ files.faults c.drop_sink.new.files)) is c.drop_sink.ensures.counted in
+    let a = now.later in let b = c.begin_work.ensures.later in let d = c.give_back-in-Err.ensures.later in let e = c.release_works.ensures.later in omega (arith, some, one, a, b, d, e)))
+    lt c.requires.come (ap is_writing (sym (role-is c.args.stages.now c.loop-reader.at c.index-stages-at.result at)) ∙ c.in-Err.ensures.writes) c.in-Err.ensures.err
 
 pub returns-in-Err-clause-lent_err : goal.returns-in-Err-clause-lent_err
 returns-in-Err-clause-lent_err g c = λ others e.
     let files = g.F.Files in
     let now = c.loop-reader.invariant in
     let sum = sum-pop there c.loop-reader.readers.items c.pop.new.self.items c.in-Some.reader c.in-Some.ensures.items in
+    let back = ap all_there c.reverse-in-Err.ensures.items ∙ sum-reverse there c.pop.new.self.items in
     let a = now.lent others e in
-    let same = c.in-Err.ensures.lent_err in
+    let lent = c.in-Err.ensures.lent_err in
     let none = c.in-Err.ensures.none in
-    let b = c.give_back-in-Err.ensures.lent (others + all_held c.loop-reader.works.items) (omega (arith, a, sum, same, none)) in
-    c.release_works.ensures.lent others b
+    let b = c.give_back-in-Err.ensures.lent (others + all_held c.loop-reader.works.items + there c.in-Err.sink) (omega (arith, a, sum, back, lent, none)) in
+    let d = c.drop_sink.ensures.lent (others + all_held c.loop-reader.works.items) b in
+    c.release_works.ensures.lent others d
+
+pub returns-in-Err-clause-least : goal.returns-in-Err-clause-least
+returns-in-Err-clause-least g c =
+    let s = g.F.In.Source in
+    let k = g.F.Out.Sink in
+    let files = g.F.Files in
+    let now = c.loop-reader.invariant in
+    let stages = c.args.stages.now in
+    let readers = c.args.readers.items in
+    let p = popped readers c.loop-reader.readers.items c.pop.new.self.items c.loop-reader.at c.in-Some.reader now.left c.in-Some.ensures.items in
+    let n = one_less c.loop-reader.at (vec_len c.loop-reader.readers) (vec_len c.pop.new.self) (length readers) now.count c.in-Some.ensures.cases in
+    let lt : c.loop-reader.at < length stages = (let a = n.0 in let b = c.requires.made.readers_each in omega (arith, a, b)) in
+    let at = slice_get_read stages (length stages) c.loop-reader.at c.index-stages-at.result refl lt c.index-stages-at.is in
+    let size : c.loop-reader.at ≡ length c.loop-reader.works.items = (let a = now.works in let x = c.loop-reader.works.ok in omega (arith, a, x)) in
+    let made = Rose (files.faults c.loop-reader.files) (files.faults c.begin_work.new.files) in
+    let rest = c.reverse-in-Err.ensures.items ∙ p.1 in
+    let first = subst (λ rs. IsAsTold (files.counts c.give_back-in-Err.new.files) (option_map (λ cs. all_listed (source_counts s.faults rs) ++ cs) (files.counts c.begin_work.new.files))) rest c.give_back-in-Err.ensures.told in
+    uncreated-named s (files.map c.args.files.now) stages readers c.requires.made.opened k c.loop-reader.works.items c.loop-reader.at size lt c.requires.made.readers_each
+    (ap is_writing (sym (role-is stages c.loop-reader.at c.index-stages-at.result at)) ∙ c.in-Err.ensures.writes)
+    (λ j w e.
+    let l = some_at c.args.bound.layouts.items j (let a = slice_get_within c.loop-reader.works.items j w e in let b = c.requires.made.layouts_each in omega (arith, a, size, lt, b)) in
+    let work = now.begun j w l.0 e l.1 in
+    (work.calm, work.device)) made c.in-Err.sink c.in-Err.refusal (files.counts c.args.files.now) (files.counts c.give_back-in-Err.new.files) (files.counts c.drop_sink.new.files) (files.counts c.release_works.new.files)
+    c.in-Err.ensures.err
+    (subst (λ o. IsAsTold (files.counts c.give_back-in-Err.new.files) (option_map (λ cs. all_listed (source_counts s.faults (drop (c.loop-reader.at + 1) readers)) ++ cs) o)) (c.begin_work.ensures.counts ∙ now.counts) first)
+    c.drop_sink.ensures.told c.release_works.ensures.told
 
 pub loop-reader-preserved : goal.loop-reader-preserved
 loop-reader-preserved g c =
@@ -109,15 +140,15 @@ loop-reader-preserved g c =
     let now = c.loop-reader.invariant in
     let p = popped c.args.readers.items c.loop-reader.readers.items c.pop.new.self.items c.loop-reader.at c.in-Some.reader now.left c.in-Some.ensures.items in
     let n = one_less c.loop-reader.at (vec_len c.loop-reader.readers) (vec_len c.pop.new.self) (length c.args.readers.items) now.count c.in-Some.ensures.cases in
-    let at = slice_get_read c.args.stages.now (length c.args.stages.now) c.loop-reader.at c.index-stages-at.result refl (let a = n.0 in let b = c.requires.count in omega (arith, a, b)) c.index-stages-at.is in
+    let at = slice_get_read c.args.stages.now (length c.args.stages.now) c.loop-reader.at c.index-stages-at.result refl (let a = n.0 in let b = c.requires.made.readers_each in omega (arith, a, b)) c.index-stages-at.is in
     let size : c.loop-reader.at ≡ length c.loop-reader.works.items = (let a = now.works in let k = c.loop-reader.works.ok in omega (arith, a, k)) in
     let pushed = c.push_reserved.ensures.items in
     let o = options_at c.args.stages.now c.loop-reader.at in
     let reader-here = get_or_from_slice_get c.args.readers.items c.loop-reader.at c.in-Some.reader None p.0 in
     let form-there = sym (now.left_forms c.loop-reader.at (omega arith)) ∙ slice_get_read c.loop-reader.forms.items (length c.loop-reader.forms.items) c.loop-reader.at c.index_mut.result.now refl
-    (let a = n.0 in let b = c.requires.count in let d = now.forms in omega (arith, a, b, d)) c.index_mut.ensures.value in
+    (let a = n.0 in let b = c.requires.made.readers_each in let d = now.forms in omega (arith, a, b, d)) c.index_mut.ensures.value in
     let form-here = c.replace-form.ensures.value ∙ sym (get_or_from_slice_get c.args.bound.forms.items c.loop-reader.at c.index_mut.result.now (Reads []) form-there) in
-    let laid-here = slice_get_read c.args.bound.layouts.items (length c.args.bound.layouts.items) c.loop-reader.at c.index.result.now refl (let a = n.0 in let b = c.requires.count in let d = c.requires.layouts in omega (arith, a, b, d)) c.index.ensures in
+    let laid-here = slice_get_read c.args.bound.layouts.items (length c.args.bound.layouts.items) c.loop-reader.at c.index.result.now refl (let a = n.0 in let b = c.requires.made.readers_each in let d = c.requires.made.layouts_each in omega (arith, a, b, d)) c.index.ensures in
     let one = subst (λ f. IsWork g.F.In.Source g.F.Out.Sink (files.map c.args.files.now) c.loop-reader.at o (slice_index_or c.args.readers.items c.loop-reader.at None) f c.index.result.now c.in-Ok-begin_work.work) form-here
     (subst (λ r. IsWork g.F.In.Source g.F.Out.Sink (files.map c.args.files.now) c.loop-reader.at o r c.replace-form.result c.index.result.now c.in-Ok-begin_work.work) (sym reader-here)
     (subst (λ x. IsWork g.F.In.Source g.F.Out.Sink (files.map c.args.files.now) c.loop-reader.at x c.in-Some.reader c.replace-form.result c.index.result.now c.in-Ok-begin_work.work) (ap (λ (s : StageSpec). s.options) (sym (stage-is c.args.stages.now c.loop-reader.at c.index-stages-at.result at)))
@@ -126,7 +157,7 @@ loop-reader-preserved g c =
     let ts = g.Q.PlugTally in
     let before = handed_by fs ts c.args.places.now in
     let here = handed_by fs ts c.loop-reader.places in
-    let inside : c.loop-reader.at < length c.args.stages.now = (let a = n.0 in let b = c.requires.count in omega (arith, a, b)) in
+    let inside : c.loop-reader.at < length c.args.stages.now = (let a = n.0 in let b = c.requires.made.readers_each in omega (arith, a, b)) in
     let in-hand = subst (λ x. IsHandedIn fs ts x here c.in-Ok-begin_work.work) (ap (λ (s : StageSpec). s.options) (sym (stage-is c.args.stages.now c.loop-reader.at c.index-stages-at.result at))) c.in-Ok-begin_work.ensures.handed in
     let less = sum-pop there c.loop-reader.readers.items c.pop.new.self.items c.in-Some.reader c.in-Some.ensures.items in
     let more = ap all_held pushed ∙ sum-push (λ w. there (op_of w)) c.loop-reader.works.items c.in-Ok-begin_work.work in
@@ -167,6 +198,7 @@ loop-reader-preserved g c =
       map = c.begin_work.ensures.map ∙ now.map;
       lent = λ others e. (let a = now.lent others e in let b = c.in-Ok-begin_work.ensures.lent_ok in omega (arith, a, b, less, more));
       read = c.begin_work.ensures.read ∙ now.read;
+      counts = c.begin_work.ensures.counts ∙ now.counts;
       later = (let a = c.begin_work.ensures.later in let b = now.later in omega (arith, a, b));
     }
 
@@ -181,17 +213,17 @@ pub begin_work-requires-clause-form : goal.begin_work-requires-clause-form
 begin_work-requires-clause-form g c =
     let now = c.loop-reader.invariant in
     let n = one_less c.loop-reader.at (vec_len c.loop-reader.readers) (vec_len c.pop.new.self) (length c.args.readers.items) now.count c.in-Some.ensures.cases in
-    let at = slice_get_read c.args.stages.now (length c.args.stages.now) c.loop-reader.at c.index-stages-at.result refl (let a = n.0 in let b = c.requires.count in omega (arith, a, b)) c.index-stages-at.is in
+    let at = slice_get_read c.args.stages.now (length c.args.stages.now) c.loop-reader.at c.index-stages-at.result refl (let a = n.0 in let b = c.requires.made.readers_each in omega (arith, a, b)) c.index-stages-at.is in
     let form-there = sym (now.left_forms c.loop-reader.at (omega arith)) ∙ slice_get_read c.loop-reader.forms.items (length c.loop-reader.forms.items) c.loop-reader.at c.index_mut.result.now refl
-    (let a = n.0 in let b = c.requires.count in let d = now.forms in omega (arith, a, b, d)) c.index_mut.ensures.value in
+    (let a = n.0 in let b = c.requires.made.readers_each in let d = now.forms in omega (arith, a, b, d)) c.index_mut.ensures.value in
     subst (IsForm c.index-stages-at.result.options) (sym c.replace-form.ensures.value)
-    (subst (λ p. IsForm p c.index_mut.result.now) (ap (λ (s : StageSpec). s.options) (stage-is c.args.stages.now c.loop-reader.at c.index-stages-at.result at)) (c.requires.fits c.loop-reader.at c.index_mut.result.now form-there))
+    (subst (λ p. IsForm p c.index_mut.result.now) (ap (λ (s : StageSpec). s.options) (stage-is c.args.stages.now c.loop-reader.at c.index-stages-at.result at)) (c.requires.made.fits c.loop-reader.at c.index_mut.result.now form-there))
 
 pub begin_work-requires-clause-found : goal.begin_work-requires-clause-found
 begin_work-requires-clause-found g c =
     let now = c.loop-reader.invariant in
     let n = one_less c.loop-reader.at (vec_len c.loop-reader.readers) (vec_len c.pop.new.self) (length c.args.readers.items) now.count c.in-Some.ensures.cases in
-    let inside : c.loop-reader.at < length c.args.stages.now = (let a = n.0 in let b = c.requires.count in omega (arith, a, b)) in
+    let inside : c.loop-reader.at < length c.args.stages.now = (let a = n.0 in let b = c.requires.made.readers_each in omega (arith, a, b)) in
     let at = slice_get_read c.args.stages.now (length c.args.stages.now) c.loop-reader.at c.index-stages-at.result refl inside c.index-stages-at.is in
     let fs = g.P.PlugFilter in
     let ts = g.Q.PlugTally in

@@ -27,6 +27,7 @@ invariant-loop-reader g l =
       map : files.map l.files ≡ files.map l.fn.files;
       lent : (others : ℕ) → files.lent l.fn.files ≡ others + all_there l.fn.readers.items → files.lent l.files ≡ others + all_there l.readers.items + all_held l.works.items;
       read : files.read_to l.files ≡ files.read_to l.fn.files;
+      counts : files.counts l.files ≡ files.counts l.fn.files;
       later : files.faults l.fn.files ≤ files.faults l.files;
     }
 

@@ -7,11 +7,12 @@ use Rattle.answer_model.specs.Values.{role_at}
 use Rattle.run_opening.specs.Begun.{IsOpened}
 use Rattle.held_devices.specs.Holding.{there, all_there}
 use Rattle.run_outcome.specs.Cause.{IsCause}
-use Rattle.run_opening.specs.Opening.{IsUnopened}
+use Rattle.run_opening.specs.Opening.{IsUnopened, ToldUnopened}
 use Rattle.run_outcome.proofs.Causes.{rose-within, cause-weaker}
 use Rattle.held_devices.proofs.Lists.{each-push}
 use Rattle.held_devices.proofs.Sums.{sum-push}
 use Rattle.run_outcome.proofs.Stages.{role-is}
+use Rattle.run_opening.proofs.Named.{unopened-named}
 use Rattle.run_opening.proofs.Opening.{are-read, unopened-cause}
 use Rattle.run_opening.proofs.open.open_readers.Goals as goal
 
@@ -33,6 +34,21 @@ returns-in-Err-clause-err g c = λ handed.
     (unopened-cause rose handed (files.map c.loop-i.files) c.args.stages.now c.loop-i.i c.in-Err.refusal lt
     (λ m e. are-read g.F.In.Source (files.map c.args.files.now) c.args.stages.now c.loop-i.readers.items c.loop-i.i size now.opened m (sym now.map ∙ e)) why))
 
+pub returns-in-Err-clause-least : goal.returns-in-Err-clause-least
+returns-in-Err-clause-least g c =
+    let s = g.F.In.Source in
+    let files = g.F.Files in
+    let now = c.loop-i.invariant in
+    let stages = c.args.stages.now in
+    let lt : c.loop-i.i < length stages = (let a = c.loop-i-test.true in omega (arith, a)) in
+    let at = slice_get_read stages (length stages) c.loop-i.i c.index-stages-i.result refl lt c.index-stages-i.is in
+    let size : c.loop-i.i ≡ length c.loop-i.readers.items = (let a = now.count in let k = c.loop-i.readers.ok in omega (arith, a, k)) in
+    let rose = Rose (files.faults c.loop-i.files) (files.faults c.open_stage.new.files) in
+    let why = subst (λ role. IsUnopened rose (files.map c.loop-i.files) c.loop-i.i role c.in-Err.refusal) (role-is stages c.loop-i.i c.index-stages-i.result at) c.in-Err.ensures.err in
+    unopened-named s (files.map c.args.files.now) stages c.loop-i.readers.items now.opened c.loop-i.i size lt rose c.in-Err.refusal (files.counts c.args.files.now) (files.counts c.open_stage.new.files) (files.counts c.give_back.new.files)
+    (subst (λ m. IsUnopened rose m c.loop-i.i (role_at stages c.loop-i.i) c.in-Err.refusal) now.map why)
+    (subst (λ o. ToldUnopened o (files.counts c.open_stage.new.files) c.in-Err.refusal) now.counts c.in-Err.ensures.told) c.give_back.ensures.told
+
 pub loop-i-preserved : goal.loop-i-preserved
 loop-i-preserved g c =
     let files = g.F.Files in
@@ -51,5 +67,6 @@ loop-i-preserved g c =
       map = c.open_stage.ensures.map ∙ now.map;
       lent = (let a = c.in-Ok-open_stage.ensures.lent_ok in let b = now.lent in omega (arith, a, b, sum));
       read = c.in-Ok-open_stage.ensures.read ∙ now.read;
+      counts = c.in-Ok-open_stage.ensures.counts ∙ now.counts;
       later = (let a = c.open_stage.ensures.later in let b = now.later in omega (arith, a, b));
     }

@@ -14,5 +14,6 @@ invariant-loop-i g l =
       map : files.map l.files ≡ files.map l.fn.files;
       lent : files.lent l.files ≡ files.lent l.fn.files + all_there l.readers.items;
       read : files.read_to l.files ≡ files.read_to l.fn.files;
+      counts : files.counts l.files ≡ files.counts l.fn.files;
       later : files.faults l.fn.files ≤ files.faults l.files;
     }

@@ -3,12 +3,13 @@ use Rattle.std.proofs.lemmas.Result.{err_from_is_err_and}
 use Rattle.answer_model.proofs.Values.{tree-down}
 use Rattle.file_devices.specs.Counts.{Rose}
 use Rattle.plug_stages.specs.Handed.{handed_by}
-use Rattle.run_opening.specs.Begun.{AreBegun, AreForms, AreLayouts, AreNamesBound, IsUnbound}
+use Rattle.run_opening.specs.Begun.{AreBegun, AreFine, AreForms, AreLayouts, AreNamesBound, AreOpened, IsUnbound}
 use Rattle.run_outcome.specs.Cause.{IsCause}
+use Rattle.run_outcome.specs.Least.{IsNamedBy}
 use Rattle.stage_forms.specs.Below.{AreReaders}
 use Rattle.run_outcome.proofs.Results.{if-ok, if-err, if-on-err}
 use Rattle.run_outcome.proofs.Causes.{rose-within, cause-weaker}
-use Rattle.run_opening.proofs.Bound.{are-at-start, are-ready, can-begin, unbound-before, unbound-cause, unbound-early}
+use Rattle.run_opening.proofs.Bound.{are-at-start, are-ready, can-begin, unbound-before, unbound-cause, unbound-early, unbound-named}
 use Rattle.run_opening.proofs.Works.{if-ok3, nothing-taken, on-err}
 use Rattle.run_opening.proofs.Opening.{are-read, are-readers, have-readers}
 use Rattle.run_opening.proofs.ready.ready_works.Goals as goal
@@ -35,6 +36,16 @@ returns-in-Err-clause-before g c =
 
 pub returns-in-Err-clause-lent_err : goal.returns-in-Err-clause-lent_err
 returns-in-Err-clause-lent_err g c = c.give_back.ensures.lent (g.F.Files.lent c.args.files.now) c.in_ok-readers.ensures.lent_ok
+
+pub begin_works-requires-clause-made : goal.begin_works-requires-clause-made
+begin_works-requires-clause-made g c = record {
+  opened = subst (λ map. AreOpened g.F.In.Source map c.args.stages.now c.in_ok-readers.readers.items) (sym c.open_readers.ensures.map) c.in_ok-readers.ensures.ok;
+  readers_each = c.in_ok-readers.ensures.count;
+  fits = c.in-Ok.ensures.fits;
+  fine = subst (λ rs. AreFine rs c.in-Ok.bound.forms.items) c.as_slice.ensures.value c.in-Ok.ensures.fine;
+  forms_each = c.in-Ok.ensures.count;
+  layouts_each = c.in-Ok.ensures.as_many;
+}
 
 pub begin_works-requires-clause-come : goal.begin_works-requires-clause-come
 begin_works-requires-clause-come g c = λ m e. can-begin g.F.In.Source (handed_by g.P.PlugFilter g.Q.PlugTally c.args.places.now) (g.F.Files.map c.args.files.now) c.args.stages.now c.in_ok-readers.readers.items c.in_ok-readers.ensures.count c.in_ok-readers.ensures.ok
@@ -87,3 +98,12 @@ returns-in_err-readers-clause-err g c =
     let refused : c.from_residual.result ≡ Err refusal = p.1 ∙ ap Err same in
     subst (λ r. IfErr r (IsCause (Rose (files.faults c.args.files.now) (files.faults c.open_readers.new.files)) handed (files.map c.args.files.now) c.args.stages.now)) (sym refused)
     (c.in_err-readers.ensures.err handed)
+
+pub returns-in-Err-clause-least : goal.returns-in-Err-clause-least
+returns-in-Err-clause-least g c =
+    unbound-named c.args.stages.now c.in_ok-readers.readers.items (g.F.Files.counts c.args.files.now) (g.F.Files.counts c.give_back.new.files) c.in-Err.refusal
+    (subst (λ rs. IsUnbound c.args.stages.now rs c.in-Err.refusal) c.as_slice.ensures.value c.in-Err.ensures.err)
+
+pub returns-clause-least : goal.returns-clause-least
+returns-clause-least g c = if-err c.begin_works.result c.begin_works.ensures.least (λ refusal named.
+    subst (λ o. IsNamedBy c.args.stages.now o (g.F.Files.counts c.begin_works.new.files) refusal) c.in_ok-readers.ensures.counts named)

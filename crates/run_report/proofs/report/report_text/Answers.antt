@@ -9,7 +9,7 @@ pub loop-count-preserved : goal.loop-count-preserved
 loop-count-preserved g c =
     reporting_more c.args.report.now c.loop-count.count-index _ _ _ _ _ _ _ (search rules)
     (subst (λ text. Appends (g.K.Sink.bytes c.loop-count.out) text (g.K.Sink.bytes c.append.new.self)) (c.as_bytes.ensures.value ∙ c.deref.ensures.0 ∙ c.stage_text-text.ensures ∙ ap stage_text c.count-item.is) c.in_ok-append.ensures.ok)
-    c.in_ok-append.ensures.cause.later c.loop-count.invariant
+    c.in_ok-append.ensures.cause.calm c.loop-count.invariant
 
 pub returns-in_err-append-clause-part : goal.returns-in_err-append-clause-part
 returns-in_err-append-clause-part g c =

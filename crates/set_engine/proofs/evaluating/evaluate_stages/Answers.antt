@@ -2,7 +2,7 @@ use Rattle.std.proofs.Common.{◌≡◌, ℕ, ◌+◌, ◌<◌, ◌≤◌, [], �
 use Rattle.std.specs.Prelude.{slice_get, Some}
 use Rattle.std.proofs.Math.ListN.{set}
 use Rattle.std.proofs.lemmas.List.{get_or-set_same}
-use Rattle.std.proofs.lemmas.Option.{slice_get-get_or, slice_get_read, get_or_from_slice_get}
+use Rattle.std.proofs.lemmas.Option.{same_Some, slice_get-get_or, slice_get_read, get_or_from_slice_get}
 use Rattle.answer_model.specs.Values.{or_shown, role_at, row_at, stage_at, las_at}
 use Rattle.cloud_points.specs.Events.{is_device}
 use Rattle.cloud_points.specs.Flows.{join_all}
@@ -28,7 +28,10 @@ loop-i-init g c = record {
   told = ap length c.new-faults.ensures;
   after = all-stay g.P.PlugFilter g.Q.PlugTally (faults_of g.S.Source.faults g.K.Sink.faults) c.args.works.now;
   rest = λ j le. refl;
-  caused = λ j o e. absurd (let none = sym (ap (λ found. fault_at found j) c.new-faults.ensures) ∙ e in cc);
+  caused = record {
+    failed = λ j o e. absurd (let none = sym (ap (λ found. fault_at found j) c.new-faults.ensures) ∙ e in cc);
+    calm = λ j v w a b quiet. ap (faults_of g.S.Source.faults g.K.Sink.faults) (same_Some w v (sym b ∙ a));
+  };
   up_to = λ none opened told. (rw (c.in_ok-values.ensures.items, c.new-report.ensures, c.new-faults.ensures) (none-yet g.K.Sink.bytes g.P.PlugFilter g.Q.PlugTally c.args.stages.now c.requires.tree opened c.args.works.now c.args.works.now));
 }
 

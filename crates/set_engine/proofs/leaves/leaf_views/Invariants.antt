@@ -1,4 +1,4 @@
-use Rattle.std.proofs.Common.{◌≡◌, ◌+◌, ◌≤◌, ◌++◌, true, false}
+use Rattle.std.proofs.Common.{◌≡◌, ◌+◌, ◌++◌, true, false}
 use Rattle.cloud_points.specs.Marks.{piece_marks}
 use Rattle.set_engine.proofs.leaves.leaf_views.Given as goal
 
@@ -10,7 +10,7 @@ invariant-giving g l =
       leaf : work.leaf l.leaf ≡ true;
       op : work.op l.leaf ≡ work.op l.fn.leaf;
       meaning : work.meaning l.leaf ≡ work.meaning l.fn.leaf;
-      later : work.faults l.fn.leaf ≤ work.faults l.leaf;
+      calm : work.faults l.leaf ≡ work.faults l.fn.leaf;
       tells : work.tells l.fn.leaf ≡ true → work.tells l.leaf ≡ true;
       told : work.tells l.fn.leaf ≡ true → work.told l.fn.leaf ≡ piece_marks l.views ++ work.told l.leaf;
       fault : work.tells l.fn.leaf ≡ true → work.told_fault l.fn.leaf ≡ work.told_fault l.leaf;

@@ -1,6 +1,6 @@
 use Rattle.std.proofs.Common.{◌≡◌, true, ap, inl, inr}
 use Rattle.stage_kinds.specs.Stages.{is_leaf}
-use Rattle.set_engine.proofs.OfCaller.{bare, caller-after, caller-gave, caller-kept, is_of_caller, none-caused, stays-bare}
+use Rattle.set_engine.proofs.OfCaller.{bare, caller-after, caller-calm, caller-gave, caller-kept, is_of_caller, none-caused, stays-bare}
 use Rattle.set_engine.proofs.StageGiving.{writer-gave, leaf-gave, leaf-kept}
 use Rattle.set_engine.proofs.stages.stage_views.Goals as goal
 
@@ -42,7 +42,7 @@ returns-in-Plug g c =
     let new = c.shown_views.new.work in
     record {
       ok = caller-gave fs ts g.K.Sink.bytes c.args.taken work new of ensures.meaning g.S.Source.bytes c.shown_views.result ensures.value ensures.fault ensures.state;
-      caused = none-caused _ _ c.shown_views.result ensures.no_device;
+      caused = none-caused _ _ _ c.shown_views.result ensures.no_device (caller-calm fs ts g.S.Source.faults g.K.Sink.faults work new of ensures.meaning);
       keeps = caller-kept fs ts work new c.shown_views.result of ensures.meaning;
       after = caller-after fs ts g.S.Source.faults g.K.Sink.faults work new of ensures.meaning;
     }

@@ -47,7 +47,7 @@ loop-v-preserved g c =
       holds = λ held. subst (λ ps. holds_chosen g.K.Sink.bytes c.write_view.new.writer ps ≡ true)
           (ap (λ ps. before ++ ps) c.view.ensures ∙ sym whole)
           (c.in-Ok.ensures.holds before (now.holds held));
-      later = (let a = c.write_view.ensures.later in let b = now.later in omega (arith, a, b));
+      calm = c.in-Ok.ensures.calm (λ e. cc) ∙ now.calm;
     }
 
 pub returns-in-Ok-write_view-clause-sound : goal.returns-in-Ok-write_view-clause-sound

@@ -1,4 +1,4 @@
-use Rattle.std.proofs.Common.{◌≡◌, ◌≤◌, [], take, length, true, None}
+use Rattle.std.proofs.Common.{◌≡◌, [], take, length, true, None}
 use Rattle.cloud_points.specs.Flows.{all_of}
 use Rattle.cloud_points.specs.Queue.{up_to_limit}
 use Rattle.stage_kinds.specs.Files.{chosen, count_of, sink_of}
@@ -16,5 +16,5 @@ invariant-loop-v g l =
       none : count_of l.fn.writer.file ≡ 0 → first_stop (writes_of l.fn.writer) 0 before ≡ None;
       count : count_of l.fn.writer.file ≡ 0 → count_of l.writer.file ≡ up_to_limit (length (chosen (only_of l.fn.writer) before));
       holds : holds_chosen sink.bytes l.fn.writer [] ≡ true → holds_chosen sink.bytes l.writer before ≡ true;
-      later : sink.faults (sink_of l.fn.writer.file) ≤ sink.faults (sink_of l.writer.file);
+      calm : sink.faults (sink_of l.writer.file) ≡ sink.faults (sink_of l.fn.writer.file);
     }

@@ -43,5 +43,5 @@ loop-k-preserved g c =
           (append_assoc earlier (take i view) (p ∷ [])
           ∙ ap (λ ps. earlier ++ ps) (ap (λ (q : Point). take i view ++ q ∷ []) (sym here) ∙ sym (take_more view i p lt)))
           (c.in-Ok.ensures.holds (earlier ++ take i view) (now.holds earlier held));
-      later = (let a = c.take.ensures.later in let b = now.later in omega (arith, a, b));
+      calm = c.in-Ok.ensures.calm (λ e. cc) ∙ now.calm;
     }

@@ -1,4 +1,4 @@
-use Rattle.std.proofs.Common.{◌≡◌, ◌≤◌, ◌+◌, ◌++◌, ℕ, List, length, take, true, None}
+use Rattle.std.proofs.Common.{◌≡◌, ◌+◌, ◌++◌, ℕ, List, length, take, true, None}
 use Rattle.cloud_points.specs.Queue.{up_to_limit}
 use Rattle.cloud_points.specs.declared.point.Point.{Point}
 use Rattle.stage_kinds.specs.Files.{chosen, count_of, sink_of}
@@ -16,5 +16,5 @@ invariant-loop-k g l =
       none : (k : ℕ) → count_of l.fn.writer.file ≡ up_to_limit k → first_stop (writes_of l.fn.writer) (up_to_limit k) before ≡ None;
       count : (k : ℕ) → count_of l.fn.writer.file ≡ up_to_limit k → count_of l.writer.file ≡ up_to_limit (k + length (chosen (only_of l.fn.writer) before));
       holds : (earlier : List Point) → holds_chosen sink.bytes l.fn.writer earlier ≡ true → holds_chosen sink.bytes l.writer (earlier ++ before) ≡ true;
-      later : sink.faults (sink_of l.fn.writer.file) ≤ sink.faults (sink_of l.writer.file);
+      calm : sink.faults (sink_of l.writer.file) ≡ sink.faults (sink_of l.fn.writer.file);
     }

@@ -12,7 +12,7 @@ loop-at-preserved g c =
       holds = λ before h. subst (λ ps. holds_chosen g.K.Sink.bytes c.put_chunk.new.writer ps ≡ true)
           (more-taken before c.args.view.now c.copy_into.new.into.items c.loop-at.at c.min-count.result c.copy_into.ensures)
           (c.in_ok-put_chunk.ensures.holds (before ++ take c.loop-at.at c.args.view.now) (now.holds before h));
-      later = (let a = now.later in let b = c.put_chunk.ensures.cause.later in omega (arith, a, b));
+      calm = c.in_ok-put_chunk.ensures.cause.calm ∙ now.calm;
     }
 
 pub returns-clause-holds : goal.returns-clause-holds

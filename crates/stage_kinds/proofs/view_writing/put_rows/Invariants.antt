@@ -10,7 +10,7 @@ invariant-loop-at g l = record {
   within : l.at ≤ length l.view;
   form : writes_of l.writer ≡ writes_of l.fn.writer;
   holds : (before : List Point) → holds_chosen g.K.Sink.bytes l.fn.writer before ≡ true → holds_chosen g.K.Sink.bytes l.writer (before ++ take l.at l.view) ≡ true;
-  later : g.K.Sink.faults (sink_of l.fn.writer.file) ≤ g.K.Sink.faults (sink_of l.writer.file);
+  calm : g.K.Sink.faults (sink_of l.writer.file) ≡ g.K.Sink.faults (sink_of l.fn.writer.file);
 }
 
 abbrev pub decreases-loop-at : goal.decreases-loop-at

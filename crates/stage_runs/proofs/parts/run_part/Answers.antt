@@ -38,7 +38,7 @@ overflow_cast-children g c =
 
 pub renew_root-requires-clause-leaf : goal.renew_root-requires-clause-leaf
 renew_root-requires-clause-leaf g c =
-    root-leaf g.S.Source g.K.Sink g.P.PlugFilter g.Q.PlugTally g.T.Scheduler.fits c.args.plan.now c.args.room c.args.home c.args.root c.args.sizes.queue c.args.nodes.now c.requires.room c.requires.root c.requires.fresh c.as_slice-homes.ensures.value c.lend.ensures c.children.ensures c.requires.inputs
+    root-leaf g.S.Source g.K.Sink g.P.PlugFilter g.Q.PlugTally g.T.Scheduler.fits c.args.plan.now c.args.room c.args.home c.args.root c.args.sizes.queue c.args.nodes.now c.requires.room c.requires.root c.requires.fresh c.as_slice-homes.ensures.value c.lend.ensures c.children.ensures (λ n e. (c.requires.waits n e).0)
 
 pub run_net-net-requires-clause-some : goal.run_net-net-requires-clause-some
 run_net-net-requires-clause-some g c =
@@ -82,7 +82,7 @@ let_go-requires g c =
 
 pub returns-clause-later : goal.returns-clause-later
 returns-clause-later g c =
-    part-later g.S.Source g.K.Sink g.P.PlugFilter g.Q.PlugTally g.T.Scheduler.fits c.args.plan.now c.args.room c.args.home c.args.root c.args.sizes.queue c.args.nodes.now c.requires.room c.requires.root c.requires.fresh c.as_slice-homes.ensures.value c.lend.ensures c.children.ensures c.renew_root.ensures.renewed c.run_net-net.ensures.later c.lend-2.ensures
+    part-later g.S.Source g.K.Sink g.P.PlugFilter g.Q.PlugTally g.T.Scheduler.fits c.args.plan.now c.args.room c.args.home c.args.root c.args.sizes.queue c.args.nodes.now c.requires.room c.requires.root c.requires.fresh c.as_slice-homes.ensures.value c.lend.ensures c.children.ensures c.renew_root.ensures.renewed c.run_net-net.ensures.later c.lend-2.ensures (λ n e. (c.requires.waits n e).1)
 
 pub returns-clause-run : goal.returns-clause-run
 returns-clause-run g c =

@@ -102,8 +102,8 @@ run_part-requires-clause-forest g c = part-forest g.S.Source g.K.Sink g.P.PlugFi
 pub run_part-requires-clause-fresh : goal.run_part-requires-clause-fresh
 run_part-requires-clause-fresh g c = part-fresh g.S.Source g.K.Sink g.P.PlugFilter g.Q.PlugTally c.args.stages.now c.requires.tree c.requires.new c.args.plan.now c.requires.gathers c.requires.ins c.requires.homes (g.T.Scheduler.besides c.args.sizes.queue) c.loop-at.at c.loop-at.invariant.later c.loop-at.invariant.done c.loop-at-test.true c.index.ensures c.if-index.true
 
-pub run_part-requires-clause-inputs : goal.run_part-requires-clause-inputs
-run_part-requires-clause-inputs g c = part-inputs g.S.Source g.K.Sink g.P.PlugFilter g.Q.PlugTally c.args.stages.now c.requires.tree c.requires.new c.args.plan.now c.requires.gathers c.requires.ins c.requires.homes (g.T.Scheduler.besides c.args.sizes.queue) c.loop-at.at c.loop-at.invariant.later c.loop-at.invariant.done c.loop-at-test.true c.index.ensures c.if-index.true
+pub run_part-requires-clause-waits : goal.run_part-requires-clause-waits
+run_part-requires-clause-waits g c = part-inputs g.S.Source g.K.Sink g.P.PlugFilter g.Q.PlugTally c.args.stages.now c.requires.tree c.requires.new c.args.plan.now c.requires.gathers c.requires.ins c.requires.homes (g.T.Scheduler.besides c.args.sizes.queue) c.loop-at.at c.loop-at.invariant.later c.loop-at.invariant.done c.loop-at-test.true c.index.ensures c.if-index.true
 
 pub returns-in_err-run_part-clause-later : goal.returns-in_err-run_part-clause-later
 returns-in_err-run_part-clause-later g c =

@@ -6,7 +6,7 @@ use Rattle.text_writer.proofs.writer.put_points.Goals as goal
 pub loop-from-preserved : goal.loop-from-preserved
 loop-from-preserved g c =
     putting_more c.args.form.now c.args.points.now c.loop-from.from c.next_stop-to.result _ _ _ _ _ _ _ _ (omega (arith, c.next_stop-to.ensures.later)) c.next_stop-to.ensures.within (search rules)
-    c.in_ok-append_lines.ensures.ok c.in_ok-append_lines.ensures.cause.later c.loop-from.invariant.put c.loop-from.invariant.later
+    c.in_ok-append_lines.ensures.ok c.in_ok-append_lines.ensures.cause.calm c.loop-from.invariant.put c.loop-from.invariant.calm
 
 pub returns-in_err-append_lines-clause-part : goal.returns-in_err-append_lines-clause-part
 returns-in_err-append_lines-clause-part g c =

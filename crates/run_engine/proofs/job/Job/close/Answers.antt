@@ -17,7 +17,9 @@ use Rattle.run_engine.specs.Blame.{IsBlamed}
 use Rattle.run_engine.specs.Done.{AreDone}
 use Rattle.run_engine.specs.Jobs.{HaveCome, CameTo}
 use Rattle.run_engine.proofs.Stopping.{cause-by}
-use Rattle.run_engine.proofs.Blamed.{failed-first, failed-finish, failed-all}
+use Rattle.run_engine.proofs.Come.{none-came}
+use Rattle.run_engine.proofs.Named.{finish-named, keep-named, turns-named}
+use Rattle.run_engine.proofs.Blamed.{all-calm, failed-first, failed-finish, failed-all}
 use Rattle.run_engine.proofs.Ran.{later-on, done-on}
 use Rattle.run_engine.proofs.Answers.{fault-cause, fault-early, unfinished-to-cause, same-held, fit, is-run, unkept-cause, unkept-left, unkept-no-data}
 use Rattle.run_engine.proofs.Early.{early-left, unfinished-early}
@@ -103,11 +105,7 @@ returns-in-Err-outcome-clause-lent g c =
     λ others h. c.release_works-in-Err-outcome.ensures.lent others (h ∙ ap (λ n. others + n) (sym (same-held faults works done c.finish-works.ensures.later)))
 
 pub returns-in-Err-outcome-clause-refused : goal.returns-in-Err-outcome-clause-refused
-returns-in-Err-outcome-clause-refused g c = λ refusal came.
-    let met : refusal_for c.in-Done.ended.faults.items ≡ Some refusal = subst (CameTo {S = g.row.S.Denot} {K = g.row.K.Denot} {P = g.row.P.Denot} {Q = g.row.Q.Denot} {E = g.row.E.Denot} refusal) c.in-Done.is came in
-    let none : refusal_for c.in-Done.ended.faults.items ≡ None = subst (λ fs. refusal_for fs ≡ None) c.as_slice.ensures.value c.in_default.ensures.ok in
-    let no : None ≡ Some refusal = sym none ∙ met in
-    absurd cc
+returns-in-Err-outcome-clause-refused g c = λ refusal came. absurd (none-came refusal c.args.self.step c.in-Done.ended c.in-Done.is c.as_slice.ensures.value c.in_default.ensures.ok came)
 
 pub keep_all-requires-clause-fit : goal.keep_all-requires-clause-fit
 keep_all-requires-clause-fit g c =
@@ -171,11 +169,7 @@ returns-in-Err-keep_all-clause-left g c = λ stop handed m ran.
     unkept-left s k fs ts handed (Some m) stages ran.before done ran.ready faults later counts ended (Rose (files.faults c.args.files.now) (files.faults c.keep_all.new.files)) old new why c.in-Err-keep_all.ensures.err m refl
 
 pub returns-in-Err-keep_all-clause-refused : goal.returns-in-Err-keep_all-clause-refused
-returns-in-Err-keep_all-clause-refused g c = λ refusal came.
-    let met : refusal_for c.in-Done.ended.faults.items ≡ Some refusal = subst (CameTo {S = g.row.S.Denot} {K = g.row.K.Denot} {P = g.row.P.Denot} {Q = g.row.Q.Denot} {E = g.row.E.Denot} refusal) c.in-Done.is came in
-    let none : refusal_for c.in-Done.ended.faults.items ≡ None = subst (λ fs. refusal_for fs ≡ None) c.as_slice.ensures.value c.in_default.ensures.ok in
-    let no : None ≡ Some refusal = sym none ∙ met in
-    absurd cc
+returns-in-Err-keep_all-clause-refused g c = λ refusal came. absurd (none-came refusal c.args.self.step c.in-Done.ended c.in-Done.is c.as_slice.ensures.value c.in_default.ensures.ok came)
 
 pub returns-in-Err-keep_all-clause-untold : goal.returns-in-Err-keep_all-clause-untold
 returns-in-Err-keep_all-clause-untold g c = c.keep_all.ensures.untold
@@ -223,11 +217,7 @@ returns-in-Ok-clause-remembered g c = λ stop handed m before ran is named out.
     c.args.places.now c.keep_all.new.places out c.in-Ok.ensures.put ended.leaves
 
 pub returns-in-Ok-clause-refused : goal.returns-in-Ok-clause-refused
-returns-in-Ok-clause-refused g c = λ refusal came.
-    let met : refusal_for c.in-Done.ended.faults.items ≡ Some refusal = subst (CameTo {S = g.row.S.Denot} {K = g.row.K.Denot} {P = g.row.P.Denot} {Q = g.row.Q.Denot} {E = g.row.E.Denot} refusal) c.in-Done.is came in
-    let none : refusal_for c.in-Done.ended.faults.items ≡ None = subst (λ fs. refusal_for fs ≡ None) c.as_slice.ensures.value c.in_default.ensures.ok in
-    let no : None ≡ Some refusal = sym none ∙ met in
-    absurd cc
+returns-in-Ok-clause-refused g c = λ refusal came. absurd (none-came refusal c.args.self.step c.in-Done.ended c.in-Done.is c.as_slice.ensures.value c.in_default.ensures.ok came)
 
 pub returns-in-Ok-clause-untold : goal.returns-in-Ok-clause-untold
 returns-in-Ok-clause-untold g c = c.keep_all.ensures.untold
@@ -252,7 +242,7 @@ returns-in-Err-clause-blamed g c = λ i o same.
     let came = subst (HaveCome s k fs ts stop stages ran.before works) c.in-Done.is ran.came in
     let found : refusal_for c.in-Done.ended.faults.items ≡ Some c.in-Err.refusal = subst (λ fs. refusal_for fs ≡ Some c.in-Err.refusal) c.as_slice.ensures.value c.in-Err.ensures.err in
     let is : c.in-Err.refusal ≡ Device (Stage i) o = cc in
-    let first = failed-first s k fs ts stages stop ran.before works c.in-Done.ended.faults.items c.in-Done.ended.report.items came ran.later i o (found ∙ ap (λ r. Some r) is) in
+    let first = failed-first s k fs ts stages stop ran.before works c.in-Done.ended.faults.items c.in-Done.ended.report.items came ran.later ran.ready.calm i o (found ∙ ap (λ r. Some r) is) in
     subst (λ step. IsBlamed (faults_of s.faults k.faults) (Rose (g.F.Files.faults c.args.files.now) (g.F.Files.faults c.release_works-in-Err.new.files)) works step i o) (sym c.in-Done.is) (inl first)
 
 pub returns-in-Err-outcome-clause-blamed : goal.returns-in-Err-outcome-clause-blamed
@@ -270,7 +260,10 @@ returns-in-Err-outcome-clause-blamed g c = λ i o same.
     let sound = not-refused c.in-Done.ended.faults.items none in
     let unfinished = err-of (IsUnfinished faults works done) c.finish-works.result.outcome c.in-Err-outcome.refusal c.in-Err-outcome.is c.finish-works.ensures.err in
     let is : c.in-Err-outcome.refusal ≡ Device (Stage i) o = cc in
-    let last = failed-finish s k fs ts stages works done c.in-Done.ended.faults.items (files.faults c.args.files.now) (files.faults c.release_works-in-Err-outcome.new.files) sound c.release_works-in-Err-outcome.ensures.counted i o
+    let ran = c.requires.ran.3 in
+    let came = subst (HaveCome s k fs ts c.requires.ran.0 stages ran.before works) c.in-Done.is ran.came in
+    let calm = all-calm s k fs ts stages c.requires.ran.0 ran.before works c.in-Done.ended.faults.items c.in-Done.ended.report.items came ran.later ran.ready.calm sound in
+    let last = failed-finish s k fs ts stages works done c.in-Done.ended.faults.items (files.faults c.args.files.now) (files.faults c.release_works-in-Err-outcome.new.files) sound calm c.release_works-in-Err-outcome.ensures.counted i o
     (subst (IsUnfinished faults works done) is unfinished) in
     subst (λ step. IsBlamed faults (Rose (files.faults c.args.files.now) (files.faults c.release_works-in-Err-outcome.new.files)) works step i o) (sym c.in-Done.is) (inr last)
 
@@ -290,7 +283,9 @@ returns-in-Err-keep_all-clause-blamed g c = λ i o same.
     let sound = not-refused c.in-Done.ended.faults.items none in
     let rose = Rose (files.faults c.args.files.now) (files.faults c.keep_all.new.files) in
     let is : c.in-Err-keep_all.refusal ≡ Device (Stage i) o = cc in
-    let last = failed-all s k fs ts stages works done c.in-Done.ended.faults.items rose (files.map c.args.files.now) (files.map c.keep_all.new.files) sound (fit s k fs ts c.requires.ran.1 c.requires.ran.2 stages ran.before works ran.ready faults ran.later)
+    let came = subst (HaveCome s k fs ts c.requires.ran.0 stages ran.before works) c.in-Done.is ran.came in
+    let calm = all-calm s k fs ts stages c.requires.ran.0 ran.before works c.in-Done.ended.faults.items c.in-Done.ended.report.items came ran.later ran.ready.calm sound in
+    let last = failed-all s k fs ts stages works done c.in-Done.ended.faults.items rose (files.map c.args.files.now) (files.map c.keep_all.new.files) sound calm (fit s k fs ts c.requires.ran.1 c.requires.ran.2 stages ran.before works ran.ready faults ran.later)
     c.finish-works.ensures.later c.finish-works.ensures.kept i o (subst (IsUnkept k.bytes rose (files.map c.args.files.now) (files.map c.keep_all.new.files) stages done) is c.in-Err-keep_all.ensures.err) in
     subst (λ step. IsBlamed faults rose works step i o) (sym c.in-Done.is) (inr last)
 
@@ -298,25 +293,13 @@ pub returns-in-Err-clause-read : goal.returns-in-Err-clause-read
 returns-in-Err-clause-read g c = λ refusal came. c.release_works-in-Err.ensures.read
 
 pub returns-in-Err-outcome-clause-read : goal.returns-in-Err-outcome-clause-read
-returns-in-Err-outcome-clause-read g c = λ refusal came.
-    let met : refusal_for c.in-Done.ended.faults.items ≡ Some refusal = subst (CameTo {S = g.row.S.Denot} {K = g.row.K.Denot} {P = g.row.P.Denot} {Q = g.row.Q.Denot} {E = g.row.E.Denot} refusal) c.in-Done.is came in
-    let none : refusal_for c.in-Done.ended.faults.items ≡ None = subst (λ fs. refusal_for fs ≡ None) c.as_slice.ensures.value c.in_default.ensures.ok in
-    let no : None ≡ Some refusal = sym none ∙ met in
-    absurd cc
+returns-in-Err-outcome-clause-read g c = λ refusal came. absurd (none-came refusal c.args.self.step c.in-Done.ended c.in-Done.is c.as_slice.ensures.value c.in_default.ensures.ok came)
 
 pub returns-in-Err-keep_all-clause-read : goal.returns-in-Err-keep_all-clause-read
-returns-in-Err-keep_all-clause-read g c = λ refusal came.
-    let met : refusal_for c.in-Done.ended.faults.items ≡ Some refusal = subst (CameTo {S = g.row.S.Denot} {K = g.row.K.Denot} {P = g.row.P.Denot} {Q = g.row.Q.Denot} {E = g.row.E.Denot} refusal) c.in-Done.is came in
-    let none : refusal_for c.in-Done.ended.faults.items ≡ None = subst (λ fs. refusal_for fs ≡ None) c.as_slice.ensures.value c.in_default.ensures.ok in
-    let no : None ≡ Some refusal = sym none ∙ met in
-    absurd cc
+returns-in-Err-keep_all-clause-read g c = λ refusal came. absurd (none-came refusal c.args.self.step c.in-Done.ended c.in-Done.is c.as_slice.ensures.value c.in_default.ensures.ok came)
 
 pub returns-in-Ok-clause-read : goal.returns-in-Ok-clause-read
-returns-in-Ok-clause-read g c = λ refusal came.
-    let met : refusal_for c.in-Done.ended.faults.items ≡ Some refusal = subst (CameTo {S = g.row.S.Denot} {K = g.row.K.Denot} {P = g.row.P.Denot} {Q = g.row.Q.Denot} {E = g.row.E.Denot} refusal) c.in-Done.is came in
-    let none : refusal_for c.in-Done.ended.faults.items ≡ None = subst (λ fs. refusal_for fs ≡ None) c.as_slice.ensures.value c.in_default.ensures.ok in
-    let no : None ≡ Some refusal = sym none ∙ met in
-    absurd cc
+returns-in-Ok-clause-read g c = λ refusal came. absurd (none-came refusal c.args.self.step c.in-Done.ended c.in-Done.is c.as_slice.ensures.value c.in_default.ensures.ok came)
 
 pub returns-in-Err-keep_all-clause-data : goal.returns-in-Err-keep_all-clause-data
 returns-in-Err-keep_all-clause-data g c = λ i f e.
@@ -345,3 +328,56 @@ pub returns-in-Ok-clause-back : goal.returns-in-Ok-clause-back
 returns-in-Ok-clause-back g c = λ before out. released-back g.P.PlugFilter g.Q.PlugTally c.args.stages.now before c.finish-works.result.works.items c.args.places.now c.keep_all.new.places
     (c.keep_all.ensures.filters _ _) (c.keep_all.ensures.tallies _ _)
     (later-out (faults_of g.S.Source.faults g.K.Sink.faults) c.args.self.works.items c.finish-works.result.works.items c.finish-works.ensures.later out)
+
+pub returns-in-Err-clause-least : goal.returns-in-Err-clause-least
+returns-in-Err-clause-least g c =
+    let s = g.S.Source in
+    let k = g.K.Sink in
+    let fs = g.P.PlugFilter in
+    let ts = g.Q.PlugTally in
+    let files = g.F.Files in
+    let stages = c.args.stages.now in
+    let works = c.args.self.works.items in
+    let stop = c.requires.ran.0 in
+    let ran = c.requires.ran.3 in
+    let came = subst (HaveCome s k fs ts stop stages ran.before works) c.in-Done.is ran.came in
+    let found : refusal_for c.in-Done.ended.faults.items ≡ Some c.in-Err.refusal = subst (λ fs. refusal_for fs ≡ Some c.in-Err.refusal) c.as_slice.ensures.value c.in-Err.ensures.err in
+    turns-named s k stages (files.counts c.args.files.now) (files.counts c.release_works-in-Err.new.files) c.in-Done.ended.faults.items works c.in-Err.refusal
+    (λ i o is. failed-first s k fs ts stages stop ran.before works c.in-Done.ended.faults.items c.in-Done.ended.report.items came ran.later ran.ready.calm i o (found ∙ ap (λ r. Some r) is))
+    (ran.later.count ∙ ran.ready.count) (fit s k fs ts c.requires.ran.1 c.requires.ran.2 stages ran.before works ran.ready (faults_of s.faults k.faults) ran.later) c.release_works-in-Err.ensures.told
+
+pub returns-in-Err-outcome-clause-least : goal.returns-in-Err-outcome-clause-least
+returns-in-Err-outcome-clause-least g c =
+    let s = g.S.Source in
+    let k = g.K.Sink in
+    let fs = g.P.PlugFilter in
+    let ts = g.Q.PlugTally in
+    let files = g.F.Files in
+    let stages = c.args.stages.now in
+    let faults = faults_of s.faults k.faults in
+    let works = c.args.self.works.items in
+    let done = c.finish-works.result.works.items in
+    let ran = c.requires.ran.3 in
+    let came = subst (HaveCome s k fs ts c.requires.ran.0 stages ran.before works) c.in-Done.is ran.came in
+    let none : refusal_for c.in-Done.ended.faults.items ≡ None = subst (λ fs. refusal_for fs ≡ None) c.as_slice.ensures.value c.in_default.ensures.ok in
+    let sound = not-refused c.in-Done.ended.faults.items none in
+    let calm = all-calm s k fs ts stages c.requires.ran.0 ran.before works c.in-Done.ended.faults.items c.in-Done.ended.report.items came ran.later ran.ready.calm sound in
+    let unfinished = err-of (IsUnfinished faults works done) c.finish-works.result.outcome c.in-Err-outcome.refusal c.in-Err-outcome.is c.finish-works.ensures.err in
+    let later = c.finish-works.ensures.later in
+    finish-named s k stages (files.counts c.args.files.now) (files.counts c.release_works-in-Err-outcome.new.files) works done c.in-Err-outcome.refusal calm (ran.later.count ∙ ran.ready.count) later.count later.op
+    (fit s k fs ts c.requires.ran.1 c.requires.ran.2 stages ran.before done ran.ready faults (later-on faults ran.before works done ran.later later)) unfinished c.release_works-in-Err-outcome.ensures.told
+
+pub returns-in-Err-keep_all-clause-least : goal.returns-in-Err-keep_all-clause-least
+returns-in-Err-keep_all-clause-least g c =
+    let s = g.S.Source in
+    let k = g.K.Sink in
+    let fs = g.P.PlugFilter in
+    let ts = g.Q.PlugTally in
+    let files = g.F.Files in
+    let stages = c.args.stages.now in
+    let faults = faults_of s.faults k.faults in
+    let works = c.args.self.works.items in
+    let done = c.finish-works.result.works.items in
+    let ran = c.requires.ran.3 in
+    keep-named s k stages (files.counts c.args.files.now) (files.counts c.keep_all.new.files) done (Rose (files.faults c.args.files.now) (files.faults c.keep_all.new.files)) (files.map c.args.files.now) (files.map c.keep_all.new.files) c.in-Err-keep_all.refusal
+    (fit s k fs ts c.requires.ran.1 c.requires.ran.2 stages ran.before done ran.ready faults (later-on faults ran.before works done ran.later c.finish-works.ensures.later)) c.in-Err-keep_all.ensures.err
