@@ -109,8 +109,8 @@ impl PackedRows {
         free
     }
 
-    // Takes the rows in hand that go to some places: of each the row of its source, or that which is in hand for it. They are
-    // read one after the other, so that none waits for the memory of another.
+    // Takes the rows in hand that go to some places: of each the row of its source, or that which is in hand for it. All are
+    // asked for before one is taken, so that memory brings many of them at once, and so is where the next ones come from.
     fn take_sources(
         &self,
         free: &[usize],
@@ -127,6 +127,7 @@ impl PackedRows {
         requires few { end ≤ start + 64 }
         ensures { AreGoing self.now.layout start end self.now.points sources.now taken.now free.now going.new }
     {
+        self.ask_for(free, sources, going);
         for turn in 0..free.len() {
             let source = sources[free[turn]];
             if start <= source && source < end {
@@ -134,6 +135,25 @@ impl PackedRows {
             } else {
                 self.take_row(source, &mut going[turn]);
             }
+        }
+    }
+
+    // Asks memory for the rows that go to some places, and for where the rows after them come from: reads the two ends of each row
+    // and the source of each source. The hands are but somewhere to put what was read.
+    fn ask_for(&self, free: &[usize], sources: &[usize], hands: &mut Room)
+        requires each { length sources.now ≡ length self.now.points }
+        requires low { (k : ℕ) → k < length self.now.points → get_or sources.now k 0 < length self.now.points }
+        requires inside { (i : ℕ) → i < length free.now → get_or free.now i 0 < length self.now.points }
+        requires many { length free.now ≤ 64 }
+    {
+        for turn in 0..free.len() {
+            let source = sources[free[turn]];
+            let row = self.row(source);
+            if let (Some(first), Some(last)) = (row.first(), row.last()) {
+                hands[turn][0] = *first;
+                hands[turn][1] = *last;
+            }
+            hands[turn][2] = (sources[source] % 256) as u8;
         }
     }
 

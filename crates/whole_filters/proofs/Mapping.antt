@@ -1,6 +1,6 @@
 -- A sort of entries stands for a sort of their points.
 use Rattle.std.proofs.Common.{◌≡◌, ℕ, ◌+◌, ◌<◌, Bool, true, false, cond, List, [], ◌∷◌, ◌++◌, length, length-append, get_or, map, ⊎_elim, refl, ap, sym, ◌∙◌, subst, arith}
-use Rattle.std.specs.Prelude.{ℤ, int_lt, pos, ◌-ℤ◌, slice_get, Some}
+use Rattle.std.specs.Prelude.{ℤ, int_lt, pos, ◌+ℤ◌, ◌-ℤ◌, slice_get, Some}
 use Rattle.std.specs.Cmp.{IsStrictWeakOrder}
 use Rattle.std.specs.List.{range_with_len}
 use Rattle.std.specs.List.Sorted.{IsPermutation}
@@ -19,7 +19,7 @@ use Rattle.whole_filters.specs.Places.{AreKeyed, turned}
 use Rattle.whole_filters.specs.declared.places.Entry.{Entry}
 use Rattle.whole_filters.proofs.Sorting.{Each, each_at, each-sorted, before-order}
 
-map-map : {A B C : Type 0} (f : B → C) (g : A → B) (xs : List A) → map f (map g xs) ≡ map (λ x. f (g x)) xs
+pub map-map : {A B C : Type 0} (f : B → C) (g : A → B) (xs : List A) → map f (map g xs) ≡ map (λ x. f (g x)) xs
 map-map f g [] = refl
 map-map f g (x ∷ xs) = ap (λ z. f (g x) ∷ z) (map-map f g xs)
 
@@ -41,12 +41,31 @@ module _ {E P : Type 0} (f : E → P) (lt : E → E → Bool) (order : IsStrictW
 moved : (m : ℕ) (a b : ℤ) → int_lt (a -ℤ pos m) (b -ℤ pos m) ≡ int_lt a b
 moved m a b = grind (arith, ints)
 
+moved_up : (off a b : ℤ) → int_lt (a +ℤ off) (b +ℤ off) ≡ int_lt a b
+moved_up off a b = grind (arith, ints)
+
 turned_round : (a b : ℤ) → int_lt (turned true a) (turned true b) ≡ int_lt b a
 turned_round a b = grind (arith, ints)
 
 shifted : (down : Bool) (m : ℕ) (a b : ℤ) → int_lt (turned down (a -ℤ pos m)) (turned down (b -ℤ pos m)) ≡ cond down (int_lt b a) (int_lt a b)
 shifted true m a b = turned_round (a -ℤ pos m) (b -ℤ pos m) ∙ moved m b a
 shifted false m a b = moved m a b
+
+-- entries of points as in `AreKeyed`, but their keys are all moved by one number
+pub record AreMoved (dim : Dim) (down : Bool) (points : List Point) (off : ℤ) (entries : List Entry) : Type 0 where
+  pub each : length entries ≡ length points
+  pub key : (k : ℕ) (d : Point) (e : Entry) → k < length points → (get_or entries k e).key ≡ turned down (short_key dim (key_of (get_or points k d) dim)) +ℤ off
+  pub place : (k : ℕ) (e : Entry) → k < length points → (get_or entries k e).place ≡ k
+
+no_move : (z : ℤ) → z +ℤ pos 0 ≡ z
+no_move z = grind (arith, ints)
+
+pub not_moved : (dim : Dim) (down : Bool) (points : List Point) (es : List Entry) → AreKeyed dim down points (length points) es → AreMoved dim down points (pos 0) es
+not_moved dim down points es keyed = record {
+  each = keyed.each;
+  key = λ k d e l. keyed.key k d e l ∙ sym (no_move (turned down (short_key dim (key_of (get_or points k d) dim))));
+  place = keyed.place;
+}
 
 -- the entry of the next point behind the others
 pub keyed_next : (dim : Dim) (down : Bool) (points : List Point) (n : ℕ) (es : List Entry) → AreKeyed dim down points n es → (p : Point) → slice_get points n ≡ Some p
@@ -72,7 +91,7 @@ keyed_next dim down points n es keyed p here entry key place more behind = recor
 none : Entry
 none = record { key = pos 0; place = 0 }
 
-module _ (dim : Dim) (down : Bool) (points : List Point) (es : List Entry) (keyed : AreKeyed dim down points (length points) es) where
+module _ (dim : Dim) (down : Bool) (points : List Point) (off : ℤ) (es : List Entry) (keyed : AreMoved dim down points off es) where
   places_are : map (λ (e : Entry). e.place) es ≡ range_with_len 0 (length points)
   places_are = fill_by_all (λ k. k) (map (λ (e : Entry). e.place) es) (length points) 0 (length-map es (λ (e : Entry). e.place) ∙ keyed.each)
       (λ k l. get_or-map (λ (e : Entry). e.place) es k none 0 (omega (arith, keyed.each, l)) ∙ keyed.place k none l)
@@ -87,7 +106,7 @@ module _ (dim : Dim) (down : Bool) (points : List Point) (es : List Entry) (keye
     point_of e = get_or points e.place d
 
     abbrev KeyOf : Entry → Type 0
-    KeyOf e = e.key ≡ turned down (short_key dim (key_of (point_of e) dim))
+    KeyOf e = e.key ≡ turned down (short_key dim (key_of (point_of e) dim)) +ℤ off
 
     points_are : map point_of es ≡ points
     points_are = same_lists _ _ (length-map es point_of ∙ keyed.each)
@@ -96,11 +115,12 @@ module _ (dim : Dim) (down : Bool) (points : List Point) (es : List Entry) (keye
 
     keys_are : Each KeyOf es
     keys_are = each_at KeyOf es (λ k e l. let in_points : k < length points = omega (arith, keyed.each, l) in
-        keyed.key k d e in_points ∙ ap (λ z. turned down (short_key dim (key_of (get_or points z d) dim))) (sym (keyed.place k e in_points)))
+        keyed.key k d e in_points ∙ ap (λ z. turned down (short_key dim (key_of (get_or points z d) dim)) +ℤ off) (sym (keyed.place k e in_points)))
 
     agree : (a b : Entry) → KeyOf a → KeyOf b → before (λ (p : Point). key_of p dim) down (point_of a) (point_of b) ≡ before (λ (e : Entry). e.key) false a b
     agree a b p q = sym (shifted down (middle_of dim) (key_of (point_of a) dim) (key_of (point_of b) dim))
-        ∙ ap (λ z. int_lt z (turned down (short_key dim (key_of (point_of b) dim)))) (sym p) ∙ ap (λ z. int_lt a.key z) (sym q)
+        ∙ sym (moved_up off (turned down (short_key dim (key_of (point_of a) dim))) (turned down (short_key dim (key_of (point_of b) dim))))
+        ∙ ap (λ z. int_lt z (turned down (short_key dim (key_of (point_of b) dim)) +ℤ off)) (sym p) ∙ ap (λ z. int_lt a.key z) (sym q)
 
     -- and in the order of the keys, the points in that order
     pub places_in_order : (sorted : List Entry) → sorted ≡ sorted_by (before (λ (e : Entry). e.key) false) es

@@ -14,6 +14,7 @@ mod rows;
 mod tailing;
 mod thinning;
 mod views;
+mod words;
 
 pub use gathering::{Gathering, Squares};
 pub use grouping::{group_by, groupby};

@@ -1,27 +1,31 @@
-use Rattle.std.proofs.Common.{ℕ, List, length, get_or, map, ap, sym, ◌∙◌, subst, arith}
+use Rattle.std.proofs.Common.{◌≡◌, ℕ, ◌++◌, ◌%◌, ◌^◌, List, length, get_or, map, take, drop, ap, sym, ◌∙◌, subst}
 use Rattle.std.specs.List.{range_with_len}
 use Rattle.std.specs.List.Sorted.{IsPermutation}
-use Rattle.std.proofs.lemmas.Result.{IfOk-weaker}
-use Rattle.whole_filters.specs.declared.places.Entry.{Entry}
-use Rattle.whole_filters.proofs.Mapping.{each_place, places_in_order}
-use Rattle.whole_filters.proofs.Placing.{rising_from, entries_in_order}
+use Rattle.std.proofs.lemmas.List.{length-map, take_at}
+use Rattle.whole_filters.specs.Places.{AreWords, FitWords}
+use Rattle.whole_filters.proofs.Joining.{words_in_order, words_once}
 use Rattle.whole_filters.proofs.places.order_of.Goals as goal
 
-pub returns-clause-each_once : goal.returns-clause-each_once
-returns-clause-each_once c =
-    let once = each_place c.args.dim c.args.down c.args.points.now c.in_ok-entries.entries.items c.in_ok-entries.ensures c.sort_unstable.new.self.items c.sort_unstable.ensures.permutation in
-    IfOk-weaker c.places_of.result _ _
-    (λ places e. subst (λ (z : List ℕ). IsPermutation (range_with_len 0 (length c.args.points.now)) z)
-    (sym (e ∙ ap (map (λ (x : Entry). x.place)) c.as_slice.ensures.value)) once)
-    c.places_of.ensures
-
-pub returns-clause-in_order : goal.returns-clause-in_order
-returns-clause-in_order c =
-    let es = c.in_ok-entries.entries.items in
-    let keyed = c.in_ok-entries.ensures in
-    let rise = rising_from 0 es (λ k d l. omega (arith, keyed.place k d (omega (arith, keyed.each, l)))) in
-    let only = entries_in_order es c.sort_unstable.new.self.items rise c.sort_unstable.ensures.permutation c.sort_unstable.ensures.sorted in
-    IfOk-weaker c.places_of.result _ _
-    (λ places e d. ap (map (λ k. get_or c.args.points.now k d)) (e ∙ ap (map (λ (x : Entry). x.place)) c.as_slice.ensures.value)
-    ∙ places_in_order c.args.dim c.args.down c.args.points.now es keyed d c.sort_unstable.new.self.items only)
-    c.places_of.ensures
+pub returns-in-Some : goal.returns-in-Some
+returns-in-Some c =
+    let points = c.args.points.now in
+    let keys = c.in_ok-words.words.items in
+    let least = c.in-Some.form.least in
+    let zeros = c.in-Some.form.zeros in
+    let bits = c.in-Some.form.bits in
+    let words = c.join.new.keys in
+    let sorted = c.sort_unstable.new.self.items in
+    let places = c.keep_places.new.words in
+    let fit = subst (FitWords least zeros bits) c.as_slice.ensures.value c.in-Some.ensures in
+    let made = subst (λ z. AreWords least zeros bits z words) c.as_mut_slice.ensures.value c.join.ensures in
+    let moved = subst (λ z. IsPermutation z sorted) (take_at words (drop (length words) keys) c.in_ok-words.words.len (c.join.ensures.each ∙ c.as_mut_slice.ensures.len)) c.sort_unstable.ensures.permutation in
+    let kept : take c.sort_unstable.new.self.len (places ++ drop (length places) sorted) ≡ map (λ w. w % 2 ^ bits) sorted =
+    take_at places (drop (length places) sorted) c.sort_unstable.new.self.len
+    (ap length c.keep_places.ensures ∙ length-map c.as_mut_slice-in-Some.result.now (λ w. w % 2 ^ bits) ∙ c.as_mut_slice-in-Some.ensures.len)
+    ∙ c.keep_places.ensures ∙ ap (map (λ w. w % 2 ^ bits)) c.as_mut_slice-in-Some.ensures.value in
+    record {
+      each_once = subst (λ (z : List ℕ). IsPermutation (range_with_len 0 (length points)) z) (sym kept)
+          (words_once c.args.dim c.args.down points keys c.in_ok-words.ensures least zeros bits fit words made sorted moved);
+      in_order = λ d. ap (map (λ k. get_or points k d)) kept
+          ∙ words_in_order c.args.dim c.args.down points keys c.in_ok-words.ensures least zeros bits fit words made sorted moved c.sort_unstable.ensures.sorted d;
+    }
