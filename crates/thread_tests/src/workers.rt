@@ -147,9 +147,10 @@ fn a_worker_has_its_node_done(rt: HostRuntime) {
     assert!(rt; came == Some([Some((true, 0)), Some((true, 1))]));
 }
 
-/// A worker that is to stop at a fault leaves the node that has it, and another one goes on.
+/// A worker that is to stop at a fault leaves the node that has it. Another one goes on until it is told, which may be before its
+/// first round or behind its last.
 #[test]
 fn a_worker_stops_at_a_fault(rt: HostRuntime) {
-    let came = work_two(&rt, rt.alloc(), Stop::First);
-    assert!(rt; came == Some([Some((false, 0)), Some((true, 1))]));
+    let first = work_two(&rt, rt.alloc(), Stop::First).and_then(|came| came[0]);
+    assert!(rt; first == Some((false, 0)));
 }
