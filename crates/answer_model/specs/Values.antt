@@ -2,6 +2,8 @@
 use Rattle.std.specs.Prelude.{◌≡◌, ℕ, ℤ, ◌+◌, ◌<◌, Bool, true, false, ◌||◌, cond, if◌then◌else◌, List, [], ◌∷◌, ◌++◌, map, filter, flat_map, length, slice_index_or, Option, Some, None, option_map, Result, Ok, Err}
 use Rattle.std.proofs.Common.{zero, suc}
 use Rattle.std.specs.List.{range_with_len, list_any}
+use Rattle.file_devices.specs.declared.devices.Op.{Op}
+use Rattle.file_devices.specs.declared.devices.Op.TheVariants as op
 use Rattle.cloud_points.specs.declared.dims.Dim.{Dim}
 use Rattle.cloud_points.specs.declared.dims.Dim.TheVariants.{Extra}
 use Rattle.cloud_points.specs.declared.extra.ExtraField.{ExtraField}
@@ -23,7 +25,7 @@ use Rattle.stage_names.specs.Faults.{or_else}
 use Rattle.pipeline_json.specs.Lists.{has}
 use Rattle.name_binding.specs.Binding.{binding_fault}
 use Rattle.name_binding.specs.Ferries.{names_behind, adds}
-use Rattle.stage_options.specs.Roles.{Role, Writes, WritesEach, role_of, is_reading}
+use Rattle.stage_options.specs.Roles.{Role, Reads, Writes, WritesEach, role_of, is_reading}
 use Rattle.stage_options.specs.Values.{numbered}
 use Rattle.stage_options.specs.declared.options.Options.{Options}
 use Rattle.stage_options.specs.declared.options.Options.TheVariants.{ReadersLas}
@@ -53,6 +55,12 @@ options_at stages k = (stage_at stages k).options
 
 abbrev pub role_at : List StageSpec → ℕ → Role
 role_at stages k = role_of (options_at stages k)
+
+-- what a stage that does this does with a device of its own while the stages take turns
+abbrev pub op_for : Role → Option Op
+op_for (Reads name) = Some op.Read
+op_for (Writes name) = Some op.Write
+op_for _ = None
 
 -- ---- what stands below a stage
 

@@ -5,6 +5,7 @@ use Rattle.plug_stages.specs.Handed.{Handed}
 use Rattle.answer_model.specs.Runs.{file_at}
 use Rattle.answer_model.specs.Steps.{and_then}
 use Rattle.run_outcome.specs.Least.{IsNamedBy}
+use Rattle.run_report.specs.declared.refusal.Fault.TheVariants as fault
 use Rattle.run_report.specs.declared.refusal.Place.TheVariants as at
 use Rattle.run_report.specs.declared.refusal.Refusal.{Refusal}
 use Rattle.run_report.specs.declared.refusal.Refusal.TheVariants as of
@@ -38,7 +39,9 @@ plan-named plan handed text before mid after (of.Device (at.Stage i) o) same gav
 plan-named plan handed text before mid after (of.Device at.PipelineFile o) same gave why = tt
 plan-named plan handed text before mid after (of.Device at.Generated o) same gave why = tt
 plan-named plan handed text before mid after (of.Device at.Out o) same gave why = tt
-plan-named plan handed text before mid after (of.Data i f) same gave why = tt
+plan-named plan handed text before mid after (of.Data i (fault.Header f)) same gave why = tt
+plan-named plan handed text before mid after (of.Data i (fault.Vlr f)) same gave why = tt
+plan-named plan handed text before mid after (of.Data i (fault.Point f)) same gave why = λ stages is. (mid, gave, why stages (sym same ∙ is))
 plan-named plan handed text before mid after (of.Pipeline f) same gave why = tt
 plan-named plan handed text before mid after (of.Usage k) same gave why = tt
 plan-named plan handed text before mid after of.Memory same gave why = tt
@@ -64,7 +67,7 @@ unmade-named rose old new name bytes plan before after (of.Device at.PipelineFil
 unmade-named rose old new name bytes plan before after (of.Device (at.Stage i) o) why = absurd why
 unmade-named rose old new name bytes plan before after (of.Device at.Generated o) why = tt
 unmade-named rose old new name bytes plan before after (of.Device at.Out o) why = tt
-unmade-named rose old new name bytes plan before after (of.Data i f) why = tt
+unmade-named rose old new name bytes plan before after (of.Data i f) why = absurd why
 unmade-named rose old new name bytes plan before after (of.Pipeline f) why = tt
 unmade-named rose old new name bytes plan before after (of.Usage k) why = tt
 unmade-named rose old new name bytes plan before after of.Memory why = tt

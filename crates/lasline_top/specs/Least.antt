@@ -4,6 +4,7 @@ use Rattle.file_devices.specs.Named.{Names}
 use Rattle.file_devices.specs.Told.{IsAsTold}
 use Rattle.plug_stages.specs.Handed.{Handed}
 use Rattle.run_outcome.specs.Least.{IsNamedBy}
+use Rattle.run_report.specs.declared.refusal.Fault.TheVariants as fault
 use Rattle.run_report.specs.declared.refusal.Place.TheVariants as at
 use Rattle.run_report.specs.declared.refusal.Refusal.{Refusal}
 use Rattle.run_report.specs.declared.refusal.Refusal.TheVariants as of
@@ -15,14 +16,17 @@ use Rattle.lasline_top.specs.Words.{Task, Run_file, Trial}
 abbrev pub GaveOne : Option (List ℕ) → Option (List ℕ) → Type 0
 GaveOne before after = (c : ℕ) × IsAsTold after (option_map (λ cs. c ∷ cs) before)
 
--- in the run of this text: the device that is named is that of the first stage whose own file failed
+-- in the run of this text: the device that is named is that of the first stage whose own file failed, and a point is named where none did
 abbrev pub IsTextNamed : Handed → List ℕ → Option (List ℕ) → Option (List ℕ) → Refusal → Type 0
 IsTextNamed handed text before after refusal = (stages : List StageSpec) → runnable_in handed text ≡ Ok stages → IsNamedBy stages before after refusal
 
 -- in that of this plan, before which one file was given back: the pipeline's own, or the one that a trial makes
+abbrev pub IsNamedBehind : Result (List StageSpec) Refusal → Option (List ℕ) → Option (List ℕ) → Refusal → Type 0
+IsNamedBehind plan before after refusal = (stages : List StageSpec) → plan ≡ Ok stages → (mid : Option (List ℕ)) × GaveOne before mid × IsNamedBy stages mid after refusal
+
 abbrev pub IsPlanNamed : Result (List StageSpec) Refusal → Option (List ℕ) → Option (List ℕ) → Refusal → Type 0
-IsPlanNamed plan before after (of.Device (at.Stage i) o) = (stages : List StageSpec) → plan ≡ Ok stages
-    → (mid : Option (List ℕ)) × GaveOne before mid × IsNamedBy stages mid after (of.Device (at.Stage i) o)
+IsPlanNamed plan before after (of.Device (at.Stage i) o) = IsNamedBehind plan before after (of.Device (at.Stage i) o)
+IsPlanNamed plan before after (of.Data i (fault.Point f)) = IsNamedBehind plan before after (of.Data i (fault.Point f))
 IsPlanNamed plan before after refusal = ⊤
 
 -- so it is of a command that runs a pipeline

@@ -7,7 +7,7 @@ use Rattle.file_devices.specs.declared.devices.Op.TheVariants.{Write}
 use Rattle.held_devices.specs.Holding.{there, all_held}
 use Rattle.held_devices.proofs.Lists.{some_at}
 use Rattle.stage_forms.specs.Later.{AreLater}
-use Rattle.stage_forms.specs.Starts.{HaveDevices, op_for}
+use Rattle.stage_forms.specs.Starts.{HaveDevices}
 use Rattle.stage_kinds.specs.declared.stage_work.StageWork.{StageWork}
 use Rattle.stage_kinds.specs.declared.stage_work.StageWork.TheVariants.{Reader, Filter, Plug, Tally, Collector, Views, ViewFiles, Writer}
 use Rattle.plug_stages.specs.declared.filter.PlugFilter as plug_type
@@ -17,7 +17,7 @@ use Rattle.stage_kinds.specs.Stages.{keeps_of}
 use Rattle.stage_options.specs.Roles.{Role, Reads, Filters, Gathers, Writes, WritesEach}
 use Rattle.stage_options.specs.declared.stage.StageSpec.{StageSpec}
 use Rattle.run_report.specs.declared.refusal.Refusal.{Refusal}
-use Rattle.answer_model.specs.Values.{role_at}
+use Rattle.answer_model.specs.Values.{op_for, role_at}
 use Rattle.run_ending.specs.Each.{BrokeOffAt, Kept}
 use Rattle.run_ending.specs.Keeping.{BrokeOff, kept_first, kept_if, kept_one}
 

@@ -26,10 +26,10 @@ use Rattle.run_report.specs.declared.refusal.Refusal.TheVariants as of
 use Rattle.run_report.specs.declared.refusal.Place.{Place}
 use Rattle.run_report.specs.declared.refusal.Place.TheVariants as at
 use Rattle.run_report.specs.declared.refusal.Fault.{Fault}
-use Rattle.answer_model.specs.Values.{Opened, Output, options_at, role_at, row_at, setting_at, stage_fault, stage_value, least_fault, written_at, output_at, outputs_at}
+use Rattle.answer_model.specs.Values.{Opened, Output, options_at, op_for, role_at, row_at, setting_at, stage_fault, stage_value, least_fault, written_at, output_at, outputs_at}
 use Rattle.answer_model.specs.Runs.{Run, AreRead, run_of, opened_in}
 use Rattle.answer_model.proofs.Least.{least-at}
-use Rattle.stage_forms.specs.Starts.{form_for, kept_for, op_for, HaveDevices, AreGiven}
+use Rattle.stage_forms.specs.Starts.{form_for, kept_for, HaveDevices, AreGiven}
 use Rattle.stage_forms.proofs.Works.{each-row, writes-form}
 use Rattle.std.proofs.lemmas.List.Sums.{sum_by-cons}
 use Rattle.held_devices.specs.Holding.{there, all_held}

@@ -1,5 +1,5 @@
 -- Which device is named where a run is closed.
-use Rattle.std.proofs.Common.{◌≡◌, ℕ, ◌<◌, ◌≤◌, false, true, List, length, Option, Some, None, slice_get, refl, ap, sym, subst, ◌∙◌, arith, inl, inr}
+use Rattle.std.proofs.Common.{◌≡◌, ℕ, ◌<◌, ◌≤◌, false, true, List, length, Option, Some, slice_get, refl, ap, sym, subst, ◌∙◌, arith, inl, inr}
 use Rattle.file_devices.specs.Counts.{Rose, saturating}
 use Rattle.file_devices.specs.Named.{Names}
 use Rattle.file_devices.specs.declared.devices.Op.{Op}
@@ -12,18 +12,19 @@ use Rattle.cloud_points.specs.declared.faults.StageFault.{StageFault}
 use Rattle.cloud_points.specs.declared.faults.StageFault.TheVariants as stage
 use Rattle.run_report.specs.declared.report.StageCount.{StageCount}
 use Rattle.run_report.specs.declared.refusal.Place.TheVariants.{Stage}
-use Rattle.run_report.specs.declared.refusal.Refusal.TheVariants.{Memory, Device}
+use Rattle.run_report.specs.declared.refusal.Fault.TheVariants.{Point}
+use Rattle.run_report.specs.declared.refusal.Refusal.TheVariants.{Data, Memory, Device}
 use Rattle.stage_kinds.specs.Held.{faults_of}
 use Rattle.stage_kinds.specs.declared.stage_work.StageWork.{StageWork}
 use Rattle.stage_options.specs.Roles.{Role, Reads, Filters, Gathers, Writes, WritesEach, is_writing}
 use Rattle.stage_options.specs.declared.stage.StageSpec.{StageSpec}
-use Rattle.answer_model.specs.Values.{role_at}
-use Rattle.answer_model.proofs.Least.{found}
+use Rattle.answer_model.specs.Values.{op_for, role_at}
 use Rattle.stage_forms.specs.Later.{AreLater}
-use Rattle.stage_forms.specs.Starts.{HaveDevices, op_for}
+use Rattle.stage_forms.specs.Starts.{HaveDevices}
 use Rattle.held_devices.proofs.Lists.{some_at}
 use Rattle.run_outcome.specs.Faults.{fault_at, AreSound}
-use Rattle.run_outcome.specs.Outcomes.{device_op, first_failed, first_faulty, refusal_by, refusal_for}
+use Rattle.run_outcome.specs.Outcomes.{refusal_for}
+use Rattle.run_outcome.proofs.Outcomes.{why-refused}
 use Rattle.std.proofs.lemmas.Option.{slice_get_within}
 use Rattle.run_ending.specs.All.{IsUnkept}
 use Rattle.run_ending.specs.Each.{BrokeOffAt, IsEachOp, kept_from}
@@ -36,29 +37,6 @@ use Rattle.run_engine.proofs.Answers.{rose-given}
 use Rattle.run_engine.proofs.Roles.{kept-work}
 use Rattle.plug_stages.specs.declared.filter.PlugFilter as plug_type
 use Rattle.plug_stages.specs.declared.tally.PlugTally as tally_type
-
-a-device : (f : Option StageFault) (o : Op) → device_op f ≡ Some o → f ≡ Some (stage.Device o)
-a-device None o e = cc
-a-device (Some (stage.Point f)) o e = cc
-a-device (Some (stage.Device p)) o e = let same : p ≡ o = cc in ap (λ x. Some (stage.Device x)) same
-
-no-device : (f : Option StageFault) → device_op f ≡ None → is_device f ≡ false
-no-device None e = refl
-no-device (Some (stage.Point f)) e = refl
-no-device (Some (stage.Device o)) e = cc
-
--- the refusal of a run that names a device is for the first stage whose device failed
-first-is : (faults : List (Option StageFault)) (i : ℕ) (o : Op) → refusal_for faults ≡ Some (Device (Stage i) o) → first_failed faults ≡ Some (i, o)
-first-is faults i o e = go (first_failed faults) (first_faulty faults) e
-  where
-    go : (failed : Option (ℕ × Op)) (faulty : Option (ℕ × PointFault)) → refusal_by failed faulty ≡ Some (Device (Stage i) o) → failed ≡ Some (i, o)
-    go (Some d) faulty e =
-        let same : Device (Stage d.0) d.1 ≡ Device (Stage i) o = cc in
-        let number : d.0 ≡ i = cc in
-        let op : d.1 ≡ o = cc in
-        (λ k. Some (number k, op k))
-    go None (Some p) e = absurd cc
-    go None None e = absurd cc
 
 module _ {S K P Q : Type 0} (s : source.Ghosts S) (k : sink.Ghosts K) (fs : plug_type.Ghosts P) (ts : tally_type.Ghosts Q) (stages : List StageSpec) where
   -- no device had failed as the stages were prepared
@@ -78,20 +56,33 @@ module _ {S K P Q : Type 0} (s : source.Ghosts S) (k : sink.Ghosts K) (fs : plug
 
   pub failed-first : (stop : Stop) (old works : List (StageWork S K P Q)) (faults : List (Option StageFault)) (counts : List StageCount) → HaveEndedBy s k fs ts stop stages old works faults counts → AreLater fs ts (faults_of s.faults k.faults) old works
       → WereCalm old → (i : ℕ) (o : Op) → refusal_for faults ≡ Some (Device (Stage i) o) → FailedFirst (faults_of s.faults k.faults) faults works i o
-  failed-first stop old works faults counts ended later start i o e =
-      let r = found (λ j. device_op (fault_at faults j)) (length faults) 0 i o (first-is faults i o e) in
-      let has = a-device (fault_at faults i) o r.here in
-      let c = ended.caused.failed i o has in
-      let least : (j : ℕ) → j < i → is_device (fault_at faults j) ≡ false = λ j lt. no-device (fault_at faults j) (r.least j (omega arith) lt) in
-      record {
-        has = has;
-        least = least;
-        work = c.after;
-        at = c.is;
-        does = later.op i c.before c.after c.was c.is ∙ c.does;
-        count = (let rose = c.rose in omega (arith, rose));
-        others = λ j w lt at. calm-at stop old works faults counts ended later start j w at (least j lt);
-      }
+  failed-first stop old works faults counts ended later start i o e = elim (why-refused faults (Device (Stage i) o) e) [
+    | inl d ↦ (
+        let same : Device (Stage i) o ≡ Device (Stage d.stage) d.op = d.is in
+        let number : i ≡ d.stage = cc in
+        let op : o ≡ d.op = cc in
+        let has : fault_at faults i ≡ Some (stage.Device o) = ap (fault_at faults) number ∙ d.has ∙ ap (λ x. Some (stage.Device x)) (sym op) in
+        let least : (j : ℕ) → j < i → is_device (fault_at faults j) ≡ false = λ j lt. d.least j (omega (arith, lt, number)) in
+        let c = ended.caused.failed i o has in
+        record {
+          has = has;
+          least = least;
+          work = c.after;
+          at = c.is;
+          does = later.op i c.before c.after c.was c.is ∙ c.does;
+          count = (let rose = c.rose in omega (arith, rose));
+          others = λ j w lt at. calm-at stop old works faults counts ended later start j w at (least j lt);
+        })
+    | inr p ↦ absurd (let no : Device (Stage i) o ≡ Data p.stage (Point p.fault) = p.is in cc)
+  ]
+
+  -- where a point is at fault, no device had failed
+  pub faulty-calm : (stop : Stop) (old works : List (StageWork S K P Q)) (faults : List (Option StageFault)) (counts : List StageCount) → HaveEndedBy s k fs ts stop stages old works faults counts → AreLater fs ts (faults_of s.faults k.faults) old works
+      → WereCalm old → (i : ℕ) (f : PointFault) → refusal_for faults ≡ Some (Data i (Point f)) → WereCalm works
+  faulty-calm stop old works faults counts ended later start i f e j w at = elim (why-refused faults (Data i (Point f)) e) [
+    | inl d ↦ absurd (let no : Data i (Point f) ≡ Device (Stage d.stage) d.op = d.is in cc)
+    | inr p ↦ calm-at stop old works faults counts ended later start j w at (p.none_failed j)
+  ]
 
   -- a writer whose file couldn't be finished
   pub failed-finish : (works new : List (StageWork S K P Q)) (faults : List (Option StageFault)) (start end : ℕ) → AreSound faults → WereCalm works

@@ -8,6 +8,7 @@ use Rattle.file_devices.specs.declared.devices.Op.{Op}
 use Rattle.file_devices.specs.declared.devices.Op.TheVariants as op
 use Rattle.file_devices.specs.declared.devices.Source as source
 use Rattle.file_devices.specs.declared.devices.Sink as sink
+use Rattle.cloud_points.specs.declared.faults.PointFault.{PointFault}
 use Rattle.cloud_points.specs.declared.faults.StageFault.{StageFault}
 use Rattle.stage_kinds.specs.Held.{faults_of, held_by, op_of, op_on}
 use Rattle.stage_kinds.specs.declared.held.Held.{Held}
@@ -16,15 +17,16 @@ use Rattle.stage_kinds.specs.Stages.{keeps_of}
 use Rattle.stage_kinds.specs.declared.stage_work.StageWork.{StageWork}
 use Rattle.stage_kinds.specs.declared.stage_work.StageWork.TheVariants.{Reader, Filter, Plug, Tally, Collector, Views, ViewFiles, Writer}
 use Rattle.stage_options.specs.declared.stage.StageSpec.{StageSpec}
-use Rattle.stage_forms.specs.Starts.{HaveDevices, op_for}
-use Rattle.answer_model.specs.Values.{role_at}
+use Rattle.stage_forms.specs.Starts.{HaveDevices}
+use Rattle.answer_model.specs.Values.{op_for, role_at}
 use Rattle.run_report.specs.declared.refusal.Refusal.{Refusal}
 use Rattle.run_report.specs.declared.refusal.Refusal.TheVariants as of
+use Rattle.run_report.specs.declared.refusal.Fault.TheVariants as fault
 use Rattle.run_report.specs.declared.refusal.Place.TheVariants as at
 use Rattle.held_devices.specs.Holding.{count_on, counts_on}
 use Rattle.held_devices.proofs.Lists.{some_at}
-use Rattle.run_outcome.specs.Least.{IsLeast, IsNamedBy, Shows, WereGiven}
-use Rattle.run_opening.proofs.Named.{file-holds, held-count, holds-file, work-count}
+use Rattle.run_outcome.specs.Least.{IsLeast, IsNamedBy, Shows, WereGiven, has_file}
+use Rattle.run_opening.proofs.Named.{held-count, work-count}
 use Rattle.run_ending.specs.All.{IsUnkept}
 use Rattle.run_ending.specs.Finished.{IsUnfinished}
 use Rattle.run_ending.proofs.Finished.{finishing-writes}
@@ -59,12 +61,14 @@ shows-least stages op.Write own i h l = l
 shows-least stages op.Patch own i h l = l
 shows-least stages op.Keep own i h l = l
 
-named-by : (stages : List StageSpec) (before after : Option (List ℕ)) (i : ℕ) (o : Op) → (own : List (Option ℕ)) × WereGiven stages own before after × Shows stages o own i → IsNamedBy stages before after (of.Device (at.Stage i) o)
-named-by stages before after i op.Open h = λ has. h
-named-by stages before after i op.Create h = λ has. h
-named-by stages before after i op.Read h = λ has. h
-named-by stages before after i op.Write h = λ has. h
-named-by stages before after i op.Patch h = λ has. h
+-- where a stage has no file of its own, nothing is to be shown
+named-by : (stages : List StageSpec) (before after : Option (List ℕ)) (i : ℕ) (o : Op) → (has_file (role_at stages i) ≡ true → (own : List (Option ℕ)) × WereGiven stages own before after × Shows stages o own i)
+    → IsNamedBy stages before after (of.Device (at.Stage i) o)
+named-by stages before after i op.Open h = h
+named-by stages before after i op.Create h = h
+named-by stages before after i op.Read h = h
+named-by stages before after i op.Write h = h
+named-by stages before after i op.Patch h = h
 named-by stages before after i op.Keep h = tt
 
 module _ {S K P Q : Type 0} (s : source.Ghosts S) (k : sink.Ghosts K) (stages : List StageSpec) (before after : Option (List ℕ)) where
@@ -86,10 +90,10 @@ module _ {S K P Q : Type 0} (s : source.Ghosts S) (k : sink.Ghosts K) (stages : 
     told = told;
     files = λ j c e. (
         let (w, there, same, some) = work-count s.faults k.faults works j c e in
-        ((let a = slice_get_within works j w there in omega (arith, a, size)), holds-file (role_at stages j) (ap is_some (sym (fit j w there)) ∙ some)));
+        ((let a = slice_get_within works j w there in omega (arith, a, size)), ap is_some (sym (fit j w there)) ∙ some));
     all = λ i j c e before. (
         let (w, there) = some_at works j (let a = before.inside in omega (arith, a, size)) in
-        (faults w, count-at works j w there (ap is_some (fit j w there) ∙ file-holds (role_at stages j) before.has)));
+        (faults w, count-at works j w there (ap is_some (fit j w there) ∙ before.has)));
   }
 
   is-least : (works : List (StageWork S K P Q)) (i : ℕ) (w : StageWork S K P Q) → slice_get works i ≡ Some w → is_some (op_of w) ≡ true → 0 < faults w
@@ -101,24 +105,31 @@ module _ {S K P Q : Type 0} (s : source.Ghosts S) (k : sink.Ghosts K) (stages : 
     earlier = λ j c lt e. (let (x, there, same, some) = work-count s.faults k.faults works j c e in sym same ∙ earlier j x lt there);
   }
 
-  -- a device that failed while stages took turns
+  -- a device that failed while stages took turns, or a point's fault, where none did
   pub turns-named : (found : List (Option StageFault)) (works : List (StageWork S K P Q)) (refusal : Refusal) → ((i : ℕ) (o : Op) → refusal ≡ of.Device (at.Stage i) o → FailedFirst faults found works i o)
+      → ((i : ℕ) (f : PointFault) → refusal ≡ of.Data i (fault.Point f) → (j : ℕ) (w : StageWork S K P Q) → slice_get works j ≡ Some w → faults w ≡ 0)
       → length works ≡ length stages → HaveDevices stages works → GivenBack works → IsNamedBy stages before after refusal
-  turns-named found works (of.Device (at.Stage i) o) first size fit told =
+  turns-named found works (of.Device (at.Stage i) o) first calm size fit told =
       let f = first i o refl in
-      named-by stages before after i o (
+      named-by stages before after i o (λ has. (
         counts_on s.faults k.faults works,
         were-given works size fit told,
         shows-least stages o (counts_on s.faults k.faults works) i (inl (in-turns (held_by f.work) o f.does))
             (is-least works i f.work f.at (ap is_some f.does) f.count f.others),
-      )
-  turns-named found works (of.Device at.PipelineFile o) first size fit told = tt
-  turns-named found works (of.Device at.Generated o) first size fit told = tt
-  turns-named found works (of.Device at.Out o) first size fit told = tt
-  turns-named found works (of.Data i f) first size fit told = tt
-  turns-named found works (of.Pipeline f) first size fit told = tt
-  turns-named found works (of.Usage n) first size fit told = tt
-  turns-named found works of.Memory first size fit told = tt
+      ))
+  turns-named found works (of.Device at.PipelineFile o) first calm size fit told = tt
+  turns-named found works (of.Device at.Generated o) first calm size fit told = tt
+  turns-named found works (of.Device at.Out o) first calm size fit told = tt
+  turns-named found works (of.Data i (fault.Header f)) first calm size fit told = tt
+  turns-named found works (of.Data i (fault.Vlr f)) first calm size fit told = tt
+  turns-named found works (of.Data i (fault.Point f)) first calm size fit told = (
+    counts_on s.faults k.faults works,
+    were-given works size fit told,
+    λ j c e. (let (w, there, same, some) = work-count s.faults k.faults works j c e in sym same ∙ calm i f refl j w there),
+  )
+  turns-named found works (of.Pipeline f) first calm size fit told = tt
+  turns-named found works (of.Usage n) first calm size fit told = tt
+  turns-named found works of.Memory first calm size fit told = tt
 
   -- one that failed as a file was finished
   pub finish-named : (works done : List (StageWork S K P Q)) (refusal : Refusal) → ((j : ℕ) (w : StageWork S K P Q) → slice_get works j ≡ Some w → faults w ≡ 0) → length works ≡ length stages → length done ≡ length works
@@ -126,13 +137,13 @@ module _ {S K P Q : Type 0} (s : source.Ghosts S) (k : sink.Ghosts K) (stages : 
       → IsUnfinished faults works done refusal → GivenBack done → IsNamedBy stages before after refusal
   finish-named works done (of.Device (at.Stage i) o) calm whole size same fit c told =
       let (writes, either) = finishing-writes c.before o c.named in
-      named-by stages before after i o (
+      named-by stages before after i o (λ has. (
         counts_on s.faults k.faults done,
         were-given done (size ∙ whole) fit told,
         shows-least stages o (counts_on s.faults k.faults done) i (elim either [ inl e ↦ inl (inr e) | inr e ↦ inr e ])
             (is-least done i c.after c.is (ap is_some (same i c.before c.after c.was c.is ∙ writes)) (let r = c.rose in omega (arith, r))
             (λ j x lt at. (let v = some_at works j (let a = slice_get_within done j x at in omega (arith, a, size)) in c.others j v.0 x lt v.1 at ∙ calm j v.0 v.1))),
-      )
+      ))
   finish-named works done (of.Device at.PipelineFile o) calm whole size same fit c told = absurd c
   finish-named works done (of.Device at.Generated o) calm whole size same fit c told = absurd c
   finish-named works done (of.Device at.Out o) calm whole size same fit c told = absurd c
@@ -161,9 +172,4 @@ module _ {S K P Q : Type 0} (s : source.Ghosts S) (k : sink.Ghosts K) (stages : 
   ]
     where
       vacuous : (i : ℕ) (o : Op) → op_for (role_at stages i) ≡ None → IsNamedBy stages before after (of.Device (at.Stage i) o)
-      vacuous i op.Open none = λ has. absurd (let a = file-holds (role_at stages i) has in let b = ap is_some none in cc)
-      vacuous i op.Create none = λ has. absurd (let a = file-holds (role_at stages i) has in let b = ap is_some none in cc)
-      vacuous i op.Read none = λ has. absurd (let a = file-holds (role_at stages i) has in let b = ap is_some none in cc)
-      vacuous i op.Write none = λ has. absurd (let a = file-holds (role_at stages i) has in let b = ap is_some none in cc)
-      vacuous i op.Patch none = λ has. absurd (let a = file-holds (role_at stages i) has in let b = ap is_some none in cc)
-      vacuous i op.Keep none = tt
+      vacuous i o none = named-by stages before after i o (λ has. absurd (let a = has in let b = ap is_some none in cc))

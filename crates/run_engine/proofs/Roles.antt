@@ -20,8 +20,8 @@ use Rattle.stage_options.specs.declared.options.Options.{Options}
 use Rattle.stage_options.specs.declared.options.Options.TheVariants.{WritersLas, WritersText}
 use Rattle.stage_options.specs.declared.stage.StageSpec.{StageSpec}
 use Rattle.answer_model.specs.Rows.{Setting}
-use Rattle.answer_model.specs.Values.{Opened, Output, options_at, setting_at, stage_value, written}
-use Rattle.stage_forms.specs.Starts.{form_for, kept_for, op_for, writes_as}
+use Rattle.answer_model.specs.Values.{Opened, Output, options_at, setting_at, stage_value, written, op_for}
+use Rattle.stage_forms.specs.Starts.{form_for, kept_for, writes_as}
 use Rattle.run_ending.specs.Each.{IsEachOp, kept_at, kept_from}
 use Rattle.run_outcome.specs.Cause.{AtRole, patches}
 

@@ -81,7 +81,7 @@ unbound-before stages readers (of.Usage k) why = tt
 pub unbound-named : {S : Type 0} (stages : List StageSpec) (readers : List (Option (LasReader S))) (before after : Option (List ℕ)) (refusal : Refusal) → IsUnbound stages readers refusal → IsNamedBy stages before after refusal
 unbound-named stages readers before after of.Memory why = tt
 unbound-named stages readers before after (of.Pipeline f) why = tt
-unbound-named stages readers before after (of.Data i f) why = tt
+unbound-named stages readers before after (of.Data i f) why = absurd why
 unbound-named stages readers before after (of.Device p o) why = absurd why
 unbound-named stages readers before after (of.Usage k) why = tt
 

@@ -1,5 +1,5 @@
 -- The device that is named where a run can't begin is the first one that failed, by the counts that are told.
-use Rattle.std.proofs.Common.{◌≡◌, ◌⊎◌, ℕ, zero, suc, ◌+◌, ◌<◌, ◌||◌, Bool, true, false, List, [], ◌∷◌, ◌++◌, drop, length, slice_get, Option, Some, None, option_map, is_some, refl, ap, sym, subst, ◌∙◌, inl, inr, arith}
+use Rattle.std.proofs.Common.{◌≡◌, ◌⊎◌, ℕ, zero, suc, ◌+◌, ◌<◌, true, false, List, [], ◌∷◌, ◌++◌, drop, length, slice_get, Option, Some, None, option_map, is_some, refl, ap, sym, subst, ◌∙◌, inl, inr, arith}
 use Rattle.std.proofs.lemmas.List.{length-map}
 use Rattle.std.proofs.lemmas.Option.{none-some, same_Some, slice_get-map, slice_get_within}
 use Rattle.circular_buffer.proofs.Places.{slice_get-append_left, slice_get-append_right}
@@ -19,33 +19,18 @@ use Rattle.stage_kinds.specs.declared.held.Held.TheVariants.{Nothing, Source, Si
 use Rattle.stage_kinds.specs.Held.{faults_of, faults_on, held_by, op_of, op_on}
 use Rattle.stage_options.specs.Roles.{Role, Reads, Filters, Gathers, Writes, WritesEach, is_reading, is_writing}
 use Rattle.stage_options.specs.declared.stage.StageSpec.{StageSpec}
-use Rattle.stage_forms.specs.Starts.{op_for}
-use Rattle.answer_model.specs.Values.{role_at}
+use Rattle.answer_model.specs.Values.{op_for, role_at}
 use Rattle.run_report.specs.declared.refusal.Refusal.{Refusal}
 use Rattle.run_report.specs.declared.refusal.Refusal.TheVariants as of
+use Rattle.run_report.specs.declared.refusal.Fault.TheVariants as fault
 use Rattle.run_report.specs.declared.refusal.Place.TheVariants as at
 use Rattle.held_devices.specs.Holding.{count_on, counts_on, source_counts}
 use Rattle.held_devices.proofs.Lists.{some_at}
 use Rattle.run_outcome.specs.Least.{has_file, IsNamedBy, IsNext, OpensBefore, WereGiven}
-use Rattle.run_outcome.proofs.Least.{before-reading, before-writing, behind, file-kind, in-middle, listed-parts, mapped-from, not-written, placed, reading-sooner, reads-file, told-on, writing-later}
+use Rattle.run_outcome.proofs.Least.{before-reading, before-writing, behind, file-kind, in-middle, listed-parts, mapped-from, not-written, placed, reading-sooner, reads-file, told-on, writes-file, writing-later}
 use Rattle.run_opening.specs.Begun.{AreOpened, IsOpened}
-use Rattle.run_opening.specs.Opening.{IsUncreated, IsUnopened, ToldUnopened, opening_refusal}
+use Rattle.run_opening.specs.Opening.{IsBeforePoints, IsUncreated, IsUnopened, ToldUnopened, opening_refusal}
 use Rattle.run_opening.proofs.Opening.{by-reader}
-
--- a stage has a file of its own where its work holds a device
-pub holds-file : (role : Role) → is_some (op_for role) ≡ true → has_file role ≡ true
-holds-file (Reads name) e = refl
-holds-file Filters e = cc
-holds-file Gathers e = cc
-holds-file (Writes name) e = refl
-holds-file (WritesEach name) e = cc
-
-pub file-holds : (role : Role) → has_file role ≡ true → is_some (op_for role) ≡ true
-file-holds (Reads name) e = refl
-file-holds Filters e = cc
-file-holds Gathers e = cc
-file-holds (Writes name) e = refl
-file-holds (WritesEach name) e = cc
 
 -- the count of what is held
 count-is : {S K P Q : Type 0} (sources : S → ℕ) (sinks : K → ℕ) (h : Held S K P Q) (c : ℕ) → count_on sources sinks h ≡ Some c → (faults_on sources sinks h ≡ c) × (is_some (op_on h) ≡ true)
@@ -78,10 +63,6 @@ less-or-more (suc a) (suc b) = elim (less-or-more a b) [
   | inl less ↦ inl (omega (arith, less))
   | inr r ↦ elim r [ inl same ↦ inr (inl (omega (arith, same))) | inr p ↦ inr (inr (p.0, (let more = p.1 in omega (arith, more)))) ]
 ]
-
-or-true : (b : Bool) → b || true ≡ true
-or-true true = refl
-or-true false = refl
 
 dropped : {A : Type 0} (xs : List A) (n k : ℕ) → slice_get (drop n xs) k ≡ slice_get xs (n + k)
 dropped xs zero k = let same : k ≡ 0 + k = omega arith in ap (λ j. slice_get xs j) same
@@ -195,9 +176,9 @@ module _ {S : Type 0} (s : source.Ghosts S) (names : Option Names) (stages : Lis
       ];
     }
 
-    pub unopened-named : (rose : Type 0) (refusal : Refusal) (before mid after : Option (List ℕ)) → IsUnopened rose names i (role_at stages i) refusal → ToldUnopened before mid refusal
+    pub unopened-named : (rose : Type 0) (refusal : Refusal) (before mid after : Option (List ℕ)) → IsUnopened rose names i (role_at stages i) refusal → IsBeforePoints refusal → ToldUnopened before mid refusal
         → IsAsTold after (option_map (λ cs. all_listed front ++ cs) mid) → IsNamedBy stages before after refusal
-    unopened-named rose (of.Device (at.Stage j) op.Open) before mid after why one all = λ has. (
+    unopened-named rose (of.Device (at.Stage j) op.Open) before mid after why early one all = λ has. (
       front,
       record {
         told = subst (λ o. IsAsTold after (option_map (λ cs. all_listed front ++ cs) o)) one all;
@@ -206,7 +187,7 @@ module _ {S : Type 0} (s : source.Ghosts S) (names : Option Names) (stages : Lis
       },
       (let w = unopened-reads rose names i j (role_at stages i) op.Open why in subst (λ y. IsNext stages front y) (sym w.0) (is-next w.1)),
     )
-    unopened-named rose (of.Device (at.Stage j) op.Read) before mid after why one all = λ has.
+    unopened-named rose (of.Device (at.Stage j) op.Read) before mid after why early one all = λ has.
         let (count, rose_one, told) = one in
         let (same, reads) = unopened-reads rose names i j (role_at stages i) op.Read why in
         let here : j ≡ length front = (omega (arith, same, long, size)) in (
@@ -225,17 +206,19 @@ module _ {S : Type 0} (s : source.Ghosts S) (names : Option Names) (stages : Lis
             ];
           },
         )
-    unopened-named rose (of.Device (at.Stage j) op.Create) before mid after why one all = absurd one
-    unopened-named rose (of.Device (at.Stage j) op.Write) before mid after why one all = absurd one
-    unopened-named rose (of.Device (at.Stage j) op.Patch) before mid after why one all = absurd one
-    unopened-named rose (of.Device (at.Stage j) op.Keep) before mid after why one all = tt
-    unopened-named rose (of.Device at.PipelineFile o) before mid after why one all = tt
-    unopened-named rose (of.Device at.Generated o) before mid after why one all = tt
-    unopened-named rose (of.Device at.Out o) before mid after why one all = tt
-    unopened-named rose (of.Data j f) before mid after why one all = tt
-    unopened-named rose (of.Pipeline f) before mid after why one all = tt
-    unopened-named rose (of.Usage k) before mid after why one all = tt
-    unopened-named rose of.Memory before mid after why one all = tt
+    unopened-named rose (of.Device (at.Stage j) op.Create) before mid after why early one all = absurd one
+    unopened-named rose (of.Device (at.Stage j) op.Write) before mid after why early one all = absurd one
+    unopened-named rose (of.Device (at.Stage j) op.Patch) before mid after why early one all = absurd one
+    unopened-named rose (of.Device (at.Stage j) op.Keep) before mid after why early one all = tt
+    unopened-named rose (of.Device at.PipelineFile o) before mid after why early one all = tt
+    unopened-named rose (of.Device at.Generated o) before mid after why early one all = tt
+    unopened-named rose (of.Device at.Out o) before mid after why early one all = tt
+    unopened-named rose (of.Data j (fault.Header f)) before mid after why early one all = tt
+    unopened-named rose (of.Data j (fault.Vlr f)) before mid after why early one all = tt
+    unopened-named rose (of.Data j (fault.Point f)) before mid after why early one all = absurd early
+    unopened-named rose (of.Pipeline f) before mid after why early one all = tt
+    unopened-named rose (of.Usage k) before mid after why early one all = tt
+    unopened-named rose of.Memory before mid after why early one all = tt
 
   -- ---- a file that couldn't be begun, behind works that could, and in front of other readers
   module _ {K P Q : Type 0} (k : sink.Ghosts K) (works : List (StageWork S K P Q)) (i : ℕ) (size : i ≡ length works) (inside : i < length stages) (whole : length readers ≡ length stages)
@@ -267,7 +250,7 @@ module _ {S : Type 0} (s : source.Ghosts S) (names : Option Names) (stages : Lis
           let less : x < i = (let l = p.0 in omega (arith, l, begun-long)) in
           record {
             within = omega (arith, less, inside);
-            has = holds-file (role_at stages x) (ap is_some (sym device) ∙ some);
+            has = ap is_some (sym device) ∙ some;
             from = inr (sym same ∙ calm, inr less);
           })
       | inr q ↦ elim q [
@@ -275,7 +258,7 @@ module _ {S : Type 0} (s : source.Ghosts S) (names : Option Names) (stages : Lis
             let here : x ≡ i = p.0 ∙ begun-long in
             record {
               within = omega (arith, here, inside);
-              has = ap (λ y. has_file (role_at stages y)) here ∙ ap (λ b. is_reading (role_at stages i) || b) writes ∙ or-true (is_reading (role_at stages i));
+              has = ap (λ y. has_file (role_at stages y)) here ∙ writes-file (role_at stages i) writes;
               from = inl (here, p.1);
             })
         | inr p ↦ (
@@ -293,7 +276,7 @@ module _ {S : Type 0} (s : source.Ghosts S) (names : Option Names) (stages : Lis
     front-counted out j less has =
         let (w, there) = some_at works j (omega (arith, less, size)) in
         let (calm, device) = begun j w there in
-        let some : is_some (op_of w) ≡ true = ap is_some device ∙ file-holds (role_at stages j) has in (
+        let some : is_some (op_of w) ≡ true = ap is_some device ∙ has in (
           faults_of s.faults k.faults w,
           slice_get-append_left begun_counts (option_map k.faults out ∷ rest) j (omega (arith, less, begun-long))
               ∙ slice_get-map (λ v. count_on s.faults k.faults (held_by v)) works j
@@ -380,7 +363,7 @@ module _ {S : Type 0} (s : source.Ghosts S) (names : Option Names) (stages : Lis
     uncreated-named rose out (of.Device at.PipelineFile o) before mid later after why one two three = tt
     uncreated-named rose out (of.Device at.Generated o) before mid later after why one two three = tt
     uncreated-named rose out (of.Device at.Out o) before mid later after why one two three = tt
-    uncreated-named rose out (of.Data j f) before mid later after why one two three = tt
+    uncreated-named rose out (of.Data j f) before mid later after why one two three = absurd why
     uncreated-named rose out (of.Pipeline f) before mid later after why one two three = tt
     uncreated-named rose out (of.Usage x) before mid later after why one two three = tt
     uncreated-named rose out of.Memory before mid later after why one two three = tt

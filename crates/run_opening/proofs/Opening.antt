@@ -26,9 +26,9 @@ use Rattle.stage_options.specs.declared.stage.StageSpec.{StageSpec}
 use Rattle.run_report.specs.declared.refusal.Refusal.{Refusal}
 use Rattle.run_report.specs.declared.refusal.Refusal.TheVariants as of
 use Rattle.run_report.specs.declared.refusal.Place.TheVariants as at
-use Rattle.answer_model.specs.Values.{LasFile, role_at}
+use Rattle.answer_model.specs.Values.{LasFile, op_for, role_at}
 use Rattle.answer_model.specs.Runs.{AreRead, holds, unread, unread_at, unless_unread, run_over, run_of, opened_in}
-use Rattle.stage_forms.specs.Starts.{IsAtStart, IsStarted, form_for, op_for}
+use Rattle.stage_forms.specs.Starts.{IsAtStart, IsStarted, form_for}
 use Rattle.stage_forms.proofs.Works.{op-at-start, reader-start}
 use Rattle.answer_model.proofs.Least.{least-at}
 use Rattle.run_opening.specs.Begun.{IsInFront, over_files, IsLaidOut, IsReading, IsOpened, AreOpened, IsWork, read_with, reader_of}

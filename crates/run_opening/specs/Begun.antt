@@ -27,9 +27,9 @@ use Rattle.stage_options.specs.Roles.{Role, Reads, Filters, plug_of, role_of, ta
 use Rattle.stage_options.specs.declared.options.Options.{Options}
 use Rattle.stage_options.specs.declared.stage.StageSpec.{StageSpec}
 use Rattle.answer_model.specs.Rows.{Setting}
-use Rattle.answer_model.specs.Values.{LasFile, Opened, dims_at, options_at, role_at, setting_at, unbound_at, least_from}
+use Rattle.answer_model.specs.Values.{LasFile, Opened, dims_at, options_at, op_for, role_at, setting_at, unbound_at, least_from}
 use Rattle.answer_model.specs.Runs.{holds, unread}
-use Rattle.stage_forms.specs.Starts.{IsAtStart, form_for, op_for}
+use Rattle.stage_forms.specs.Starts.{IsAtStart, form_for}
 
 -- ---- readers
 

@@ -1,5 +1,5 @@
 -- Counts that are told step by step, and the order in which files are opened.
-use Rattle.std.proofs.Common.{◌≡◌, ℕ, zero, suc, ◌+◌, ◌<◌, ◌||◌, ◌⊎◌, true, false, if◌then◌else◌, List, [], ◌∷◌, ◌++◌, map, length, slice_get, Option, Some, None, option_map, refl, ap, sym, ◌∙◌, inl, inr, arith, append_assoc}
+use Rattle.std.proofs.Common.{◌≡◌, ℕ, zero, suc, ◌+◌, ◌<◌, ◌⊎◌, true, false, if◌then◌else◌, List, [], ◌∷◌, ◌++◌, map, length, slice_get, Option, Some, None, option_map, refl, ap, sym, ◌∙◌, inl, inr, arith, append_assoc}
 use Rattle.std.proofs.lemmas.Grind.{flat_map-append}
 use Rattle.std.proofs.lemmas.Option.{none-some, same_Some}
 use Rattle.file_devices.specs.Counts.{all_listed, listed}
@@ -58,7 +58,18 @@ file-kind (Writes name) e = inr refl
 file-kind (WritesEach name) e = cc
 
 pub reads-file : (role : Role) → is_reading role ≡ true → has_file role ≡ true
-reads-file role e = ap (λ b. b || is_writing role) e
+reads-file (Reads name) e = refl
+reads-file Filters e = cc
+reads-file Gathers e = cc
+reads-file (Writes name) e = cc
+reads-file (WritesEach name) e = cc
+
+pub writes-file : (role : Role) → is_writing role ≡ true → has_file role ≡ true
+writes-file (Reads name) e = cc
+writes-file Filters e = cc
+writes-file Gathers e = cc
+writes-file (Writes name) e = refl
+writes-file (WritesEach name) e = cc
 
 -- not both
 pub not-written : (role : Role) → is_reading role ≡ true → is_writing role ≡ false

@@ -52,11 +52,12 @@ no-failed faults e = nowhere device_op faults refl (λ i lt. none-found (λ j. d
 no-faulty : (faults : List (Option StageFault)) → first_faulty faults ≡ None → (i : ℕ) → point_fault (fault_at faults i) ≡ None
 no-faulty faults e = nowhere point_fault faults refl (λ i lt. none-found (λ j. point_fault (fault_at faults j)) (length faults) 0 e i (omega arith) (omega (arith, lt)))
 
--- it is for the device of a stage, which failed
+-- it is for the device of the first stage whose device failed
 pub record IsForDevice (faults : List (Option StageFault)) (refusal : Refusal) : Type 0 where
   pub stage : ℕ
   pub op : Op
   pub has : fault_at faults stage ≡ Some (of.Device op)
+  pub least : (j : ℕ) → j < stage → is_device (fault_at faults j) ≡ false
   pub is : refusal ≡ Device (Stage stage) op
 
 -- it is for the first stage of which a point has a fault, where no device failed
@@ -76,7 +77,13 @@ why-refused faults refusal e = go (first_failed faults) (first_faulty faults) re
     go (Some d) faulty is none e =
         let r = found (λ j. device_op (fault_at faults j)) (length faults) 0 (d.0) (d.1) is in
         let same : Device (Stage d.0) d.1 ≡ refusal = cc in
-        inl (record { stage = d.0; op = d.1; has = a-device (fault_at faults (d.0)) (d.1) r.here; is = sym same })
+        inl (record {
+          stage = d.0;
+          op = d.1;
+          has = a-device (fault_at faults (d.0)) (d.1) r.here;
+          least = λ j lt. no-device (fault_at faults j) (r.least j (omega arith) lt);
+          is = sym same;
+        })
     go None (Some p) is first e =
         let r = found (λ j. point_fault (fault_at faults j)) (length faults) 0 (p.0) (p.1) first in
         let same : Data p.0 (Point p.1) ≡ refusal = cc in

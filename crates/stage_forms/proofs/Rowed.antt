@@ -25,13 +25,14 @@ use Rattle.stage_kinds.specs.Makings.{made_by, fault_by}
 use Rattle.stage_kinds.specs.Stages.{writing_filter}
 use Rattle.stage_options.specs.declared.options.Options.{Options}
 use Rattle.stage_options.specs.declared.options.Options.TheVariants.{ReadersLas, FiltersSort, FiltersTail, FiltersGroupby, FiltersSplitter, FiltersVoxeldownsize, FiltersPlug, WritersLas, WritersText, WritersTally}
-use Rattle.stage_options.specs.Roles.{Role, plug_of, tally_of, role_of, is_reading, is_gathering, is_writing}
+use Rattle.stage_options.specs.Roles.{plug_of, tally_of, role_of, is_reading, is_gathering, is_writing}
 use Rattle.stage_options.specs.Values.{is_numbered}
 use Rattle.stage_options.specs.Roles as role
 use Rattle.answer_model.specs.Naming.{found_in}
-use Rattle.answer_model.specs.Rows.{Row, Setting, folds, remembered_by, row_of, said_by, shows, value_on}
+use Rattle.answer_model.specs.Rows.{Setting, folds, remembered_by, row_of, said_by, shows, value_on}
 use Rattle.answer_model.specs.Rows as rows
-use Rattle.stage_forms.specs.Starts.{writes_as, form_for, op_for}
+use Rattle.stage_forms.specs.Starts.{writes_as, form_for}
+use Rattle.answer_model.specs.Values.{op_for}
 use Rattle.whole_filters.specs.declared.gathering.Gathering.{Gathering}
 
 -- ---- what a stage's work is made of is what its row says

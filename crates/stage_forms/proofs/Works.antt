@@ -48,13 +48,13 @@ use Rattle.stage_kinds.proofs.Streams.{filter_gives, filter_fault, plug_gives, p
 use Rattle.stage_kinds.proofs.Telling.{reader_starts}
 use Rattle.stage_options.specs.declared.options.Options.{Options}
 use Rattle.stage_options.specs.declared.options.Options.TheVariants.{ReadersLas, WritersLas, WritersText}
-use Rattle.stage_options.specs.Roles.{Role, plug_of, tally_of, role_of, is_reading, is_gathering, is_writing}
+use Rattle.stage_options.specs.Roles.{Role, role_of, is_reading, is_gathering, is_writing}
 use Rattle.stage_options.specs.Values.{is_numbered}
 use Rattle.stage_options.specs.Roles as role
-use Rattle.answer_model.specs.Rows.{Row, Setting, folds, remembered_by, row_of, said_by, shows, value_on}
+use Rattle.answer_model.specs.Rows.{Row, Setting, folds, row_of, value_on}
 use Rattle.answer_model.specs.Rows as rows
-use Rattle.answer_model.specs.Values.{LasFile, Opened, wrote_with, files_with}
-use Rattle.stage_forms.specs.Starts.{files_of, wrote_of, writes_as, IsBegun, IsCollecting, IsHandedIn, ShowsNone, TellsNone, HoldsNone, IsAtStart, IsStarted, form_for, op_for}
+use Rattle.answer_model.specs.Values.{LasFile, Opened, wrote_with, files_with, op_for}
+use Rattle.stage_forms.specs.Starts.{files_of, wrote_of, writes_as, IsBegun, IsCollecting, IsHandedIn, ShowsNone, TellsNone, HoldsNone, IsAtStart, IsStarted, form_for}
 use Rattle.view_works.specs.declared.collector.Collector.{Collector as Collecting}
 use Rattle.stage_forms.specs.Below.{Tells}
 use Rattle.stage_forms.proofs.Clearing.{none-against, folds-same}

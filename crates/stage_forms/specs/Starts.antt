@@ -1,7 +1,5 @@
 -- The works of a tree's stages at their start.
 use Rattle.std.specs.Prelude.{◌≡◌, ℕ, ⊤, Bool, true, false, List, [], length, map, slice_get, Option, Some, None}
-use Rattle.file_devices.specs.declared.devices.Op.{Op}
-use Rattle.file_devices.specs.declared.devices.Op.TheVariants.{Read, Write}
 use Rattle.file_devices.specs.declared.devices.Source as source
 use Rattle.cloud_points.specs.declared.dims.Dim.{Dim}
 use Rattle.cloud_points.specs.Layouts.{holds}
@@ -52,7 +50,7 @@ use Rattle.stage_forms.specs.Below.{Tells, read_of}
 use Rattle.answer_model.specs.Forms.{las_form, text_form}
 use Rattle.answer_model.specs.Naming.{found_in}
 use Rattle.answer_model.specs.Rows.{Setting}
-use Rattle.answer_model.specs.Values.{Opened, options_at, role_at, setting_at}
+use Rattle.answer_model.specs.Values.{Opened, op_for, options_at, role_at, setting_at}
 use Rattle.cloud_points.specs.declared.point.Point.{Point}
 use Rattle.cloud_points.specs.Queue.{up_to_limit}
 
@@ -153,14 +151,6 @@ IsStarted bytes has _ _ = ⊥
 -- a work does what a stage with these options does where it stands, and had no turn yet
 abbrev pub IsAtStart : {S K P Q : Type 0} → (K → Option (List ℕ)) → Options → Setting → StageWork S K P Q → Type 0
 IsAtStart bytes o setting w = IsStarted bytes setting.dims (form_for o setting) w
-
--- what a stage that does this does with its device while the stages take turns
-abbrev pub op_for : Role → Option Op
-op_for (role.Reads name) = Some Read
-op_for role.Filters = None
-op_for role.Gathers = None
-op_for (role.Writes name) = Some Write
-op_for (role.WritesEach name) = None
 
 -- works that hold the devices of their stages' roles
 abbrev pub HaveDevices : {S K P Q : Type 0} → List StageSpec → List (StageWork S K P Q) → Type 0

@@ -33,11 +33,11 @@ use Rattle.stage_options.specs.Roles as role
 use Rattle.cloud_points.specs.declared.faults.PointFault.{PointFault}
 use Rattle.stage_kinds.specs.declared.stage_work.StageWork.TheVariants.{Reader, Filter, Plug, Tally, Collector, Views, ViewFiles, Writer}
 use Rattle.stage_options.specs.declared.stage.StageSpec.{StageSpec}
-use Rattle.answer_model.specs.Values.{LasFile, Opened, IsDown, options_at, role_at, row_at, setting_at, stage_value, stage_input, stage_fault, las_at}
+use Rattle.answer_model.specs.Values.{LasFile, Opened, IsDown, options_at, op_for, role_at, row_at, setting_at, stage_value, stage_input, stage_fault, las_at}
 use Rattle.answer_model.specs.Rows as rows
 use Rattle.answer_model.proofs.Values.{value-input}
 use Rattle.stage_forms.specs.Later.{Says}
-use Rattle.stage_forms.specs.Starts.{HoldsNone, files_of, form_for, kept_for, op_for, HaveRead, IsAtStart, IsHandedIn, shows_points, wrote_of}
+use Rattle.stage_forms.specs.Starts.{HoldsNone, files_of, form_for, kept_for, HaveRead, IsAtStart, IsHandedIn, shows_points, wrote_of}
 use Rattle.stage_runs.specs.Works.{as_works, AreNewStages, RunOn}
 use Rattle.stage_runs.specs.Ran.{EndsAsStage}
 use Rattle.stage_runs.proofs.Kept.{writing-kept}

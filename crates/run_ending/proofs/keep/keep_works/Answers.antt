@@ -3,7 +3,6 @@ use Rattle.std.proofs.lemmas.List.{reverse-append, reverse-reverse}
 use Rattle.std.proofs.lemmas.Option.{slice_get_read}
 use Rattle.stage_kinds.specs.Held.{op_of}
 use Rattle.stage_options.specs.Roles.{role_of}
-use Rattle.stage_forms.specs.Starts.{op_for}
 use Rattle.held_devices.specs.Holding.{there, all_held}
 use Rattle.run_ending.specs.Keeping.{kept_first}
 use Rattle.run_ending.specs.Putting.{with_filters, with_tallies}
@@ -14,6 +13,7 @@ use Rattle.held_devices.proofs.Handing.{filter-back, filters-done, tallies-done,
 use Rattle.run_ending.proofs.Keeping.{kept-next, broke-off}
 use Rattle.run_ending.proofs.Placed.{filters-turned, tallies-turned}
 use Rattle.run_ending.proofs.keep.keep_works.Goals as goal
+use Rattle.answer_model.specs.Values.{op_for}
 
 pub loop-work-init : goal.loop-work-init
 loop-work-init g c = record {

@@ -3,7 +3,8 @@ use Rattle.stage_kinds.specs.declared.stage_work.StageWork.TheVariants.{Filter, 
 use Rattle.stage_kinds.specs.declared.file_form.StageForm.TheVariants.{Reads}
 use Rattle.stage_options.specs.Roles.{is_reading, role_of}
 use Rattle.stage_options.specs.Roles as role
-use Rattle.stage_forms.specs.Starts.{IsStarted, op_for}
+use Rattle.stage_forms.specs.Starts.{IsStarted}
+use Rattle.answer_model.specs.Values.{op_for}
 use Rattle.run_opening.specs.Begun.{IsForm, IsOpened, IsWork}
 use Rattle.held_devices.specs.Holding.{there}
 use Rattle.run_opening.proofs.Opening.{by-reader, other-work, reader-work}

@@ -46,7 +46,7 @@ returns-in-Err-clause-least g c =
     let rose = Rose (files.faults c.loop-i.files) (files.faults c.open_stage.new.files) in
     let why = subst (λ role. IsUnopened rose (files.map c.loop-i.files) c.loop-i.i role c.in-Err.refusal) (role-is stages c.loop-i.i c.index-stages-i.result at) c.in-Err.ensures.err in
     unopened-named s (files.map c.args.files.now) stages c.loop-i.readers.items now.opened c.loop-i.i size lt rose c.in-Err.refusal (files.counts c.args.files.now) (files.counts c.open_stage.new.files) (files.counts c.give_back.new.files)
-    (subst (λ m. IsUnopened rose m c.loop-i.i (role_at stages c.loop-i.i) c.in-Err.refusal) now.map why)
+    (subst (λ m. IsUnopened rose m c.loop-i.i (role_at stages c.loop-i.i) c.in-Err.refusal) now.map why) c.in-Err.ensures.before
     (subst (λ o. ToldUnopened o (files.counts c.open_stage.new.files) c.in-Err.refusal) now.counts c.in-Err.ensures.told) c.give_back.ensures.told
 
 pub loop-i-preserved : goal.loop-i-preserved

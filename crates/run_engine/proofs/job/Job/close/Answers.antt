@@ -19,7 +19,7 @@ use Rattle.run_engine.specs.Jobs.{HaveCome, CameTo}
 use Rattle.run_engine.proofs.Stopping.{cause-by}
 use Rattle.run_engine.proofs.Come.{none-came}
 use Rattle.run_engine.proofs.Named.{finish-named, keep-named, turns-named}
-use Rattle.run_engine.proofs.Blamed.{all-calm, failed-first, failed-finish, failed-all}
+use Rattle.run_engine.proofs.Blamed.{all-calm, failed-first, failed-finish, failed-all, faulty-calm}
 use Rattle.run_engine.proofs.Ran.{later-on, done-on}
 use Rattle.run_engine.proofs.Answers.{fault-cause, fault-early, unfinished-to-cause, same-held, fit, is-run, unkept-cause, unkept-left, unkept-no-data}
 use Rattle.run_engine.proofs.Early.{early-left, unfinished-early}
@@ -344,6 +344,7 @@ returns-in-Err-clause-least g c =
     let found : refusal_for c.in-Done.ended.faults.items ≡ Some c.in-Err.refusal = subst (λ fs. refusal_for fs ≡ Some c.in-Err.refusal) c.as_slice.ensures.value c.in-Err.ensures.err in
     turns-named s k stages (files.counts c.args.files.now) (files.counts c.release_works-in-Err.new.files) c.in-Done.ended.faults.items works c.in-Err.refusal
     (λ i o is. failed-first s k fs ts stages stop ran.before works c.in-Done.ended.faults.items c.in-Done.ended.report.items came ran.later ran.ready.calm i o (found ∙ ap (λ r. Some r) is))
+    (λ i f is. faulty-calm s k fs ts stages stop ran.before works c.in-Done.ended.faults.items c.in-Done.ended.report.items came ran.later ran.ready.calm i f (found ∙ ap (λ r. Some r) is))
     (ran.later.count ∙ ran.ready.count) (fit s k fs ts c.requires.ran.1 c.requires.ran.2 stages ran.before works ran.ready (faults_of s.faults k.faults) ran.later) c.release_works-in-Err.ensures.told
 
 pub returns-in-Err-outcome-clause-least : goal.returns-in-Err-outcome-clause-least
