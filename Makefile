@@ -1,4 +1,5 @@
-# make try      runs the stored example without any proof, in about a minute
+# make try      runs the stored example without any proof, in one to two minutes; its text file is left in target/try
+# make check    tries all without any proof, in some minutes: the checks of the libraries, the cases, examples/ and the documents
 # make          proves everything and builds the program to target/lasline
 # make run      builds it, and runs the stored example in target/example
 # make examples builds it, and runs the pipelines of examples/ in target/examples; then it proves, builds and runs the program of
@@ -6,12 +7,11 @@
 # make test     the merge gate: every proof, every edit that must be refused, every test, every program; then the documents, and
 #               the pipelines of examples/ by the program that the gate built, which becomes target/lasline
 # make lint     scripts, the manual page, completions, and whether examples/make.py writes the stored files
-# make install  PREFIX=/usr/local: the program, its manual page, and completions for bash and zsh
+# make install  PREFIX=/usr/local: the program, its manual page, completions for bash and zsh, the documents and the licence
 # make clean    removes target/ and what rt made
 
 PREFIX ?= /usr/local
 CRATE = crates/lasline
-DATA = --data p.json=data/p.json --data in.las=data/in.las
 PROVED = /^crate / { name = $$2; sub(":", "", name) } /^logic=proved/ { print "proved", name; fflush() }
 SOURCES = crates.txt HANDLES $(shell find crates -name out -prune -o -type f -print)
 
@@ -26,8 +26,17 @@ target/lasline: $(SOURCES)
 	@test -x $(CRATE)/out/lasline || { tail -n 20 target/build.log; exit 1; }
 	cp $(CRATE)/out/lasline $@
 
+# rt runs the program in a folder that it removes, so the pipeline names its output by a whole path.
 try:
-	cd $(CRATE) && rt try $(DATA) -- run p.json
+	rm -rf target/try
+	mkdir -p target/try
+	printf '["in.las","%s/target/try/o.txt"]\n' "$(CURDIR)" > target/try/p.json
+	@echo "building without proofs: nothing more is printed for one to two minutes"
+	cd $(CRATE) && rt try --data p.json=../../target/try/p.json --data in.las=data/in.las -- run p.json
+	cat target/try/o.txt
+
+check:
+	docs/try.sh target/check
 
 run: target/lasline
 	rm -rf target/example
@@ -59,8 +68,11 @@ install: target/lasline
 	install -m 644 completions/lasline.bash $(DESTDIR)$(PREFIX)/share/bash-completion/completions/lasline
 	install -d $(DESTDIR)$(PREFIX)/share/zsh/site-functions
 	install -m 644 completions/_lasline $(DESTDIR)$(PREFIX)/share/zsh/site-functions/_lasline
+	install -d $(DESTDIR)$(PREFIX)/share/doc/lasline/docs
+	install -m 644 README.md CHANGELOG.md LICENSE $(DESTDIR)$(PREFIX)/share/doc/lasline/
+	install -m 644 docs/*.md $(DESTDIR)$(PREFIX)/share/doc/lasline/docs/
 
 clean:
 	rm -rf target crates/*/out
 
-.PHONY: all try run examples test lint install clean
+.PHONY: all try check run examples test lint install clean

@@ -188,10 +188,20 @@ for name in case_files:
             else:
                 case["report"] += piece
 
+# ---- wrong bodies
+
+told = section(TEXTS["CONTRIBUTING.md"], "Wrong bodies")
+kept = [tuple(path.split("/")[1::2]) for path in glob.glob("crates/*/must-fail/*.edit")]
+named = [(cells[1].strip("`"), cells[0].strip("`") + ".edit") for number, head, cells in rows(told)]
+agree("CONTRIBUTING.md", "wrong bodies", sorted(named), sorted(kept))
+counts = re.search(r"There are (\d+) wrong bodies in\s+(\d+) crates", told)
+if not counts or (int(counts[1]), int(counts[2])) != (len(kept), len({crate for crate, edit in kept})):
+    fault("CONTRIBUTING.md", f"has to speak of {len(kept)} wrong bodies in {len({crate for crate, edit in kept})} crates")
+
 # ---- counts
 
 for page_name, text in list(TEXTS.items()) + [("man/lasline.1", MAN)]:
-    for number in re.findall(r"\b([\d,]+)\s+(?:stored\s+)?cases\b", text):
+    for number in re.findall(r"\b(\d[\d,]*)\s+(?:stored\s+)?cases\b", text):
         looked["counts of cases"] += 1
         if int(number.replace(",", "")) != len(cases):
             fault(page_name, f"speaks of {number} cases, and crates/worked_runs/data has {len(cases)}")
@@ -204,9 +214,10 @@ agree("crates/worked_runs/stdout", "last line", stored[-1:], [f"{len(cases)} of 
 listed = [cells[0].strip("`") for _, head, cells in rows(TEXTS["docs/WORKED_RUNS.md"]) if head[0] == "file"]
 agree("docs/WORKED_RUNS.md", "files of cases", listed, case_files)
 agree("crates/worked_runs/args", "files of cases", sorted(case_files), sorted(os.listdir("crates/worked_runs/data")))
-words = len(TEXTS["README.md"].split())
-if words > 2600:
-    fault("README.md", f"has {words} words, and at most 2,600 are wanted")
+for pages, most in ((["README.md"], 2600), (["docs/PROVED.md", "docs/ARCHITECTURE.md"], 9000)):
+    words = sum(len(TEXTS[page].split()) for page in pages)
+    if words > most:
+        fault(" and ".join(pages), f"{words} words, and at most {most:,} are wanted")
 
 # ---- recipes and examples
 
@@ -357,14 +368,18 @@ for page_name, text in TEXTS.items():
 
 # ---- names of the code in the documents on it
 
-names = {}
+names, clauses = {}, {}
 for name in crates:
-    found = set()
+    found, carrying = set(), set()
     for path in glob.glob(f"crates/{name}/**/*.*t", recursive=True):
         if path.endswith((".rt", ".antt")):
+            text = read(path)
             found.add(os.path.basename(path).rsplit(".", 1)[0])
-            found |= set(re.findall(r"[A-Za-z_][A-Za-z0-9_]*", read(path)))
-    names[name] = found
+            found |= set(re.findall(r"[A-Za-z_][A-Za-z0-9_]*", text))
+            # Clauses, calls and laws, and the fields of records of clauses.
+            for pattern in (r"\b(?:ensures|fn) (\w+)\b", r"\bghost (\w+):", r"\bpub «?(\w+)»? :"):
+                carrying |= set(re.findall(pattern, text))
+    names[name], clauses[name] = found, carrying
 anywhere = set().union(*names.values()) | set(crates) | ported
 
 
@@ -380,37 +395,43 @@ def names_stand(page_name, text, first=1, home=None):
 
 
 architecture = TEXTS["docs/ARCHITECTURE.md"]
-table, layers = architecture.split("\n## The layers\n", 1)
-names_stand("docs/ARCHITECTURE.md", layers, table.count("\n") + 3)
+table = section(architecture, "The crates")
+table_at = architecture[: architecture.index(table)].count("\n")
+names_stand("docs/ARCHITECTURE.md", architecture.replace(table, "\n" * table.count("\n")))
 proved = TEXTS["docs/PROVED.md"]
 names_stand("docs/PROVED.md", re.sub(r"^### .*$", "", proved, flags=re.M))
 for name in crates:
-    names_stand(f"docs/PROVED.md: {name}", section(proved, f"`{name}`"), home=name)
+    text = section(proved, f"`{name}`")
+    names_stand(f"docs/PROVED.md: {name}", text, home=name)
+    # Names in parentheses say which clause or law carries a promise.
+    for group in re.findall(r"\(((?:`[a-z]\w*`(?:,\s+)?)+)\)", text):
+        for clause in re.findall(r"`(\w+)`", group):
+            looked["clauses"] += 1
+            if clause not in clauses[name]:
+                fault(f"docs/PROVED.md: {name}", f"no clause or law {clause}")
 names_stand("CONTRIBUTING.md: To add a type of stage", section(TEXTS["CONTRIBUTING.md"], "To add a type of stage"))
 names_stand("docs/DECISIONS.md", re.sub(r"`(byteorder|fdatasync)`", "", TEXTS["docs/DECISIONS.md"]))
 
 # ---- the crates
 
-listed = [cells[0].strip("`") for _, head, cells in rows(table) if head[0] == "crate"]
-agree("docs/ARCHITECTURE.md", "crates of the table", listed, crates)
+# One line for each crate, below its group.
+listed, listed_groups = [], []
 for number, head, cells in rows(table):
-    if head[0] == "crate" and cells[0].strip("`") in crates:
-        name = cells[0].strip("`")
-        agree(f"docs/ARCHITECTURE.md:{number}", f"crates that {name} stands on", re.findall(r"`(\w+)`", cells[1]), drawn[name])
-        names_stand("docs/ARCHITECTURE.md", re.sub(r"`(rt run|main)`", "", cells[2]), number, name)
-picture = re.search(r"```mermaid\n(.*?)```", architecture, re.S)[1]
-listed = re.findall(r'subgraph \w+\["(.*?)"\]', picture)
-agree("docs/ARCHITECTURE.md", "groups of the picture", listed, [name for name, _ in reversed(groups)])
-for name, held in groups:
-    found = re.search(rf'subgraph \w+\["{re.escape(name)}"\]\n(.*?)\n    end', picture, re.S)
-    agree("docs/ARCHITECTURE.md", f"crates of the picture in {name}", found[1].split() if found else [], held)
-arrows = dict(re.findall(r"^    (\w+) --> (.*)$", picture, re.M))
-for name in crates:
-    listed = arrows[name].split(" & ") if name in arrows else []
-    agree("docs/ARCHITECTURE.md", f"arrows of the picture from {name}", listed, drawn[name])
-for name in arrows:
-    if name not in crates:
-        fault("docs/ARCHITECTURE.md", f"the picture has an arrow from {name}, which is no crate")
+    name = cells[0].strip("`*")
+    if cells[0].startswith("**"):
+        listed_groups.append((name, []))
+        continue
+    listed.append(name)
+    if listed_groups:
+        listed_groups[-1][1].append(name)
+    if name in crates:
+        place = f"docs/ARCHITECTURE.md:{number + table_at}"
+        agree(place, f"crates that {name} stands on", re.findall(r"`(\w+)`", cells[1]), drawn[name])
+        names_stand("docs/ARCHITECTURE.md", cells[2], number + table_at, name)
+agree("docs/ARCHITECTURE.md", "crates of the table", listed, crates)
+agree("docs/ARCHITECTURE.md", "groups of the table", [name for name, _ in listed_groups], [name for name, _ in groups])
+for (name, held), (_, found) in zip(groups, listed_groups):
+    agree("docs/ARCHITECTURE.md", f"crates of the table in {name}", found, held)
 libraries = [name for title, held in groups if not re.search(r"Tests|program", title) for name in held if name != "speed_words"]
 agree("docs/PROVED.md", "crates", re.findall(r"^### `(\w+)`$", proved, re.M), libraries)
 for page_name, text in TEXTS.items():
@@ -535,7 +556,7 @@ for page_name, found in kits.items():
 LEAST = {
     "cases": 500, "recipes": 15, "pipelines": 40, "refusals": 12, "reports": 8, "lines of refusals": 20,
     "paths": 100, "links": 10, "targets": 5,
-    "names": 400, "names of types": 100, "options": 50, "members": 100, "words": 20, "kit": 2,
+    "names": 400, "clauses": 150, "names of types": 100, "options": 50, "members": 100, "words": 20, "kit": 2,
 }
 for what, least in LEAST.items():
     if looked[what] < least:

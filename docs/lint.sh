@@ -29,7 +29,7 @@ has() {
 }
 
 # The scripts, by their first lines; the completions for bash have none.
-scripts=$(grep -l -E '^#!(/usr/bin/env |/bin/)(sh|bash)' .ci/* ./*/*.sh)
+scripts=$(grep -l -E '^#!(/usr/bin/env |/bin/)(sh|bash)' .ci/* ./*/*.sh examples/*/*.sh)
 if has shellcheck "the scripts"; then
     # shellcheck disable=SC2086
     shellcheck $scripts
@@ -58,7 +58,7 @@ fi
 if has python3 "examples/make.py"; then
     rm -rf "${room:?}"
     mkdir -p "$room"
-    examples/make.py "$room" && diff -r -x '*.json' -x '*.sh' -x '*.py' -x __pycache__ -x own_filter examples "$room"
+    examples/make.py "$room" && diff -r -x '*.json' -x '*.sh' -x '*.py' -x __pycache__ -x own_filter -x survey examples "$room"
     passed "examples/make.py writes the stored files" $?
 fi
 exit $status

@@ -9,7 +9,8 @@ help_lines =
     codes "  lasline run FILE [OPTIONS]   run the pipeline in FILE\n" ∷
     codes "  lasline plan FILE            print its steps\n" ∷
     codes "  lasline gen N NAME           make a LAS file of N points\n" ∷
-    codes "  lasline trial N [OPTIONS]    make one and run a fixed pipeline on it\n" ∷
+    codes "  lasline trial N [OPTIONS]    make one and run a fixed pipeline on it;\n" ∷
+    codes "                               this replaces trial.las and trial.txt\n" ∷
     codes "  lasline --help               print this page\n" ∷
     codes "  lasline --version            print the version\n" ∷
     codes "\n" ∷

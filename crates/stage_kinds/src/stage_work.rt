@@ -189,7 +189,7 @@ impl<S: Source, K: FileSink, P: PlugFilter, Q: PlugTally> StageWork<S, K, P, Q> 
     ghost use Rattle.stage_kinds.specs.declared.file_form.Writing as writing_type;
     ghost use Rattle.stage_kinds.specs.Held.{HoldsSame, held_by, op_of, faults_of, told_by};
     ghost use Rattle.stage_kinds.specs.Files.{chosen, file_bytes, finishing_op};
-    ghost use Rattle.stage_kinds.specs.Gathers.{IsGathered, IsMade};
+    ghost use Rattle.stage_kinds.specs.Gathers.{HasGathered, IsGathered, IsMade};
     ghost use Rattle.stage_kinds.specs.Makings.{IsGoodMaking};
     ghost use Rattle.stage_kinds.specs.declared.held.Held.TheVariants.{Nothing};
     ghost use Rattle.stage_kinds.specs.Stages.{files_by, holds_of, is_short, keeps_of, says_of, shown_by, stops_nowhere, written_by, writing_of};
@@ -225,12 +225,19 @@ impl<S: Source, K: FileSink, P: PlugFilter, Q: PlugTally> StageWork<S, K, P, Q> 
         ensures made { IfOk result (λ made. IsGathered self made) }
     {
         match self {
-            StageWork::Collector(collector) => {
-                let (making, taken) = collector.into_parts();
-                StageWork::made_of(alloc, making, taken.ok_or(AllocError)?)
-            }
+            StageWork::Collector(collector) => StageWork::gathered(alloc, collector),
             other => Ok(other),
         }
+    }
+
+    /// A leaf that gives what a stage makes of the whole views that it took. It is refused only where memory is wanting, or was as the
+    /// points came.
+    fn gathered(alloc: Global, collector: Gatherer) -> Result<Self, AllocError>
+        ensures device { IfOk result (λ made. held_by made ≡ Nothing) }
+        ensures made { IfOk result (HasGathered collector.short collector.making collector.views) }
+    {
+        let (making, taken) = collector.into_parts();
+        StageWork::made_of(alloc, making, taken.ok_or(AllocError)?)
     }
 
     /// A leaf that gives what a stage makes of whole views. It is refused for want of memory alone, and the views are dropped then.
@@ -252,11 +259,8 @@ impl<S: Source, K: FileSink, P: PlugFilter, Q: PlugTally> StageWork<S, K, P, Q> 
     pub fn let_go(self)
         requires { held_by self ≡ Nothing }
     {
-        match self {
-            StageWork::Filter(_)
-            | StageWork::Collector(_)
-            | StageWork::Views(_)
-            | StageWork::ViewFiles(_) => {}
+        match self.release() {
+            Held::Nothing => {}
             _holding => unreachable!(),
         }
     }

@@ -1,9 +1,0 @@
-use Rattle.std.proofs.Common.{refl}
-use Rattle.shape_tests.proofs.Pushing.{AreHeld-push}
-use Rattle.shape_tests.proofs.rings.ring.Goals as goal
-
-pub loop-x-preserved : goal.loop-x-preserved
-loop-x-preserved c =
-    let x = c.if-not-is_held.ensures.0 refl in
-    let y = c.if-not-is_held-2.ensures.0 refl in
-    rw c.in_ok-push.ensures.items (AreHeld-push _ _ c.loop-x.invariant x y)

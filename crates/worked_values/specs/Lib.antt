@@ -1,0 +1,2 @@
+pub mod ExpressionTexts
+pub mod LimitTexts
