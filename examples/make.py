@@ -1,8 +1,9 @@
 #!/usr/bin/env python3
 """Writes the LAS files of the examples, and what running their pipelines must come to.
 
-    examples/make.py            writes them beside this file
-    examples/make.py FOLDER     writes them into another folder
+    examples/make.py                       writes them beside this file
+    examples/make.py FOLDER                writes them into another folder
+    examples/make.py --tiles FOLDER [N]    writes there the 40 tiles of a survey, each of N by N points (6)
 
 All is worked out from the points below, by the ASPRS LAS Specification 1.4 R15 and the documents in docs/. Nothing of lasline's
 code takes part in it, and no output of the program is copied.
@@ -90,9 +91,9 @@ def grid(raw, scale, offset):
     return [tuple(Fraction(n) * step + shift for n, step, shift in zip(point, scale, offset)) for point in raw]
 
 
-def record6(raw, intensity, kind, angle, time):
+def record6(raw, intensity, kind, angle, time, flags=0):
     """A record of format 6: the only return of its pulse, from source 1."""
-    return struct.pack("<iiiHBBBBhHd", *raw, intensity, 0x11, 0, kind, 0, angle, 1, time)
+    return struct.pack("<iiiHBBBBhHd", *raw, intensity, 0x11, flags, kind, 0, angle, 1, time)
 
 
 def record3(raw, k):
@@ -213,6 +214,23 @@ def tile(raw, north):
     return data + b"".join(record6(point, 10, 2, 0, 0) for point in raw), points
 
 
+# Each with its class: two strips, and 12 where they overlap.
+STRIPS = [((100 * k, 50, 900), kind) for k, kind in enumerate([2, 2, 12, 12, 2])]
+STRIPS_GRID = ([Fraction(1, 100)] * 3, [Fraction(500000), Fraction(4800000), Fraction(0)])
+
+
+def strips():
+    """Points of format 1, each 3 degrees off the nadir."""
+    data = header(4, 1, 28, grid([raw for raw, _ in STRIPS], *STRIPS_GRID), *STRIPS_GRID, 375)
+    return data + b"".join(struct.pack("<iiiHBBbBHd", *raw, 10, 9, kind, 3, 0, 1, 0) for raw, kind in STRIPS)
+
+
+def overlap():
+    """The same in format 6: class 12 is the overlap flag, and class 1."""
+    data = header(4, 6, 30, grid([raw for raw, _ in STRIPS], *STRIPS_GRID), *STRIPS_GRID, 375)
+    return data + b"".join(record6(raw, 10, *((1, 500, 0, 8) if kind == 12 else (kind, 500, 0))) for raw, kind in STRIPS)
+
+
 # Each with its height above the ground, which rises to the east: one tree.
 TREES = [(200 * i, 200 * j, max(0, 1800 - 250 * ((i - 4) ** 2 + (j - 2) ** 2))) for j in range(5) for i in range(8)]
 HEIGHT = struct.pack("<2xBB32s76xd40x32s", 3, 8, b"HeightAboveGround", 0.01, b"an example")
@@ -245,6 +263,59 @@ def ground_of(name):
     return json.dumps(stages, indent=2) + "\n"
 
 
+# 40 tiles of a survey, 8 in each of 5 rows, in format 6. Their points lie 90 units apart, shared among so many.
+SURVEY_GRID = ([Fraction(1, 100)] * 3, [Fraction(500000), Fraction(4800000), Fraction(0)])
+COLUMNS, ROWS, VOXEL = 8, 5, 40
+
+
+def survey_tile(column, row, across=6):
+    """The raw points of a tile, with their classes: ground, vegetation and buildings."""
+    step = 9000 // across
+    return [
+        (
+            (10000 * column + step * i + 200, 10000 * row + step * j + 100, 10000 + (37 * (i + 2 * column) * (j + row)) % 6000),
+            (2, 2, 5, 2, 6)[(i + 2 * j + column) % 5],
+        )
+        for j in range(across)
+        for i in range(across)
+    ]
+
+
+def survey_file(points):
+    """A LAS file of raw points with their classes."""
+    raw = [point for point, _ in points]
+    data = header(4, 6, 30, grid(raw, *SURVEY_GRID), *SURVEY_GRID, 375 + len(SYSTEM), 1) + SYSTEM
+    return data + b"".join(record6(point, 10, kind, 0, 0) for point, kind in points)
+
+
+def survey_tiles(across=6):
+    """The tiles by the names of their south-west corners."""
+    return {
+        f"{500000 + 100 * column}_{4800000 + 100 * row}": survey_tile(column, row, across)
+        for column in range(COLUMNS)
+        for row in range(ROWS)
+    }
+
+
+def thinned(points):
+    """The ground of a tile, and of that the first point of each voxel."""
+    ground = [point for point in points if point[1] == 2]
+    return [voxel[0] for voxel in parted(ground, lambda point: cell(grid([point[0]], *SURVEY_GRID)[0], VOXEL))]
+
+
+def survey():
+    """What comes of the survey: a file for each row, and a table of bounds and classes."""
+    kept, table = {}, []
+    for name, points in sorted(survey_tiles().items()):
+        axes = list(zip(*grid([point for point, _ in points], *SURVEY_GRID)))
+        table.append(f"{name} bounds " + " ".join(places(least(axis)) for least in (min, max) for axis in axes))
+        kinds = [kind for _, kind in points]
+        table.append(f"{name} classes " + " ".join(f"{kind}:{kinds.count(kind)}" for kind in sorted(set(kinds))))
+        kept.setdefault(f"rows/{name.split('_')[1]}.las", []).extend(thinned(points))
+    files = {path: survey_file(points) for path, points in kept.items()}
+    return files | {"tiles.txt": "".join(line + "\n" for line in table)}
+
+
 def double(value):
     """A number as od prints it, with as few digits as it takes from 15 on."""
     return next(text for text in (f"{float(value):.{digits}g}" for digits in (15, 16, 17)) if float(text) == float(value))
@@ -254,16 +325,16 @@ def bounds(points, show):
     return " ".join(f"{show(min(axis))} {show(max(axis))}" for axis in zip(*points))
 
 
-def header_lines(point_format, size, points, scale, offset, records):
-    """What header.sh prints of a file of LAS 1.4."""
+def header_lines(point_format, size, points, scale, offset, records, minor=4):
+    """What header.sh prints of a file of LAS 1.4, or of this minor version."""
     lines = [
-        "version: 1.4",
+        f"version: 1.{minor}",
         f"format: {point_format}, records of {size} bytes",
         f"points: {len(points)}",
         "scales: " + " ".join(map(double, scale)),
         "offsets: " + " ".join(map(double, offset)),
         "bounds in the header: " + bounds(points, double),
-        "bounds of the points: " + bounds(points, lambda value: places(value, 9)),
+        "bounds of the points: " + bounds(points, places),
     ]
     return "".join(line + "\n" for line in lines + records)
 
@@ -276,7 +347,19 @@ def back(points):
     return data + b"".join(record3(point, k) for k, point in enumerate(raw))
 
 
+def write(folder, files):
+    for name, content in files.items():
+        path = os.path.join(folder, name)
+        os.makedirs(os.path.dirname(path), exist_ok=True)
+        with open(path, "wb") as file:
+            file.write(content)
+
+
 def main():
+    if sys.argv[1:2] == ["--tiles"]:
+        across = int(sys.argv[3]) if len(sys.argv) > 3 else 6
+        write(sys.argv[2], {f"{name}.las": survey_file(points) for name, points in survey_tiles(across).items()})
+        return
     folder = sys.argv[1] if len(sys.argv) > 1 else os.path.dirname(os.path.abspath(__file__))
     hill_data, hill_points = hill()
     coast_data, coast_points = coast()
@@ -359,6 +442,27 @@ def main():
             ),
             "",
             {"kinds.txt": text([hill_points[0], coast_points[0]])},
+        ),
+        "which": (
+            0,
+            report(
+                (reader, every),
+                (reader, 5),
+                ("filters.merge", every + 5),
+                ("filters.groupby", every + 5),
+                (writer, every + 5, every + 5),
+                (head, 2),
+                (writer, 2, 2),
+                several=[3, 4, 5, 6],
+            ).replace("outputs 2", "outputs 3"),
+            "",
+            {"class_1.txt": text(hill_points), "class_2.txt": text(coast_points), "classes.txt": "2\n9\n"},
+        ),
+        "overlap": (
+            0,
+            report((reader, 5), ("filters.ferry", 5), ("filters.assign", 5), (las_writer, 5, 5)),
+            "",
+            {"overlap.las": overlap()},
         ),
         "thin": (
             0,
@@ -463,6 +567,7 @@ def main():
         for kind, content in [("json", ground_of(name)), ("report", stages)]
     } | {"ground/hill.las": hill_data, "ground/old.las": small(4)}
     not_read = "lasline: stage 0: version not read\n"
+    pair = grid([(100, 200, 300), (101, 201, 301)], [Fraction(1, 100)] * 3, [Fraction(0)] * 3)
     runs |= {
         "one_by_one": (1, "", not_read + "older.las: exit code 3\n", runs_of_each),
         "two_at_once": (123, "", not_read + "older.las: exit code 3\n", runs_of_each),
@@ -475,7 +580,7 @@ def main():
             "",
             {"merged.las": small(4, 200)},
         ),
-        "not_merged": (3, "", "lasline: stage 1: version not read\n", {}),
+        "not_merged": (3, "", "lasline: stage 1: version not read\nmerged.las: exit code 3; stage 0 was south.las\n", {}),
         "header": (
             0,
             header_lines(3, 36, coast_points, *COAST_GRID, ["VLR 0: lasline 7, 6 bytes", "EVLR 0: lasline 8, 12 bytes"]),
@@ -492,22 +597,29 @@ def main():
                 [Fraction(500000), Fraction(4800000), Fraction(0)],
                 ["VLR 0: LASF_Projection 2112, 23 bytes"],
             ),
-            not_read,
+            not_read + "older.las: exit code 3\n",
             {},
         ),
+        # One file of a name with signs that a shell looks at, and names that stand for files of views.
+        "odd_names": (
+            2,
+            header_lines(0, 20, pair, [Fraction(1, 100)] * 3, [Fraction(0)] * 3, [], 2)
+            + report((reader, 2), (reader, 2), (las_writer, 4, 4), several=[2]),
+            "an #1.las: not taken, since an output of this name would be files of views: take the # out of it\n"
+            "examples/merge.sh: all #1.las would be files of views: take the # out of it\n",
+            {"each.las": small(4), "merged.las": small(4, 2)},
+        ),
+        # This one is run where Snakemake is there.
+        "by_rows": (0, "", "", survey()),
         "times": (0, runs["columns"][1] + "".join(f"{250000.0 + k / 100}\n" for k in range(every)), "", {}),
     }
 
     files = {"hill.las": hill_data, "coast.las": coast_data, "old.las": small(2), "older.las": small(1)}
-    files |= {"south.las": south_data, "north.las": north_data, "trees.las": trees_data}
+    files |= {"south.las": south_data, "north.las": north_data, "trees.las": trees_data, "strips.las": strips()}
     for name, (code, printed, said, kept) in runs.items():
         for file, content in [("code", f"{code}\n"), ("printed", printed), ("said", said), *kept.items()]:
             files[f"expected/{name}/{file}"] = content if isinstance(content, bytes) else content.encode()
-    for name, content in files.items():
-        path = os.path.join(folder, name)
-        os.makedirs(os.path.dirname(path), exist_ok=True)
-        with open(path, "wb") as file:
-            file.write(content)
+    write(folder, files)
 
 
 main()

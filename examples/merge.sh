@@ -5,8 +5,8 @@
 #     examples/merge.sh OUT OPTIONS FILE ..
 #
 # OPTIONS are options of writers.las as a JSON object, such as '{"forward":"all"}'. The report of the last run is printed. The
-# exit code is that of the first run that was refused, and then OUT isn't made. Until the end a folder OUT.parts holds the points
-# once more.
+# exit code is that of the first run that was refused, and then OUT isn't made; what its stage 0 read is named on standard error.
+# Until the end a folder OUT.parts holds the points once more. In OUT no `#` may stand, which stands for the number of a view.
 if [ $# -lt 3 ]; then
     echo "usage: examples/merge.sh OUT OPTIONS FILE .." >&2
     exit 2
@@ -14,6 +14,13 @@ fi
 out=$1
 options=$2
 shift 2
+case $out in
+*\#*)
+    echo "examples/merge.sh: $out would be files of views: take the # out of it" >&2
+    exit 2
+    ;;
+-*) out=./$out ;;
+esac
 room=$out.parts
 mkdir "$room" || exit 4
 trap 'rm -rf "$room"' EXIT
@@ -24,7 +31,10 @@ join() {
     jq -n --argjson count "$1" --arg out "$2" --argjson options "$options" '
       [$ARGS.positional[2:2 + $count][] | {"type":"readers.las","filename":.}]
       + [$options + {"type":"writers.las","filename":$out}]' --args -- "$@" > "$room/pipeline.json" || exit 2
-    lasline run "$room/pipeline.json" > "$room/report"
+    lasline run "$room/pipeline.json" > "$room/report" && return
+    code=$?
+    echo "$2: exit code $code; stage 0 was $3" >&2
+    return "$code"
 }
 
 number=0

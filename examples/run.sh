@@ -4,7 +4,7 @@
 #
 #     examples/run.sh target/lasline target/examples
 #
-# The scripts need jq, and times.py Python 3.
+# The scripts need jq, times.py and the tiles of the survey Python 3, and the survey snakemake: it is left out where that isn't there.
 #
 # Functions are called by their names, in try.
 # shellcheck disable=SC2317
@@ -83,6 +83,37 @@ try not_merged ./merge.sh merged.las '{"forward":"all"}' south.las older.las nor
 try header ./header.sh coast.las
 headers() { ./header.sh south.las && ./header.sh older.las; }
 try headers headers
+
+# A name with signs that a shell looks at is taken as it is, and one with a # isn't taken for an output.
+odd_names() {
+    odd="-an \$odd 'name' \"of\" two.las"
+    cp old.las "./$odd"
+    ./each.sh "$odd" && ./header.sh "$odd" && ./merge.sh -merged.las '{"forward":"all"}' "$odd" "$odd" || return 1
+    mv "ground/$odd" each.las && mv ./-merged.las merged.las
+    rm -r ground "./$odd"
+    cp old.las "an #1.las"
+    ./each.sh "an #1.las" && return 1
+    rm "an #1.las"
+    ./merge.sh "all #1.las" '{"forward":"all"}' old.las old.las
+}
+try odd_names odd_names
+
+# A survey of 40 tiles, in rows of 8: what is looked at are the rows and the table.
+by_rows() {
+    ./make.py --tiles tiles || return
+    log=$room/by_rows.log
+    snakemake -s "$here/survey/Snakefile" -j 4 --config cell=40 > "$log" 2>&1 || {
+        code=$?
+        cat "$log"
+        return "$code"
+    }
+    rm -r tiles ground thin reports
+}
+if command -v snakemake > /dev/null; then
+    try by_rows by_rows
+else
+    echo "left out by_rows: snakemake isn't there"
+fi
 
 gps_times() { lasline run columns.json && ./times.py hill.csv && rm hill.csv; }
 try times gps_times
