@@ -20,7 +20,7 @@ use Rattle.las_reader.specs.Files.{Las}
 use Rattle.las_reader.specs.Flows.{las_flow, las_fault}
 use Rattle.forward_rules.specs.Forwarded.{ReadFile}
 use Rattle.stage_names.specs.declared.faults.PipeFault.{PipeFault}
-use Rattle.stage_names.specs.declared.kinds.KindName.TheVariants as kind
+use Rattle.stage_options.specs.Kinds.{kind_of}
 use Rattle.stage_names.specs.Faults.{or_else}
 use Rattle.pipeline_json.specs.Lists.{has}
 use Rattle.name_binding.specs.Binding.{binding_fault}
@@ -47,7 +47,7 @@ pub record Opened : Type 0 where
 
 -- stage k; at a number that no stage has stands a reader
 abbrev pub stage_at : List StageSpec → ℕ → StageSpec
-stage_at stages k = slice_index_or stages k (record { kind = kind.ReadersLas; ins = []; options = ReadersLas (record { filename = []; extra = false }) })
+stage_at stages k = slice_index_or stages k (record { ins = []; options = ReadersLas (record { filename = []; extra = false }) })
 
 -- its options, and what it does with files
 abbrev pub options_at : List StageSpec → ℕ → Options
@@ -246,7 +246,7 @@ files_with _ given = 0
 abbrev pub count_at : List StageSpec → Opened → ℕ → StageCount
 count_at stages opened k = record {
   stage = k;
-  kind = (stage_at stages k).kind;
+  kind = kind_of (stage_at stages k).options;
   views = up_to_limit (length (stage_value stages opened k).views);
   points = up_to_limit (length (points (stage_value stages opened k)));
   wrote = or_shown (wrote_with (role_at stages k) (row_at stages opened k) (stage_input stages opened k) (stage_value stages opened k))

@@ -1,5 +1,5 @@
 -- The LAS file of generated points, and what a call that makes it leaves.
-use Rattle.std.specs.Prelude.{◌≡◌, ◌⊎◌, ℕ, pos, List, [], ◌∷◌, map, Option, Some, None, option_map, ⊤}
+use Rattle.std.specs.Prelude.{◌≡◌, ◌<◌, ◌⊎◌, ℕ, pos, List, [], ◌∷◌, map, Option, Some, None, option_map, ⊤}
 use Rattle.std.specs.List.{range_with_len}
 use Rattle.cloud_points.specs.declared.point.Point.{Point}
 use Rattle.file_devices.specs.Named.{Names, put}
@@ -75,3 +75,12 @@ IsLeft (Device Create) old name bytes new = new ≡ old
 IsLeft (Device Write) old name bytes new = new ≡ old
 IsLeft (Device Patch) old name bytes new = new ≡ old
 IsLeft _ old name bytes new = (new ≡ old) ⊎ IsPut old name bytes new
+
+-- what the counts of the objects taken back tell of it: where creating failed none was taken back, where writing or patching did the
+-- sink has a fault, and where keeping did it has none
+abbrev pub IsToldUnmade : Option (List ℕ) → Option (List ℕ) → GenerateError → Type 0
+IsToldUnmade before after (Device Create) = after ≡ before
+IsToldUnmade before after (Device Write) = (c : ℕ) × (0 < c) × IsAsTold after (option_map (λ counts. c ∷ counts) before)
+IsToldUnmade before after (Device Patch) = (c : ℕ) × (0 < c) × IsAsTold after (option_map (λ counts. c ∷ counts) before)
+IsToldUnmade before after (Device Keep) = IsAsTold after (option_map (λ counts. 0 ∷ counts) before)
+IsToldUnmade before after _ = ⊤

@@ -7,7 +7,7 @@ ghost use Rattle.file_devices.specs.Told.{IsAsTold};
 ghost use Rattle.file_devices.specs.declared.devices.Op as op_type;
 ghost use Rattle.las_writer.specs.Holding.{holds_las};
 ghost use Rattle.cloud_gen.specs.Generated.{generated};
-ghost use Rattle.cloud_gen.specs.GeneratedFile.{generated_points, generated_options, generated_form, generated_file, IsPut, IsUnwritten, IsFailure, IsLeft};
+ghost use Rattle.cloud_gen.specs.GeneratedFile.{generated_points, generated_options, generated_form, generated_file, IsPut, IsUnwritten, IsFailure, IsLeft, IsToldUnmade};
 
 use crate::steps::{append_points, begin_file, create_file, finish_file, keep_file};
 use crate::{GenerateError, gen_point};
@@ -118,7 +118,7 @@ fn write_points<K: FileSink>(writer: &mut LasWriter<K>, count: u32) -> Result<()
         → IsAsTold (K.bytes writer.new.sink) (Some (generated_file count))) }
     ensures failed { IfErr result (λ op. IsUnwritten
         (Rose (K.faults writer.old.sink) (K.faults writer.new.sink)) (GenerateError.Device op)) }
-    ensures later { K.faults writer.old.sink ≤ K.faults writer.new.sink }
+    ensures calm { OnOk result (K.faults writer.new.sink ≡ K.faults writer.old.sink) }
 {
     put_points(writer, count)?;
     finish_file(writer)
@@ -135,6 +135,7 @@ fn write_file<K: FileSink>(
     requires few { count ≤ 10000000 }
     ensures file { IfOk result (λ out. IsAsTold (K.bytes sink) (Some [])
         → IsAsTold (K.bytes out) (Some (generated_file count))) }
+    ensures calm { IfOk result (λ out. K.faults out ≡ K.faults sink) }
     ensures failed { IfErr result (λ e. IsUnwritten (Rose (K.faults sink) (K.faults e.0)) e.1) }
 {
     let mut writer = begin_file(alloc, sink, form)?;
@@ -151,7 +152,8 @@ fn write_file<K: FileSink>(
 /// `count` is at most 10,000,000.
 ///
 /// It is refused with `Device` only where the files or the sink failed, while the file was created, written, patched or kept, and
-/// with `Memory` where there was none. No file was changed then, but where keeping failed or memory was wanting the new one may
+/// with `Memory` where there was none. Where the files tell the counts of what they took back, these show which of the four failed.
+/// No file was changed then, but where keeping failed or memory was wanting the new one may
 /// stand under its name. All that the files handed out is given back.
 pub fn generate<F: Files>(
     alloc: Global,
@@ -166,6 +168,7 @@ pub fn generate<F: Files>(
         IsLeft e (F.map files.old) name.now (generated_file count) (F.map files.new)) }
     ensures gave { OnOk result ((c : ℕ) × IsAsTold (F.counts files.new)
         (option_map (λ counts. c ∷ counts) (F.counts files.old))) }
+    ensures told { IfErr result (IsToldUnmade (F.counts files.old) (F.counts files.new)) }
     ensures lent { F.lent files.new ≡ F.lent files.old }
     ensures later { F.faults files.old ≤ F.faults files.new }
 {

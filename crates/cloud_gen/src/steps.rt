@@ -21,6 +21,7 @@ use std::alloc::Global;
 /// Creates the file.
 pub(crate) fn create_file<F: Files>(files: &mut F, name: &str) -> Result<F::Out, GenerateError>
     ensures empty { IfOk result (λ sink. IsAsTold (F.Out.bytes sink) (Some [])) }
+    ensures fresh { IfOk result (λ sink. F.Out.faults sink ≡ 0) }
     ensures err { IfErr result (StopsAt op_type.Op.Create (Rose (F.faults files.old) (F.faults files.new))) }
     ensures map { F.map files.new ≡ F.map files.old }
     ensures lent { OnOk result (F.lent files.new ≡ F.lent files.old + 1) }
@@ -45,7 +46,7 @@ pub(crate) fn begin_file<K: FileSink>(
     ensures holds { IfOk result (λ w. IsAsTold (K.bytes sink) (Some [])
         → holds_las (K.bytes w.sink) form w.totals [] ≡ true) }
     ensures form { IfOk result (λ w. w.form ≡ form) }
-    ensures later { IfOk result (λ w. K.faults sink ≤ K.faults w.sink) }
+    ensures calm { IfOk result (λ w. K.faults w.sink ≡ K.faults sink) }
     ensures err { IfErr result (λ e. StopsAt op_type.Op.Write (Rose (K.faults sink) (K.faults e.0)) e.1) }
 {
     match LasWriter::begin(alloc, sink, form) {

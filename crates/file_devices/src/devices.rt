@@ -140,35 +140,37 @@ pub trait Files {
 
     /// Hands out a source of the named bytes, with no fault and nothing read.
     ///
-    /// It answers Absent only where the map is told and has no file of the name.
+    /// It answers Absent only where the map is told and has no file of the name. Unless it fails, the count is unchanged.
     fn open_in(&mut self, name: &str) -> Result<Self::In, DeviceErr>
         ensures ok { IfOk result (λ source. (m : Names) → map self.old ≡ Some m → (b : List ℕ)
             × (m name.now ≡ Some b) × (Self.In.bytes source ≡ Some b)) }
         ensures fresh { IfOk result (λ source. (Self.In.faults source ≡ 0) × (Self.In.reached source ≡ 0)) }
         ensures absent { IsErrOf result Absent → (m : Names) × (map self.old ≡ Some m) × (m name.now ≡ None) }
-        ensures no_fault { IsErrOf result Absent → faults self.new ≡ faults self.old }
         ensures later { faults self.old ≤ faults self.new }
         ensures failed { IsErrOf result DeviceFailed → Rose (faults self.old) (faults self.new) }
+        ensures calm { (IsErrOf result DeviceFailed → ⊥) → faults self.new ≡ faults self.old }
         ensures map { map self.new ≡ map self.old }
         ensures read_to { read_to self.new ≡ read_to self.old }
         ensures counts { counts self.new ≡ counts self.old }
         ensures lent_ok { OnOk result (lent self.new ≡ lent self.old + 1) }
         ensures lent_err { OnErr result (lent self.new ≡ lent self.old) };
 
-    /// Hands out an empty sink with no fault. The map stays as it is.
+    /// Hands out an empty sink with no fault. The map stays as it is, and the count too unless it fails.
     fn create(&mut self, name: &str) -> Result<Self::Out, DeviceErr>
         ensures empty { IfOk result (λ sink. IsAsTold (Self.Out.bytes sink) (Some [])) }
         ensures fresh { IfOk result (λ sink. (Self.Out.faults sink ≡ 0) × (Self.Out.appended sink ≡ 0)) }
         ensures not_absent { IsErrOf result Absent → ⊥ }
         ensures later { faults self.old ≤ faults self.new }
         ensures failed { IsErrOf result DeviceFailed → Rose (faults self.old) (faults self.new) }
+        ensures calm { (IsErrOf result DeviceFailed → ⊥) → faults self.new ≡ faults self.old }
         ensures map { map self.new ≡ map self.old }
         ensures read_to { read_to self.new ≡ read_to self.old }
         ensures counts { counts self.new ≡ counts self.old }
         ensures lent_ok { OnOk result (lent self.new ≡ lent self.old + 1) }
         ensures lent_err { OnErr result (lent self.new ≡ lent self.old) };
 
-    /// Takes a sink back and puts its bytes under the name. Its count is added to that of the files.
+    /// Takes a sink back and puts its bytes under the name. Its count is added to that of the files, and no more unless it
+    /// fails.
     ///
     /// After an error the map is as before or has just that change.
     fn keep(&mut self, name: &str, out: Self::Out) -> Result<(), DeviceErr>
@@ -179,6 +181,8 @@ pub trait Files {
         ensures later { faults self.old ≤ faults self.new }
         ensures counted { saturating (faults self.old) (Self.Out.faults out) ≤ faults self.new }
         ensures failed { IsErrOf result DeviceFailed → Rose (faults self.old) (faults self.new) }
+        ensures calm { (IsErrOf result DeviceFailed → ⊥)
+            → faults self.new ≡ saturating (faults self.old) (Self.Out.faults out) }
         ensures read_to { read_to self.new ≡ read_to self.old }
         ensures counts { IsAsTold (counts self.new)
             (option_map (λ cs. Self.Out.faults out ∷ cs) (counts self.old)) }
@@ -192,10 +196,10 @@ pub trait Files {
         ensures counts { IsAsTold (counts self.new)
             (option_map (λ cs. Self.In.faults source ∷ cs) (counts self.old)) }
         ensures later { faults self.old ≤ faults self.new }
-        ensures counted { saturating (faults self.old) (Self.In.faults source) ≤ faults self.new }
+        ensures counted { faults self.new ≡ saturating (faults self.old) (Self.In.faults source) }
         ensures lent { lent self.new ≡ lent self.old - 1 };
 
-    /// Takes a sink back and drops its bytes. Its count is added to that of the files.
+    /// Takes a sink back and drops its bytes. Its count is added to that of the files, and more where removing it fails.
     fn done_out(&mut self, out: Self::Out)
         ensures map { map self.new ≡ map self.old }
         ensures read_to { read_to self.new ≡ read_to self.old }
@@ -204,6 +208,11 @@ pub trait Files {
         ensures later { faults self.old ≤ faults self.new }
         ensures counted { saturating (faults self.old) (Self.Out.faults out) ≤ faults self.new }
         ensures lent { lent self.new ≡ lent self.old - 1 };
+
+    /// A number by which tables are hashed whose keys come from files.
+    ///
+    /// Any number gives the same answers. Where it can't be guessed, nobody can make a file whose keys collide.
+    fn hash_seed(&self) -> u64;
 }
 
 /// Who says when the stages of several workers take their turns.

@@ -1,5 +1,6 @@
 //! Files in memory, of which chosen calls fail.
-ghost use Rattle.std.specs.Prelude.{◌≡◌, ◌<◌, ◌≤◌, ◌+◌, ◌-◌, ◌^◌, ◌⊎◌, ◌↔◌, ℕ, List, [], ◌∷◌, Contains, length, Some, None, if◌then◌else◌, IfSome, IsSome, IfOk, OnOk, OnErr, IsErrOf, IsTrue, option_map, min};
+ghost use Rattle.std.specs.Prelude.{◌≡◌, ◌<◌, ◌≤◌, ◌+◌, ◌-◌, ◌^◌, ◌⊎◌, ◌↔◌, ℕ, List, [], ◌∷◌, Contains, length, Some, None, if◌then◌else◌, IfSome, IsSome, IfOk, OnOk, OnErr, IsErrOf, IsTrue, option_map, min, vec_len, vec_capacity};
+ghost use Rattle.std.proofs.Props.{props};
 ghost use Rattle.file_devices.specs.Counts.{Rose, last_first, saturating};
 ghost use Rattle.file_devices.specs.Told.{IsAsTold};
 ghost use Rattle.file_devices.specs.Named.{Names, put, kept};
@@ -29,9 +30,10 @@ pub struct MemFiles {
     faults: u64,
     lent: u64,
     read_to: Option<u64>,
-    // The counts of what was taken back, until memory for one was wanting.
+    // The counts of what was taken back, until one came that wasn't lent and for which there was no memory.
     counts: Option<Vec<u64>>,
     ghost some: { 0 < most },
+    ghost roomy: { IfSome counts (λ v. vec_len v + lent ≤ vec_capacity v) } by { Prim.hlevel props },
 }
 
 impl MemFiles {
@@ -105,14 +107,34 @@ impl MemFiles {
     // Takes an object with this count of faults back.
     fn take_back(&mut self, faults: u64)
         ensures exact { self.new ≡ record self.old
-            { lent = self.old.lent - 1; faults = saturating self.old.faults faults; counts = self.new.counts } }
+            { lent = self.new.lent; faults = self.new.faults; counts = self.new.counts; roomy = self.new.roomy } }
+        ensures lent { self.new.lent ≡ self.old.lent - 1 }
+        ensures faults { self.new.faults ≡ saturating self.old.faults faults }
         ensures later { self.old.faults ≤ self.new.faults }
         ensures counts { IsAsTold (last_first self.new.counts)
             (option_map (λ cs. faults ∷ cs) (last_first self.old.counts)) }
+        ensures told { 0 < self.old.lent → last_first self.new.counts
+            ≡ option_map (λ cs. faults ∷ cs) (last_first self.old.counts) }
     {
         self.counts = with_count(self.counts.take(), faults);
         self.lent = self.lent.saturating_sub(1);
         self.faults = self.faults.saturating_add(faults);
+    }
+
+    // Makes room for the count of one more object.
+    fn reserve_count(&mut self) -> Result<(), AllocError>
+        requires { self.old.lent < 2 ^ 64 - 1 }
+        ensures same { self.new ≡ record self.old
+            { lent = self.new.lent; counts = self.new.counts; roomy = self.new.roomy } }
+        ensures lent { self.new.lent ≡ self.old.lent }
+        ensures counts { last_first self.new.counts ≡ last_first self.old.counts }
+        ensures room { OnOk result (IfSome self.new.counts
+            (λ v. vec_len v + (self.old.lent + 1) ≤ vec_capacity v)) }
+    {
+        if let Some(counts) = &mut self.counts {
+            counts.reserve(self.lent as usize + 1)?;
+        }
+        Ok(())
     }
 
     // Counts a call on the files, and says whether it fails; one that fails is a fault.
@@ -131,9 +153,13 @@ impl MemFiles {
     }
 }
 
-// Counts with one more; None where there were none, or memory for it is wanting.
+// Counts with one more; None where there were none, or where there was no room and memory is wanting.
 fn with_count(counts: Option<Vec<u64>>, count: u64) -> Option<Vec<u64>>
-    ensures { IsAsTold (last_first result) (option_map (λ cs. count ∷ cs) (last_first counts)) }
+    ensures as_told { IsAsTold (last_first result) (option_map (λ cs. count ∷ cs) (last_first counts)) }
+    ensures told { IfSome counts (λ v. vec_len v < vec_capacity v)
+        → last_first result ≡ option_map (λ cs. count ∷ cs) (last_first counts) }
+    ensures room { IfSome result (λ v. IfSome counts
+        (λ u. (vec_len v ≡ vec_len u + 1) × (vec_capacity u ≤ vec_capacity v))) }
 {
     let mut counts = counts?;
     counts.push(count).ok()?;
@@ -161,9 +187,9 @@ impl Files for MemFiles {
         ensures fresh { IfOk result (λ source. (source.faults ≡ 0) × (source.reached ≡ 0)) }
         ensures absent { IsErrOf result Absent → (m : Names) × (Some (found self.old.entries.items) ≡ Some m)
             × (m name.now ≡ None) }
-        ensures no_fault { IsErrOf result Absent → self.new.faults ≡ self.old.faults }
         ensures later { self.old.faults ≤ self.new.faults }
         ensures failed { IsErrOf result DeviceFailed → Rose self.old.faults self.new.faults }
+        ensures calm { (IsErrOf result DeviceFailed → ⊥) → self.new.faults ≡ self.old.faults }
         ensures map { Some (found self.new.entries.items) ≡ Some (found self.old.entries.items) }
         ensures read_to { self.new.read_to ≡ self.old.read_to }
         ensures counts { last_first self.new.counts ≡ last_first self.old.counts }
@@ -175,7 +201,6 @@ impl Files for MemFiles {
         ensures fails { Contains self.old.fails.items (0, self.new.calls) → IsErrOf result DeviceFailed }
         ensures fails_only { IsErrOf result DeviceFailed → Contains self.old.fails.items (0, self.new.calls) }
         ensures fault { IsErrOf result DeviceFailed → self.new.faults ≡ saturating self.old.faults 1 }
-        ensures no_other_fault { (IsErrOf result DeviceFailed → ⊥) → self.new.faults ≡ self.old.faults }
 
         // The source has the next number, the fails of that number, and the limit of a read.
         ensures number { OnOk result (self.new.handed ≡ saturating self.old.handed 1) }
@@ -198,6 +223,7 @@ impl Files for MemFiles {
                 let content = Vec::from_slice(self.alloc, bytes)?;
                 let number = self.handed.saturating_add(1);
                 let fails = self.fails_of(number)?;
+                self.reserve_count()?;
                 self.handed = number;
                 self.lent += 1;
                 Ok(MemIn::new(content, self.most, fails))
@@ -212,6 +238,7 @@ impl Files for MemFiles {
         ensures not_absent { IsErrOf result Absent → ⊥ }
         ensures later { self.old.faults ≤ self.new.faults }
         ensures failed { IsErrOf result DeviceFailed → Rose self.old.faults self.new.faults }
+        ensures calm { (IsErrOf result DeviceFailed → ⊥) → self.new.faults ≡ self.old.faults }
         ensures map { Some (found self.new.entries.items) ≡ Some (found self.old.entries.items) }
         ensures read_to { self.new.read_to ≡ self.old.read_to }
         ensures counts { last_first self.new.counts ≡ last_first self.old.counts }
@@ -223,7 +250,6 @@ impl Files for MemFiles {
         ensures fails { Contains self.old.fails.items (0, self.new.calls) → IsErrOf result DeviceFailed }
         ensures fails_only { IsErrOf result DeviceFailed → Contains self.old.fails.items (0, self.new.calls) }
         ensures fault { IsErrOf result DeviceFailed → self.new.faults ≡ saturating self.old.faults 1 }
-        ensures no_other_fault { (IsErrOf result DeviceFailed → ⊥) → self.new.faults ≡ self.old.faults }
 
         // The sink has the next number, the fails of that number, and the room of each sink.
         ensures number { OnOk result (self.new.handed ≡ saturating self.old.handed 1) }
@@ -243,6 +269,7 @@ impl Files for MemFiles {
         let number = self.handed.saturating_add(1);
         let fails = self.fails_of(number)?;
         let sink = MemOut::new(self.alloc, self.room, fails)?;
+        self.reserve_count()?;
         self.handed = number;
         self.lent += 1;
         Ok(sink)
@@ -259,6 +286,8 @@ impl Files for MemFiles {
         ensures later { self.old.faults ≤ self.new.faults }
         ensures counted { saturating self.old.faults out.faults ≤ self.new.faults }
         ensures failed { IsErrOf result DeviceFailed → Rose self.old.faults self.new.faults }
+        ensures calm { (IsErrOf result DeviceFailed → ⊥)
+            → self.new.faults ≡ saturating self.old.faults out.faults }
         ensures read_to { self.new.read_to ≡ self.old.read_to }
         ensures counts { IsAsTold (last_first self.new.counts)
             (option_map (λ cs. out.faults ∷ cs) (last_first self.old.counts)) }
@@ -271,11 +300,13 @@ impl Files for MemFiles {
         ensures unchanged { OnErr result (self.new.entries.items ≡ self.old.entries.items) }
         ensures fault { IsErrOf result DeviceFailed → self.new.faults
             ≡ saturating (saturating self.old.faults out.faults) 1 }
-        ensures no_other_fault { (IsErrOf result DeviceFailed → ⊥) → self.new.faults
-            ≡ saturating self.old.faults out.faults }
         ensures same { (self.new.room ≡ self.old.room) × (self.new.most ≡ self.old.most)
             × (self.new.fails ≡ self.old.fails) }
         ensures no_number { self.new.handed ≡ self.old.handed }
+
+        // Where an object is lent, there is room for its count, so none is forgotten.
+        ensures told { 0 < self.old.lent → last_first self.new.counts
+            ≡ option_map (λ cs. out.faults ∷ cs) (last_first self.old.counts) }
     {
         let (content, faults) = out.into_content();
         self.take_back(faults);
@@ -292,15 +323,21 @@ impl Files for MemFiles {
         ensures counts { IsAsTold (last_first self.new.counts)
             (option_map (λ cs. source.faults ∷ cs) (last_first self.old.counts)) }
         ensures later { self.old.faults ≤ self.new.faults }
-        ensures counted { saturating self.old.faults source.faults ≤ self.new.faults }
+        ensures counted { self.new.faults ≡ saturating self.old.faults source.faults }
         ensures lent { self.new.lent ≡ self.old.lent - 1 }
 
-        // The sum is told as long as it is a u64.
-        ensures told { IfSome self.old.read_to (λ n. n + source.reached < 2 ^ 64
+        // The sum is told as long as it is a u64, and the count where an object is lent.
+        ensures summed { IfSome self.old.read_to (λ n. n + source.reached < 2 ^ 64
             → self.new.read_to ≡ Some (n + source.reached)) }
-        ensures exact { self.new.faults ≡ saturating self.old.faults source.faults }
-        ensures same { self.new ≡ record self.old
-            { faults = self.new.faults; lent = self.new.lent; read_to = self.new.read_to; counts = self.new.counts } }
+        ensures told { 0 < self.old.lent → last_first self.new.counts
+            ≡ option_map (λ cs. source.faults ∷ cs) (last_first self.old.counts) }
+        ensures same { self.new ≡ record self.old {
+          faults = self.new.faults;
+          lent = self.new.lent;
+          read_to = self.new.read_to;
+          counts = self.new.counts;
+          roomy = self.new.roomy;
+        } }
     {
         self.take_back(source.faults());
         self.read_to = self.read_to.and_then(|n| n.checked_add(source.reached()));
@@ -315,11 +352,18 @@ impl Files for MemFiles {
         ensures counted { saturating self.old.faults out.faults ≤ self.new.faults }
         ensures lent { self.new.lent ≡ self.old.lent - 1 }
 
+        // Where an object is lent, its count is told.
+        ensures told { 0 < self.old.lent → last_first self.new.counts
+            ≡ option_map (λ cs. out.faults ∷ cs) (last_first self.old.counts) }
         ensures exact { self.new.faults ≡ saturating self.old.faults out.faults }
         ensures same { self.new ≡ record self.old
-            { faults = self.new.faults; lent = self.new.lent; counts = self.new.counts } }
+            { faults = self.new.faults; lent = self.new.lent; counts = self.new.counts; roomy = self.new.roomy } }
     {
         let (_content, count) = out.into_content();
         self.take_back(count);
+    }
+
+    fn hash_seed(&self) -> u64 {
+        0
     }
 }

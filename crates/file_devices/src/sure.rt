@@ -242,9 +242,9 @@ impl Files for SureFiles {
         ensures absent { IsErrOf result Absent → (m : Names)
             × (told_map self.old.told self.old.entries.items ≡ Some m)
             × (m name.now ≡ None) }
-        ensures no_fault { IsErrOf result Absent → no_faults ≡ no_faults }
         ensures later { no_faults ≤ no_faults }
         ensures failed { IsErrOf result DeviceFailed → Rose no_faults no_faults }
+        ensures calm { (IsErrOf result DeviceFailed → ⊥) → no_faults ≡ no_faults }
         ensures map { told_map self.new.told self.new.entries.items
             ≡ told_map self.old.told self.old.entries.items }
         ensures read_to { self.new.read_to ≡ self.old.read_to }
@@ -283,6 +283,7 @@ impl Files for SureFiles {
         ensures not_absent { IsErrOf result Absent → ⊥ }
         ensures later { no_faults ≤ no_faults }
         ensures failed { IsErrOf result DeviceFailed → Rose no_faults no_faults }
+        ensures calm { (IsErrOf result DeviceFailed → ⊥) → no_faults ≡ no_faults }
         ensures map { told_map self.new.told self.new.entries.items
             ≡ told_map self.old.told self.old.entries.items }
         ensures read_to { self.new.read_to ≡ self.old.read_to }
@@ -315,6 +316,7 @@ impl Files for SureFiles {
         ensures later { no_faults ≤ no_faults }
         ensures counted { saturating no_faults no_faults ≤ no_faults }
         ensures failed { IsErrOf result DeviceFailed → Rose no_faults no_faults }
+        ensures calm { (IsErrOf result DeviceFailed → ⊥) → no_faults ≡ saturating no_faults no_faults }
         ensures read_to { self.new.read_to ≡ self.old.read_to }
         ensures counts { IsAsTold no_counts (option_map (λ cs. no_faults ∷ cs) no_counts) }
         ensures lent { self.new.lent ≡ self.old.lent - 1 }
@@ -339,7 +341,7 @@ impl Files for SureFiles {
         ensures read_to { IsAsTold self.new.read_to (option_map (λ n. n + source.reached) self.old.read_to) }
         ensures counts { IsAsTold no_counts (option_map (λ cs. no_faults ∷ cs) no_counts) }
         ensures later { no_faults ≤ no_faults }
-        ensures counted { saturating no_faults no_faults ≤ no_faults }
+        ensures counted { no_faults ≡ saturating no_faults no_faults }
         ensures lent { self.new.lent ≡ self.old.lent - 1 }
 
         // The sum is told as long as it is a u64.
@@ -363,5 +365,9 @@ impl Files for SureFiles {
         ensures same { self.new.room ≡ self.old.room }
     {
         self.lent = self.lent.saturating_sub(1);
+    }
+
+    fn hash_seed(&self) -> u64 {
+        0
     }
 }

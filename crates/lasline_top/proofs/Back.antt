@@ -23,7 +23,7 @@ module _ {P Q : Type 0} (fs : plug_type.Ghosts P) (ts : tally_type.Ghosts Q) whe
   untouched stages places = record { same = refl; filters = λ k unused. refl; tallies = λ k unused. refl }
 
   pub none-touched : (task : Result Task Refusal) (before after : Option Names) (places : Places P Q) → IsHandedBack fs ts task before after places places
-  none-touched task before after places = record { same = refl; back = λ m told. untouched (run_by (handed_by fs ts places) task m) places }
+  none-touched task before after places = record { same = refl; back = λ m told. untouched (run_by (handed_by fs ts places) task m) places; idle = λ _. refl }
 
   -- the stages of a file's text ran
   pub file-back : (file text : List ℕ) (engine : Engine) (before after : Option Names) (old new : Places P Q) → ((m : Names) → before ≡ Some m → file_at (m file) at.PipelineFile ≡ Ok text)
@@ -31,6 +31,7 @@ module _ {P Q : Type 0} (fs : plug_type.Ghosts P) (ts : tally_type.Ghosts Q) whe
   file-back file text engine before after old new is back = record {
     same = back.same;
     back = λ m told. subst (λ p. AreBack fs ts (stages_or (and_then (and_then p stages_in) (named (handed_by fs ts old)))) old new) (sym (is m told)) back;
+    idle = λ e. absurd cc;
   }
 
   -- those of the trial's text did
@@ -39,6 +40,7 @@ module _ {P Q : Type 0} (fs : plug_type.Ghosts P) (ts : tally_type.Ghosts Q) whe
   trial-back count text engine before after old new is back = record {
     same = back.same;
     back = λ m told. subst (λ t. AreBack fs ts (stages_or (runnable_in (handed_by fs ts old) t)) old new) is back;
+    idle = λ e. absurd cc;
   }
 
   -- ---- what is remembered

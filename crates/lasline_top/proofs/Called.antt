@@ -3,6 +3,7 @@ use Rattle.std.proofs.Common.{◌≡◌, ◌⊎◌, ◌≤◌, ℕ, true, List, 
 use Rattle.file_devices.specs.Content.{Appends, AppendsPart}
 use Rattle.file_devices.specs.Named.{Names}
 use Rattle.file_devices.specs.declared.devices.Op.{Op}
+use Rattle.file_devices.specs.declared.devices.Op.TheVariants as op
 use Rattle.network_core.specs.declared.stop.Stop.{Stop}
 use Rattle.network_core.specs.declared.stop.Stop.TheVariants.{Last, First}
 use Rattle.stage_names.specs.declared.faults.PipeFault.{PipeFault}
@@ -115,7 +116,7 @@ module _ (handed : Handed) (words : List (List ℕ)) (before after : Seen) (lent
   -- it was refused
   pub refused_answered : (refusal : Refusal) (status : Status) → status ≡ status_for refusal
       → WasRefused handed (task_of words) (FilesRose before after) (OutRose before after) before.map after.map before.out after.out refusal
-      → ((text : List ℕ) → task_of words ≡ Ok (Print text) → AppendsPart before.out text after.out) → ((r : Refusal) → task_of words ≡ Err r → refusal ≡ r)
+      → ((text : List ℕ) → task_of words ≡ Ok (Print text) → (refusal ≡ of.Device at.Out op.Write) × AppendsPart before.out text after.out) → ((r : Refusal) → task_of words ≡ Err r → refusal ≡ r)
       → ((k : ℕ) → refusal ≡ of.Usage k → task_of words ≡ Err (of.Usage k)) → ToldWhy before.err after.err before.err_faults after.err_faults (fault_line refusal)
       → ((m : Names) → Told words before after m → IsLeastNamed handed (task_of words) m before.counts after.counts refusal)
       → (goes_alone words ≡ true → (m : Names) → Told words before after m → IsReadAhead (task_of words) m before.read_to after.read_to refusal)
@@ -124,7 +125,7 @@ module _ (handed : Handed) (words : List (List ℕ)) (before after : Seen) (lent
     kept = λ e. absurd (not_ok e);
     report = λ e. absurd (not_ok e);
     page = λ e. absurd (not_ok e);
-    page_part = λ _. part;
+    page_part = λ _ text e. (let p = part text e in (is ∙ ap status_for p.0, p.1));
     pipeline = λ f e m t. pipeline-cause handed words before after m f (cause (of.Pipeline f) e m t);
     «data» = λ i f e m t. cause (of.Data i f) e m t;
     usage = λ k e. of_words k (same (of.Usage k) e);

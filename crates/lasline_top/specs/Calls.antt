@@ -81,10 +81,10 @@ pub record HasAnswered (handed : Handed) (words : List (List ℕ)) (before after
       → IsOkAnd (answer handed words m) (λ run. WerePut before.map run.outputs after.map)
   pub report : status ≡ ends.Ok → (m : Names) → Told words before after m
       → IsOkAnd (answer handed words m) (λ run. Appends before.out run.report after.out)
-  -- a page is printed whatever the files tell, or a part of it where printing failed
+  -- a page is printed whatever the files tell, or a part of it where the output failed, and is refused for nothing else
   pub page : status ≡ ends.Ok → (text : List ℕ) → task_of words ≡ Ok (Print text) → Appends before.out text after.out
   pub page_part : (status ≡ ends.Ok → ⊥) → (text : List ℕ) → task_of words ≡ Ok (Print text)
-      → AppendsPart before.out text after.out
+      → (status ≡ ends.Device at.Out op.Write) × AppendsPart before.out text after.out
   -- each other answer has its cause: the pipeline has that fault, the files hold it, or the words are no command. Where turns end at
   -- the first fault it may be that of any stage
   pub pipeline : (f : PipeFault) → status ≡ ends.Pipeline f → (m : Names) → Told words before after m

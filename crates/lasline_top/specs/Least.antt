@@ -1,6 +1,7 @@
 -- Which device is named where a pipeline is run, by the counts that the files tell of what was given back.
-use Rattle.std.specs.Prelude.{◌≡◌, ◌∷◌, ℕ, List, Option, option_map, Result, Ok, ⊤}
+use Rattle.std.specs.Prelude.{◌≡◌, ◌<◌, ◌∷◌, ℕ, List, Option, option_map, Result, Ok, ⊤}
 use Rattle.file_devices.specs.Named.{Names}
+use Rattle.file_devices.specs.declared.devices.Op.TheVariants as op
 use Rattle.file_devices.specs.Told.{IsAsTold}
 use Rattle.plug_stages.specs.Handed.{Handed}
 use Rattle.run_outcome.specs.Least.{IsNamedBy}
@@ -15,6 +16,14 @@ use Rattle.lasline_top.specs.Words.{Task, Run_file, Trial}
 -- one file was given back
 abbrev pub GaveOne : Option (List ℕ) → Option (List ℕ) → Type 0
 GaveOne before after = (c : ℕ) × IsAsTold after (option_map (λ cs. c ∷ cs) before)
+
+-- where the file of a pipeline isn't read: where it couldn't be opened none was given back, where it couldn't be read it was given
+-- back with a fault, and where its text is at fault it was given back
+abbrev pub IsToldUnread : Option (List ℕ) → Option (List ℕ) → Refusal → Type 0
+IsToldUnread before after (of.Device at.PipelineFile op.Open) = after ≡ before
+IsToldUnread before after (of.Device at.PipelineFile op.Read) = (c : ℕ) × (0 < c) × IsAsTold after (option_map (λ cs. c ∷ cs) before)
+IsToldUnread before after (of.Pipeline f) = GaveOne before after
+IsToldUnread before after refusal = ⊤
 
 -- in the run of this text: the device that is named is that of the first stage whose own file failed, and a point is named where none did
 abbrev pub IsTextNamed : Handed → List ℕ → Option (List ℕ) → Option (List ℕ) → Refusal → Type 0

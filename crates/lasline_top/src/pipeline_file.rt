@@ -9,7 +9,7 @@ ghost use Rattle.run_outcome.specs.Cause.{Because, IsSettled};
 ghost use Rattle.stage_options.specs.TreeShown.{specs_view};
 ghost use Rattle.lasline_top.specs.Answer.{plan_in, stages_in};
 ghost use Rattle.lasline_top.specs.Cause.{AtText, Never, Risen, IsOfPlan, IsOfText};
-ghost use Rattle.lasline_top.specs.Least.{GaveOne};
+ghost use Rattle.lasline_top.specs.Least.{GaveOne, IsToldUnread};
 ghost use Rattle.run_engine.specs.ReadAhead.{ReadAtMost};
 ghost use Rattle.lasline_top.specs.Refusals.{refusal_of};
 
@@ -41,6 +41,7 @@ pub(crate) fn read_text<F: Files>(
     ensures no_further { IfOk result (λ text. ReadAtMost (length text.items) (F.read_to files.old)
         (F.read_to files.new)) }
     ensures gave { OnOk result (GaveOne (F.counts files.old) (F.counts files.new)) }
+    ensures told { IfErr result (IsToldUnread (F.counts files.old) (F.counts files.new)) }
 {
     let mut source = match files.open_in(name) {
         Ok(source) => source,
@@ -95,6 +96,8 @@ pub(crate) fn read_plan<F: Files>(alloc: Global, files: &mut F, name: &str) -> R
     ensures settled { IsSettled (F.map files.old) (F.map files.new) (F.lent files.old) (F.lent files.new)
         (F.faults files.old) (F.faults files.new) }
     ensures opened { ReadAtMost (MOST_BYTES + 1) (F.read_to files.old) (F.read_to files.new) }
+    ensures gave { OnOk result (GaveOne (F.counts files.old) (F.counts files.new)) }
+    ensures told { IfErr result (IsToldUnread (F.counts files.old) (F.counts files.new)) }
 {
     let text = read_text(alloc, files, name)?;
     read_stages(alloc, &text)

@@ -4,6 +4,8 @@ ghost use Rattle.std.specs.Prelude.{◌≡◌, ◌≤◌, ℕ, List, map, true, 
 ghost use Rattle.file_devices.specs.Counts.{Rose};
 ghost use Rattle.file_devices.specs.Content.{Appends, AppendsPart};
 ghost use Rattle.file_devices.specs.Named.{Names};
+ghost use Rattle.file_devices.specs.declared.devices.Op.{Op};
+ghost use Rattle.run_report.specs.declared.refusal.Place.{Place};
 ghost use Rattle.run_report.specs.declared.refusal.Refusal.{Refusal};
 ghost use Rattle.run_report.specs.Faults.{fault_line};
 ghost use Rattle.lasline_top.specs.Words.{Print, stop_for, task_of};
@@ -63,7 +65,8 @@ fn run_command<
     ensures page { (text : List ℕ) → task_of (map string_bytes words.now) ≡ Ok (Print text)
         → OnOk result (Appends (K.bytes out.old) text (K.bytes out.new)) }
     ensures page_part { (text : List ℕ) → task_of (map string_bytes words.now) ≡ Ok (Print text)
-        → OnErr result (AppendsPart (K.bytes out.old) text (K.bytes out.new)) }
+        → IfErr result (λ refusal. (refusal ≡ Refusal.Device Place.Out Op.Write)
+        × AppendsPart (K.bytes out.old) text (K.bytes out.new)) }
     ensures back { IsHandedBack P.PlugFilter Q.PlugTally (task_of (map string_bytes words.now))
         (F.map files.old) (F.map files.new) places.old places.new }
     ensures remembered { OnOk result (IsRemembered P.PlugFilter Q.PlugTally

@@ -1,14 +1,15 @@
 //! The store of the system's files.
 ghost use Rattle.std.specs.Prelude.{◌≡◌, ◌+◌, ◌-◌, ◌^◌, ◌<◌, ◌≤◌, None, IfOk, IsErrOf, ◌++◌, codes, string_bytes};
-ghost use Rattle.file_devices.specs.Counts.{Rose, saturating};
+ghost use Rattle.file_devices.specs.Counts.{HasCause, Rose, saturating};
 ghost use Rattle.file_devices.specs.declared.devices.DeviceErr.TheVariants.{Absent, Failed as DeviceFailed};
 
 use crate::RealOut;
 use crate::target::{Target, target_of};
 use file_buffers::{BlockReader, BlockWriter};
-use file_devices::{DeviceErr, Files};
+use file_devices::{DeviceErr, Failed, Files};
 use std::alloc::{AllocError, Global};
 use std::fs::{File, OpenOptions, Permissions};
+use std::io::Read;
 use std::os::unix::fs::{OpenOptionsExt, PermissionsExt};
 use std::{fs, io};
 
@@ -34,6 +35,13 @@ fn part_of(alloc: Global, name: &str) -> Result<String, AllocError>
     ensures { IfOk result (λ part. string_bytes part ≡ name.now ++ codes ".lasline-part") }
 {
     format!(in alloc; "{name}.lasline-part")
+}
+
+// A number that can't be guessed.
+fn random_number<R: std::rt::Files<File = File>>(rt: &R) -> io::Result<u64> {
+    let mut bytes = [0u8; 8];
+    fs::open(rt, "/dev/urandom")?.read_exact(&mut bytes)?;
+    Ok(u64::from_le_bytes(bytes))
 }
 
 impl<'a, R: std::rt::Files<File = File>> RealFiles<'a, R> {
@@ -91,6 +99,7 @@ impl<'a, R: std::rt::Files<File = File>> RealFiles<'a, R> {
     fn target(&mut self, name: &str) -> Result<Target, DeviceErr>
         ensures not_absent { IsErrOf result Absent → ⊥ }
         ensures failed { IsErrOf result DeviceFailed → Rose self.old.faults self.new.faults }
+        ensures calm { (IsErrOf result DeviceFailed → ⊥) → self.new.faults ≡ self.old.faults }
         ensures later { self.old.faults ≤ self.new.faults }
         ensures lent { self.new.lent ≡ self.old.lent }
     {
@@ -136,6 +145,7 @@ impl<'a, R: std::rt::Files<File = File>> RealFiles<'a, R> {
         requires finished { IsFinished out.now.writer }
         ensures not_absent { IsErrOf result Absent → ⊥ }
         ensures failed { IsErrOf result DeviceFailed → Rose self.old.faults self.new.faults }
+        ensures calm { (IsErrOf result DeviceFailed → ⊥) → self.new.faults ≡ self.old.faults }
         ensures later { self.old.faults ≤ self.new.faults }
         ensures lent { self.new.lent ≡ self.old.lent }
     {
@@ -147,13 +157,15 @@ impl<'a, R: std::rt::Files<File = File>> RealFiles<'a, R> {
     }
 
     // Removes the file that a sink was written to.
-    fn remove(&mut self, out: &RealOut)
-        ensures later { self.old.faults ≤ self.new.faults }
+    fn remove(&mut self, out: &RealOut) -> Result<(), Failed>
+        ensures cause { HasCause self.old.faults self.new.faults result }
         ensures lent { self.new.lent ≡ self.old.lent }
     {
         if fs::remove_file(self.rt, out.part.as_str()).is_err() {
             self.faults = self.faults.saturating_add(1);
+            return Err(Failed);
         }
+        Ok(())
     }
 }
 
@@ -210,10 +222,13 @@ impl<'a, R: std::rt::Files<File = File>> Files for RealFiles<'a, R> {
             Ok(()) => self.put(&out, name),
             Err(_) => Err(self.fail()),
         };
-        if kept.is_err() {
-            self.remove(&out);
+        match kept {
+            Ok(()) => Ok(()),
+            Err(e) => match self.remove(&out) {
+                Ok(()) => Err(e),
+                Err(Failed) => Err(DeviceErr::Failed),
+            },
         }
-        kept
     }
 
     fn done_in(&mut self, source: BlockReader<File>) {
@@ -222,6 +237,10 @@ impl<'a, R: std::rt::Files<File = File>> Files for RealFiles<'a, R> {
 
     fn done_out(&mut self, out: RealOut) {
         self.take_back(out.writer.faults());
-        self.remove(&out);
+        let _ = self.remove(&out);
+    }
+
+    fn hash_seed(&self) -> u64 {
+        random_number(self.rt).unwrap_or(0)
     }
 }

@@ -93,12 +93,12 @@ impl Files for RecordedFiles {
             × (⟦<MemIn as Source>⟧.reached source ≡ 0)) }
         ensures absent { IsErrOf result Absent → (m : Names)
             × (⟦<MemFiles as Files>⟧.map self.old.files ≡ Some m) × (m name.now ≡ None) }
-        ensures no_fault { IsErrOf result Absent
-            → ⟦<MemFiles as Files>⟧.faults self.new.files ≡ ⟦<MemFiles as Files>⟧.faults self.old.files }
         ensures later { ⟦<MemFiles as Files>⟧.faults self.old.files
             ≤ ⟦<MemFiles as Files>⟧.faults self.new.files }
         ensures failed { IsErrOf result DeviceFailed
             → Rose (⟦<MemFiles as Files>⟧.faults self.old.files) (⟦<MemFiles as Files>⟧.faults self.new.files) }
+        ensures calm { (IsErrOf result DeviceFailed → ⊥)
+            → ⟦<MemFiles as Files>⟧.faults self.new.files ≡ ⟦<MemFiles as Files>⟧.faults self.old.files }
         ensures map { ⟦<MemFiles as Files>⟧.map self.new.files ≡ ⟦<MemFiles as Files>⟧.map self.old.files }
         ensures read_to { ⟦<MemFiles as Files>⟧.read_to self.new.files
             ≡ ⟦<MemFiles as Files>⟧.read_to self.old.files }
@@ -125,6 +125,8 @@ impl Files for RecordedFiles {
             ≤ ⟦<MemFiles as Files>⟧.faults self.new.files }
         ensures failed { IsErrOf result DeviceFailed
             → Rose (⟦<MemFiles as Files>⟧.faults self.old.files) (⟦<MemFiles as Files>⟧.faults self.new.files) }
+        ensures calm { (IsErrOf result DeviceFailed → ⊥)
+            → ⟦<MemFiles as Files>⟧.faults self.new.files ≡ ⟦<MemFiles as Files>⟧.faults self.old.files }
         ensures map { ⟦<MemFiles as Files>⟧.map self.new.files ≡ ⟦<MemFiles as Files>⟧.map self.old.files }
         ensures read_to { ⟦<MemFiles as Files>⟧.read_to self.new.files
             ≡ ⟦<MemFiles as Files>⟧.read_to self.old.files }
@@ -156,6 +158,8 @@ impl Files for RecordedFiles {
             ≤ ⟦<MemFiles as Files>⟧.faults self.new.files }
         ensures failed { IsErrOf result DeviceFailed
             → Rose (⟦<MemFiles as Files>⟧.faults self.old.files) (⟦<MemFiles as Files>⟧.faults self.new.files) }
+        ensures calm { (IsErrOf result DeviceFailed → ⊥) → ⟦<MemFiles as Files>⟧.faults self.new.files
+            ≡ saturating (⟦<MemFiles as Files>⟧.faults self.old.files) (⟦<MemOut as Sink>⟧.faults out) }
         ensures read_to { ⟦<MemFiles as Files>⟧.read_to self.new.files
             ≡ ⟦<MemFiles as Files>⟧.read_to self.old.files }
         ensures counts { IsAsTold (⟦<MemFiles as Files>⟧.counts self.new.files)
@@ -184,5 +188,9 @@ impl Files for RecordedFiles {
     fn done_out(&mut self, out: MemOut) {
         let _ = self.note_drop(out.bytes());
         self.files.done_out(out);
+    }
+
+    fn hash_seed(&self) -> u64 {
+        self.files.hash_seed()
     }
 }

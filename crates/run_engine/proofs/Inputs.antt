@@ -7,10 +7,8 @@ use Rattle.pipeline_json.specs.Stages.{Stage, taken}
 use Rattle.pipeline_json.specs.Trees.{IsTree}
 use Rattle.pipeline_json.proofs.Taken.{times-append}
 use Rattle.answer_model.specs.Rows.{Setting}
-use Rattle.stage_names.specs.Kinds as names
 use Rattle.stage_kinds.specs.declared.stage_work.StageWork.{StageWork}
 use Rattle.stage_kinds.specs.Stages.{is_leaf}
-use Rattle.stage_options.specs.Kinds.{HaveOwnOptions}
 use Rattle.stage_options.specs.Shapes.{shape, shapes}
 use Rattle.stage_options.specs.declared.stage.StageSpec.{StageSpec}
 use Rattle.file_devices.specs.declared.devices.Source as source
@@ -107,10 +105,10 @@ none-empty : (xs : List ℕ) → length xs ≡ 0 → is_empty xs ≡ true
 none-empty [] e = refl
 none-empty (x ∷ xs) e = absurd (omega (arith, e))
 
-leaf-inputs : {S K P Q : Type 0} (source : source.Ghosts S) (bytes : K → Option (List ℕ)) (stages : List StageSpec) (i : ℕ) (s : StageSpec) (w : StageWork S K P Q) (setting : Setting) → IsTree (shapes stages) → HaveOwnOptions stages → slice_get stages i ≡ Some s → IsAtStart bytes s.options setting w
+leaf-inputs : {S K P Q : Type 0} (source : source.Ghosts S) (bytes : K → Option (List ℕ)) (stages : List StageSpec) (i : ℕ) (s : StageSpec) (w : StageWork S K P Q) (setting : Setting) → IsTree (shapes stages) → slice_get stages i ≡ Some s → IsAtStart bytes s.options setting w
     → (is_leaf w ≡ true → length s.ins ≡ 0) × (length s.ins ≡ 0 → is_leaf w ≡ true)
-leaf-inputs source bytes stages i s w setting tree own e start =
-    let none : is_empty s.ins ≡ is_leaf w = tree.readers i (shape s) (shape-at stages i s e) ∙ sym (start-reads source bytes s.options setting w start ∙ ap names.is_reader (own i s e)) in
+leaf-inputs source bytes stages i s w setting tree e start =
+    let none : is_empty s.ins ≡ is_leaf w = tree.readers i (shape s) (shape-at stages i s e) ∙ sym (start-reads source bytes s.options setting w start) in
     (λ h. empty-none s.ins (none ∙ h), λ h. sym none ∙ none-empty s.ins h)
 
 -- the stage at a place takes fewer than 2 ^ 32
@@ -121,13 +119,13 @@ input-count stages i s tree lt e =
     let c = shapes-size stages in
     omega (arith, a, b, c, lt)
 
-pub leaf-at : {S K P Q : Type 0} (source : source.Ghosts S) (bytes : K → Option (List ℕ)) (stages : List StageSpec) (i : ℕ) (w : StageWork S K P Q) (setting : Setting) → IsTree (shapes stages) → HaveOwnOptions stages → i < length stages → IsAtStart bytes (options_at stages i) setting w
+pub leaf-at : {S K P Q : Type 0} (source : source.Ghosts S) (bytes : K → Option (List ℕ)) (stages : List StageSpec) (i : ℕ) (w : StageWork S K P Q) (setting : Setting) → IsTree (shapes stages) → i < length stages → IsAtStart bytes (options_at stages i) setting w
     → (is_leaf w ≡ true → length ((stage_at stages i).ins) ≡ 0) × (length ((stage_at stages i).ins) ≡ 0 → is_leaf w ≡ true)
-leaf-at source bytes stages i w setting tree own lt start =
+leaf-at source bytes stages i w setting tree lt start =
     let s = some_at stages i lt in
     let is = stage-is stages i s.0 s.1 in
     subst (λ (t : StageSpec). (is_leaf w ≡ true → length t.ins ≡ 0) × (length t.ins ≡ 0 → is_leaf w ≡ true)) (sym is)
-    (leaf-inputs source bytes stages i s.0 w setting tree own s.1 (subst (λ (t : StageSpec). IsAtStart bytes t.options setting w) is start))
+    (leaf-inputs source bytes stages i s.0 w setting tree s.1 (subst (λ (t : StageSpec). IsAtStart bytes t.options setting w) is start))
 
 -- a tree has at most 64 stages
 pub few-stages : (stages : List StageSpec) → IsTree (shapes stages) → length stages ≤ 64

@@ -19,6 +19,7 @@ use Rattle.stage_kinds.specs.declared.stage_work.StageWork.{StageWork}
 use Rattle.run_report.specs.declared.tally.TallyLine.{TallyLine}
 use Rattle.stage_kinds.specs.Held.{op_of, faults_of, filter_in, tally_in, told_by}
 use Rattle.file_devices.specs.Told.{IsAsTold}
+use Rattle.stage_options.specs.Kinds.{kind_of}
 use Rattle.stage_options.specs.declared.stage.StageSpec.{StageSpec}
 use Rattle.run_report.specs.declared.report.StageCount.{StageCount}
 use Rattle.answer_model.specs.Values.{or_shown, wrote_with, Opened, stage_at, options_at, role_at, row_at, setting_at, stage_input, stage_fault, stage_value, count_at, counts_of}
@@ -143,8 +144,8 @@ module _ {S K P Q : Type 0} (s : source.Ghosts S) (k : sink.Ghosts K) (fs : plug
           one-count i t m e f =
               let g = (ends i m f).gave in
               let is = stage-is stages i t e in
-              same-count i t.kind ((stage_at stages i).kind) (up_to_limit m.views) _ (up_to_limit m.points) _ _ _ _ _ _ _
-              (ap (λ (x : StageSpec). x.kind) (sym is)) g.views g.points
+              same-count i (kind_of t.options) (kind_of (stage_at stages i).options) (up_to_limit m.views) _ (up_to_limit m.points) _ _ _ _ _ _ _
+              (ap (λ (x : StageSpec). kind_of x.options) (sym is)) g.views g.points
               (ap (λ w. or_shown w (shown_by m.work)) ((ends i m f).wrote (sound i m f) ∙ wrote-is (options_at stages i) (setting_at stages opened i) (stage_input stages opened i) (stage_value stages opened i))
               ∙ ap (or_shown (wrote_with (role_at stages i) (row_at stages opened i) (stage_input stages opened i) (stage_value stages opened i))) ((ends i m f).says (sound i m f)).shown)
               ((ends i m f).files ∙ files-are (options_at stages i) (setting_at stages opened i) (stage_value stages opened i))

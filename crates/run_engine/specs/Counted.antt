@@ -7,6 +7,7 @@ use Rattle.stage_kinds.specs.declared.stage_work.StageWork.{StageWork}
 use Rattle.stage_kinds.specs.Stages.{files_by, says_of, shown_by, written_by}
 use Rattle.answer_model.specs.Values.{or_shown}
 use Rattle.plug_stages.specs.declared.tally.PlugTally as tally_type
+use Rattle.stage_options.specs.Kinds.{kind_of}
 use Rattle.stage_options.specs.declared.stage.StageSpec.{StageSpec}
 use Rattle.run_report.specs.declared.report.StageCount.{StageCount}
 
@@ -14,7 +15,7 @@ use Rattle.run_report.specs.declared.report.StageCount.{StageCount}
 abbrev pub node_count : {S K P Q : Type 0} → tally_type.Ghosts Q → ℕ → StageSpec → Node (StageWork S K P Q) → StageCount
 node_count ts i s n = record {
   stage = i;
-  kind = s.kind;
+  kind = kind_of s.options;
   views = up_to_limit n.views;
   points = up_to_limit n.points;
   wrote = or_shown (written_by n.work) (shown_by n.work);

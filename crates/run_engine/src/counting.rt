@@ -25,7 +25,7 @@ fn node_count<S: Source, K: FileSink, P: PlugFilter, Q: PlugTally>(
 {
     StageCount {
         stage: i,
-        kind: stage.kind,
+        kind: stage.options.kind(),
         views: node.views(),
         points: node.points(),
         wrote: node.work().written().or(node.work().shown()),

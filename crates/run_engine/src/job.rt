@@ -9,7 +9,6 @@ ghost use Rattle.file_devices.specs.declared.devices.Op.{Op};
 ghost use Rattle.run_report.specs.declared.refusal.Fault.{Fault};
 ghost use Rattle.run_report.specs.declared.refusal.Place as place;
 ghost use Rattle.run_report.specs.declared.refusal.Refusal as refused;
-ghost use Rattle.stage_options.specs.Kinds.{HaveOwnOptions};
 ghost use Rattle.stage_options.specs.Shapes.{shapes};
 ghost use Rattle.stage_kinds.specs.Held.{faults_of};
 ghost use Rattle.stage_kinds.specs.Leads.{reached_of};
@@ -87,7 +86,6 @@ fn evaluate<
 ) -> Ran<S, K, P, Q, Result<Ended, AllocError>>
     requires sound { T.sound scheduler.now }
     requires tree { IsTree (shapes stages.now) }
-    requires own { HaveOwnOptions stages.now }
     requires few { length stages.now ≤ 64 }
     requires starts { AreAtStart K.bytes stages.now works.items }
     requires count { length works.items ≡ length stages.now }
@@ -128,7 +126,6 @@ impl<S: Source, K: FileSink, P: PlugFilter, Q: PlugTally, E> Job<S, K, P, Q, E> 
     ) -> Result<(), AllocError>
         requires sound { T.sound scheduler.now }
         requires tree { IsTree (shapes stages.now) }
-        requires own { HaveOwnOptions stages.now }
         requires ready { (engine : Chosen) × (handed : Handed) × (map : Option Names)
             × IsReady S.Source K.Sink P.PlugFilter Q.PlugTally T.fits engine handed map stages.now self.old }
         ensures ran { (engine : Chosen) (handed : Handed) (map : Option Names)

@@ -4,7 +4,6 @@ ghost use Rattle.std.specs.Prelude.{◌≡◌, ◌≤◌, ◌<◌, [], ℕ, map,
 ghost use Rattle.network_core.specs.declared.node.Node as node_type;
 ghost use Rattle.network_core.specs.Shown.{shown, work_of};
 ghost use Rattle.pipeline_json.specs.Trees.{IsTree};
-ghost use Rattle.stage_options.specs.Kinds.{HaveOwnOptions};
 ghost use Rattle.stage_options.specs.Shapes.{shapes};
 ghost use Rattle.stage_kinds.specs.declared.stage_work.StageWork as work_type;
 ghost use Rattle.answer_model.specs.Values.{stage_at};
@@ -38,7 +37,6 @@ pub(crate) fn nodes_over<S: Source, K: FileSink, P: PlugFilter, Q: PlugTally>(
 ) -> Vec<Node<StageWork<S, K, P, Q>>>
     requires tree { IsTree (shapes stages.now) }
     requires few { length stages.now ≤ 64 }
-    requires own { HaveOwnOptions stages.now }
     requires starts { AreAtStart K.bytes stages.now works.items }
     requires count { length works.items ≡ length stages.now }
     requires empty { room.items ≡ [] }

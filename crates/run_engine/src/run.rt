@@ -4,7 +4,6 @@ ghost use Rattle.std.specs.Prelude.{◌≡◌, ◌≤◌, ℕ, Some, None, Err, 
 ghost use Rattle.file_devices.specs.Counts.{Rose};
 ghost use Rattle.file_devices.specs.Named.{Names};
 ghost use Rattle.pipeline_json.specs.Trees.{IsTree};
-ghost use Rattle.stage_options.specs.Kinds.{HaveOwnOptions};
 ghost use Rattle.stage_options.specs.Shapes.{shapes};
 ghost use Rattle.answer_model.specs.Naming.{AreBack, AreNamed, AreRemembered};
 ghost use Rattle.answer_model.specs.Runs.{opened_in, run_of};
@@ -58,7 +57,6 @@ pub fn run_pipeline<
 ) -> Result<Report, Refusal>
     requires sound { T.sound scheduler.now }
     requires tree { IsTree (shapes stages.now) }
-    requires own { HaveOwnOptions stages.now }
     requires named { AreNamed (handed_by P.PlugFilter Q.PlugTally places.old) stages.now }
     ensures ok { IfOk result (λ report. (m : Names) → F.map files.old ≡ Some m
         → IsOkAnd (run_of (handed_by P.PlugFilter Q.PlugTally places.old) m stages.now)

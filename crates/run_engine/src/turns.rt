@@ -3,7 +3,6 @@
 ghost use Rattle.std.specs.Prelude.{◌≡◌, ◌≤◌, length, IfOk, OnErr};
 ghost use Rattle.pipeline_json.specs.Trees.{IsTree};
 ghost use Rattle.stage_kinds.specs.Held.{faults_of};
-ghost use Rattle.stage_options.specs.Kinds.{HaveOwnOptions};
 ghost use Rattle.network_core.specs.declared.stop.Stop.TheVariants.{First};
 ghost use Rattle.stage_runs.specs.Ahead.{AreReadAhead};
 ghost use Rattle.stage_runs.specs.Short.{SomeGathers};
@@ -43,7 +42,6 @@ pub(crate) fn turn_works<
 ) -> Ran<S, K, P, Q, Result<Ended, AllocError>>
     requires sound { T.sound scheduler.now }
     requires tree { IsTree (shapes stages.now) }
-    requires own { HaveOwnOptions stages.now }
     requires few { length stages.now ≤ 64 }
     requires starts { AreAtStart K.bytes stages.now works.items }
     requires count { length works.items ≡ length stages.now }

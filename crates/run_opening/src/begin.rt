@@ -194,7 +194,8 @@ fn begin_work<F: Files, P: PlugFilter, Q: PlugTally>(
                 None => unreachable!(),
             },
             StageForm::Gathers(making) => {
-                Ok(StageWork::Collector(Gatherer::new(alloc, layout, making)))
+                let seed = files.hash_seed();
+                Ok(StageWork::Collector(Gatherer::new(alloc, layout, seed, making)))
             }
             StageForm::Writes(writing) => match stage.options.role() {
                 Role::Writes(name) => open_writer(alloc, files, writing, name, number),

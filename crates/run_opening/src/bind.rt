@@ -7,7 +7,10 @@ ghost use Rattle.extra_bytes.specs.Asked.{AreOwn};
 ghost use Rattle.pipeline_json.specs.Trees.{IsTree};
 ghost use Rattle.answer_model.specs.Values.{fields_past, gives_dim, names_past, unbound};
 ghost use Rattle.plug_stages.specs.Handed.{Handed};
+ghost use Rattle.run_report.specs.declared.refusal.Refusal.{Refusal};
 ghost use Rattle.stage_names.specs.Faults.{IsFaultOf};
+ghost use Rattle.stage_names.specs.declared.faults.PipeErr.{PipeErr};
+ghost use Rattle.stage_names.specs.declared.faults.PipeFault.{PipeFault};
 ghost use Rattle.stage_options.specs.Roles.{is_reading, role_of};
 ghost use Rattle.stage_options.specs.Shapes.{shapes};
 ghost use Rattle.stage_forms.specs.Below.{AreReaders, found_of, reads_in};
@@ -28,7 +31,8 @@ use std::alloc::Global;
 
 /// The refusal of a run where a stage isn't bound.
 fn unbound_refusal(err: PipeErr) -> Refusal
-    ensures { (found : Option PipeFault) → IsFaultOf found err → IsUnboundAt found result }
+    ensures at { (found : Option PipeFault) → IsFaultOf found err → IsUnboundAt found result }
+    ensures fault { (f : PipeFault) → err ≡ PipeErr.Fault f → result ≡ Refusal.Pipeline f }
 {
     match err {
         PipeErr::Fault(fault) => Refusal::Pipeline(fault),

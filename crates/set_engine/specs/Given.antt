@@ -20,6 +20,7 @@ use Rattle.stage_kinds.specs.Stages.{HoldsAll, files_by, keeps_of, writing_of, w
 use Rattle.stage_kinds.specs.declared.file_form.Writing.{Writing}
 use Rattle.stage_kinds.specs.declared.stage_work.StageWork.{StageWork}
 use Rattle.stage_kinds.specs.declared.stage_work.StageWork.TheVariants.{Collector}
+use Rattle.stage_options.specs.Kinds.{kind_of}
 use Rattle.stage_options.specs.Roles.{Role, is_reading}
 use Rattle.stage_options.specs.declared.stage.StageSpec.{StageSpec}
 use Rattle.set_engine.specs.declared.output.StageOutput.{StageOutput}
@@ -58,7 +59,7 @@ pub record IsAfter {S K P Q : Type 0} (fs : plug_type.Ghosts P) (ts : tally_type
 abbrev pub count_for : ℕ → StageSpec → Flow Point → Option ℕ → ℕ → Option TallyLine → StageCount
 count_for i s given wrote files tally = record {
   stage = i;
-  kind = s.kind;
+  kind = kind_of s.options;
   views = up_to_limit (length given.views);
   points = up_to_limit (length (points given));
   wrote = wrote;

@@ -38,7 +38,7 @@ fn stage_count(
     }
     StageCount {
         stage: number,
-        kind: stage.kind,
+        kind: stage.options.kind(),
         views: given.views() as u64,
         points: points.saturating_add(given.len(given.views()) as u64),
         wrote,

@@ -37,15 +37,16 @@ impl Model for Gatherer {
 }
 
 impl Gatherer {
-    /// One that holds nothing yet. It keeps points in rows that have the dimensions of the layout.
-    pub fn new(alloc: Global, layout: &Layout, making: Making) -> Gatherer
+    /// One that holds nothing yet. It keeps points in rows that have the dimensions of the layout, and their keys will be hashed by
+    /// the seed.
+    pub fn new(alloc: Global, layout: &Layout, seed: u64, making: Making) -> Gatherer
         requires { IsGoodMaking making }
         ensures views { result.views ≡ empty_flow }
         ensures short { result.short ≡ false }
         ensures making { result.making ≡ making }
     {
         Gatherer {
-            collector: Collector::new(alloc, layout, making),
+            collector: Collector::new(alloc, layout, seed, making),
         }
     }
 

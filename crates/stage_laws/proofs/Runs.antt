@@ -14,7 +14,6 @@ use Rattle.pipeline_json.specs.Lists.{has, times}
 use Rattle.pipeline_json.specs.Stages.{taken}
 use Rattle.pipeline_json.specs.Trees.{IsTree}
 use Rattle.pipeline_json.proofs.Taken.{times-append}
-use Rattle.stage_names.specs.declared.kinds.KindName.TheVariants as kind
 use Rattle.stage_options.specs.Shapes.{shape, shapes}
 use Rattle.stage_options.specs.declared.options.Options.TheVariants.{FiltersMerge}
 use Rattle.stage_options.specs.declared.stage.StageSpec.{StageSpec}
@@ -28,7 +27,7 @@ use Rattle.stage_laws.specs.Runs.{AreHomesOf, EndsRun}
 
 -- any stage
 abbrev some_stage : StageSpec
-some_stage = record { kind = kind.FiltersMerge; ins = []; options = FiltersMerge (record {}) }
+some_stage = record { ins = []; options = FiltersMerge (record {}) }
 
 -- ---- numbers in lists
 

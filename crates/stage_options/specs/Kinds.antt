@@ -1,10 +1,8 @@
 -- The types of stages with options.
-use Rattle.std.specs.Prelude.{ℕ, ◌≡◌, List, Some, slice_get}
 use Rattle.stage_names.specs.declared.kinds.KindName.{KindName}
 use Rattle.stage_names.specs.declared.kinds.KindName.TheVariants as kind
 use Rattle.stage_options.specs.declared.options.Options.{Options}
 use Rattle.stage_options.specs.declared.options.Options.TheVariants.{ReadersLas, FiltersRange, FiltersCrop, FiltersAssign, FiltersFerry, FiltersExpression, FiltersDecimation, FiltersHead, FiltersReturns, FiltersPlug, FiltersMerge, FiltersSort, FiltersTail, FiltersGroupby, FiltersSplitter, FiltersVoxeldownsize, WritersLas, WritersText, WritersTally}
-use Rattle.stage_options.specs.declared.stage.StageSpec.{StageSpec}
 
 -- the type whose options these are
 abbrev pub kind_of : Options → KindName
@@ -27,7 +25,3 @@ kind_of (FiltersVoxeldownsize o) = kind.FiltersVoxeldownsize
 kind_of (WritersLas o) = kind.WritersLas
 kind_of (WritersText o) = kind.WritersText
 kind_of (WritersTally o) = kind.WritersTally
-
--- each of these stages has the options of its type
-abbrev pub HaveOwnOptions : List StageSpec → Type 0
-HaveOwnOptions stages = (i : ℕ) (s : StageSpec) → slice_get stages i ≡ Some s → kind_of s.options ≡ s.kind

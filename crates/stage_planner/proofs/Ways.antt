@@ -6,7 +6,6 @@ use Rattle.std.proofs.lemmas.Bool.{lt-ltb}
 use Rattle.std.proofs.lemmas.Option.{slice_get-get_or, slice_get_within}
 use Rattle.std.proofs.lemmas.List.Quantifiers.{position-Some}
 use Rattle.pipeline_json.specs.Lists.{has}
-use Rattle.stage_names.specs.declared.kinds.KindName.TheVariants as kind
 use Rattle.stage_options.specs.declared.options.Options.TheVariants.{FiltersMerge}
 use Rattle.stage_options.specs.declared.stage.StageSpec.{StageSpec}
 use Rattle.stage_planner.specs.Plans.{is_whole, taker, next, times_over, end_of}
@@ -32,7 +31,7 @@ is_some_or_none (Some i) = inl (i, refl)
 
 -- any stage
 abbrev some_stage : StageSpec
-some_stage = record { kind = kind.FiltersMerge; ins = []; options = FiltersMerge (record {}) }
+some_stage = record { ins = []; options = FiltersMerge (record {}) }
 
 -- from stage j the way stays there, or goes on to a stage k of the same run that takes it
 abbrev pub Leads : List StageSpec → ℕ → ℕ → Type 0

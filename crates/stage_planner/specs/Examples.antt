@@ -1,6 +1,5 @@
 -- Plans that compute.
 use Rattle.std.specs.Prelude.{ℕ, ◌≡◌, false, List, [], ◌∷◌, None, codes, refl}
-use Rattle.stage_names.specs.declared.kinds.KindName.TheVariants as kind
 use Rattle.stage_options.specs.declared.options.Options.TheVariants.{ReadersLas, FiltersHead, FiltersMerge, FiltersSort}
 use Rattle.stage_options.specs.declared.stage.StageSpec.{StageSpec}
 use Rattle.stage_planner.specs.declared.steps.PlanStep.TheVariants.{Run, Whole}
@@ -8,16 +7,16 @@ use Rattle.stage_planner.specs.Plans.{plan_of, end_of}
 
 -- a reader, and by the numbers of the stages that they take a head, a merge and a sort
 abbrev read : StageSpec
-read = record { kind = kind.ReadersLas; ins = []; options = ReadersLas (record { filename = codes "a.las"; extra = false }) }
+read = record { ins = []; options = ReadersLas (record { filename = codes "a.las"; extra = false }) }
 
 abbrev head : List ℕ → StageSpec
-head ins = record { kind = kind.FiltersHead; ins = ins; options = FiltersHead (record { count = 1; only = None }) }
+head ins = record { ins = ins; options = FiltersHead (record { count = 1; only = None }) }
 
 abbrev merge : List ℕ → StageSpec
-merge ins = record { kind = kind.FiltersMerge; ins = ins; options = FiltersMerge (record {}) }
+merge ins = record { ins = ins; options = FiltersMerge (record {}) }
 
 abbrev sort : List ℕ → StageSpec
-sort ins = record { kind = kind.FiltersSort; ins = ins; options = FiltersSort (record { dimension = codes "Z"; down = false }) }
+sort ins = record { ins = ins; options = FiltersSort (record { dimension = codes "Z"; down = false }) }
 
 -- a tree of streamed stages is one run
 pub streamed_plan : plan_of (read ∷ read ∷ merge (0 ∷ 1 ∷ []) ∷ head (2 ∷ []) ∷ []) ≡ Run (0 ∷ 1 ∷ 2 ∷ 3 ∷ []) ∷ []

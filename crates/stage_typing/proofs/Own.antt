@@ -1,15 +1,12 @@
--- Typed stages have the options of their types.
-use Rattle.std.proofs.Common.{ℕ, zero, suc, ◌≡◌, List, [], ◌∷◌, Option, unwrap_or, refl, ap, subst}
-use Rattle.std.proofs.lemmas.Option.{none-some}
+-- Typed options are those of the stage's type.
+use Rattle.std.proofs.Common.{ℕ, ◌≡◌, List, Option, refl}
 use Rattle.serde_json.specs.Data.{Members}
 use Rattle.stage_names.specs.declared.kinds.KindName.{KindName}
 use Rattle.stage_names.specs.declared.kinds.KindName.TheVariants as kind
-use Rattle.pipeline_json.specs.Stages.{Stage}
-use Rattle.stage_options.specs.Kinds.{kind_of, HaveOwnOptions}
+use Rattle.stage_options.specs.Kinds.{kind_of}
 use Rattle.stage_typing.specs.Typed.{typed_of}
-use Rattle.stage_typing.specs.TypedTree.{specs_of}
 
-own_kind : (k : KindName) (filename : Option (List ℕ)) (ms : Members) → kind_of (typed_of k filename ms) ≡ k
+pub own_kind : (k : KindName) (filename : Option (List ℕ)) (ms : Members) → kind_of (typed_of k filename ms) ≡ k
 own_kind kind.ReadersLas filename ms = refl
 own_kind kind.FiltersRange filename ms = refl
 own_kind kind.FiltersCrop filename ms = refl
@@ -29,8 +26,3 @@ own_kind kind.FiltersVoxeldownsize filename ms = refl
 own_kind kind.WritersLas filename ms = refl
 own_kind kind.WritersText filename ms = refl
 own_kind kind.WritersTally filename ms = refl
-
-pub have_own : (stages : List Stage) → HaveOwnOptions (specs_of stages)
-have_own [] i t e = absurd (none-some t e)
-have_own (s ∷ later) zero t e = subst (λ u. kind_of u.options ≡ u.kind) (ap (λ o. unwrap_or o t) e) (own_kind s.kind s.filename s.members)
-have_own (s ∷ later) (suc i) t e = have_own later i t e

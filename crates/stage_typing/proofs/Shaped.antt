@@ -8,6 +8,7 @@ use Rattle.pipeline_json.specs.Stages.{Stage, taken}
 use Rattle.pipeline_json.specs.Trees.{IsTree}
 use Rattle.stage_options.specs.Shapes.{shape, shapes}
 use Rattle.stage_typing.specs.TypedTree.{spec_of, specs_of}
+use Rattle.stage_typing.proofs.Own.{own_kind}
 
 same_taken : (stages : List Stage) → taken (shapes (specs_of stages)) ≡ taken stages
 same_taken [] = refl
@@ -27,5 +28,7 @@ shaped_tree stages t = record {
   few = omega (arith, same_length stages, t.few);
   earlier = λ i j s h g. let f = come_from stages i s h in t.earlier i j f.0 f.1 (subst (λ u. has u.ins j ≡ true) (sym f.2) g);
   once = λ j last. subst (λ xs. times j xs ≡ 1) (sym (same_taken stages)) (t.once j (omega (arith, same_length stages, last)));
-  readers = λ i s h. let f = come_from stages i s h in subst (λ u. is_empty u.ins ≡ is_reader u.kind) f.2 (t.readers i f.0 f.1);
+  readers = λ i s h.
+      let f = come_from stages i s h in
+      subst (λ u. is_empty u.ins ≡ is_reader u.kind) f.2 (t.readers i f.0 f.1 ∙ ap is_reader (sym (own_kind f.0.kind f.0.filename f.0.members)));
 }

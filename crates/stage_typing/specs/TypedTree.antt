@@ -22,7 +22,7 @@ options_of s = typed_of s.kind s.filename s.members
 
 -- the stage with its options
 abbrev pub spec_of : Stage → StageSpec
-spec_of s = record { kind = s.kind; ins = s.ins; options = options_of s }
+spec_of s = record { ins = s.ins; options = options_of s }
 
 abbrev pub specs_of : List Stage → List StageSpec
 specs_of stages = map spec_of stages

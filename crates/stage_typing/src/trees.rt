@@ -5,7 +5,6 @@ ghost use Rattle.pipeline_json.specs.Shown.{stage_view, stages_view};
 ghost use Rattle.pipeline_json.specs.Trees.{IsTree};
 ghost use Rattle.pipeline_json.specs.TreeShown.{tree_view};
 ghost use Rattle.stage_names.specs.Faults.{IsFaultOf};
-ghost use Rattle.stage_options.specs.Kinds.{HaveOwnOptions};
 ghost use Rattle.stage_options.specs.Shapes.{shapes};
 ghost use Rattle.stage_options.specs.TreeShown.{specs_view};
 ghost use Rattle.stage_typing.specs.TypedTree.{stage_fault, spec_of, specs_of, options_fault, typed_tree, IsToldFault};
@@ -40,11 +39,7 @@ fn type_stage(alloc: Global, raw: &RawStage, i: u32) -> Result<StageSpec, PipeEr
     // No way out of here drops typed options: what a drop of them may do weighs more in a proof than all the rest.
     let ins = copied(alloc, &raw.ins)?;
     match type_options(alloc, raw.kind, filename, &raw.options, i) {
-        Ok(options) => Ok(StageSpec {
-            kind: raw.kind,
-            ins,
-            options,
-        }),
+        Ok(options) => Ok(StageSpec { ins, options }),
         Err(err) => Err(err),
     }
 }
@@ -68,12 +63,11 @@ fn type_stages(alloc: Global, list: &[RawStage]) -> Result<Vec<StageSpec>, PipeE
 
 /// The tree with its options typed. The first fault is told: of the stages in their order, of each as `type_stage` tells
 /// it, and then `SameOutput` with the least number of a writer whose file an earlier one names. `Memory` comes only where
-/// there was none. Each stage has the options of its type.
+/// there was none.
 pub fn type_tree(alloc: Global, raw: &RawTree) -> Result<Tree, PipeErr>
     ensures ok { IfOk result (λ tree. typed_tree (tree_view raw.now) ≡ Ok (specs_view tree)) }
     ensures fault { IfErr result (IsToldFault (typed_tree (tree_view raw.now))) }
     ensures is_tree { IfOk result (λ tree. IsTree (shapes (specs_view tree))) }
-    ensures own { IfOk result (λ tree. HaveOwnOptions (specs_view tree)) }
 {
     let specs = type_stages(alloc, raw.as_slice())?;
     if let Some(i) = first_same_output(&specs) {

@@ -20,15 +20,15 @@ impl<M> Collector<M> {
     ghost use Rattle.view_works.specs.Collecting.{held, collecting, state_of};
 
     /// One that holds nothing yet, of a stage that makes this of whole views. It keeps points in rows that have the
-    /// dimensions of the layout.
-    pub fn new(alloc: Global, layout: &Layout, making: M) -> Collector<M>
+    /// dimensions of the layout, and their keys will be hashed by the seed.
+    pub fn new(alloc: Global, layout: &Layout, seed: u64, making: M) -> Collector<M>
         ensures views { result.views ≡ empty_flow }
         ensures short { result.short ≡ false }
         ensures making { result.making ≡ making }
     {
         Collector {
             making,
-            views: Views::none(alloc, layout),
+            views: Views::none(alloc, layout).seeded(seed),
             short: false,
         }
     }

@@ -11,6 +11,7 @@ use crate::Views;
 use crate::keys::{DimKey, PointKey};
 use crate::points::Points;
 use crate::rows::Rows;
+use crate::seeded::Seeded;
 use cloud_points::Dim;
 use std::alloc::{AllocError, Global};
 use std::collections::HashMap;
@@ -40,7 +41,7 @@ pub fn group_by<K: PointKey>(alloc: Global, views: Views, by: &K) -> Result<View
         made.set_cut();
         return Ok(made);
     }
-    made.complete = parts_of_each(alloc, views.complete, by)?;
+    made.complete = parts_of_each(alloc, views.complete, by, Seeded::by(views.seed))?;
     Ok(made)
 }
 
@@ -49,23 +50,29 @@ fn parts_of_each<K: PointKey>(
     alloc: Global,
     views: Vec<Rows>,
     by: &K,
+    hashing: Seeded,
 ) -> Result<Vec<Rows>, AllocError>
     ensures { IfOk result (λ made. made.items ≡ flat_map (groups K.Key.eq (K.key by.now)) views.items) }
 {
     let mut made = Vec::new(alloc);
     for view in views {
-        let mut parts = parts_of(alloc, view, by)?;
+        let mut parts = parts_of(alloc, view, by, hashing)?;
         made.append(&mut parts)?;
     }
     Ok(made)
 }
 
 // The points of one view in their groups, each copied once.
-fn parts_of<K: PointKey>(alloc: Global, view: Rows, by: &K) -> Result<Vec<Rows>, AllocError>
+fn parts_of<K: PointKey>(
+    alloc: Global,
+    view: Rows,
+    by: &K,
+    hashing: Seeded,
+) -> Result<Vec<Rows>, AllocError>
     ensures { IfOk result (λ made. made.items ≡ groups K.Key.eq (K.key by.now) view) }
 {
     let empty = view.like();
-    let mut places = HashMap::new(alloc);
+    let mut places = HashMap::with_hasher(alloc, hashing);
     let mut made = Vec::new(alloc);
     let mut points = Points::of(view);
     while points.has_more() {
@@ -78,7 +85,7 @@ fn parts_of<K: PointKey>(alloc: Global, view: Rows, by: &K) -> Result<Vec<Rows>,
 
 // The place of the group with a key; a new group gets the place `next`.
 fn place_of<K: Eq + Hash + Drop>(
-    places: &mut HashMap<K, usize>,
+    places: &mut HashMap<K, usize, Seeded>,
     key: K,
     next: usize,
 ) -> Result<usize, AllocError>

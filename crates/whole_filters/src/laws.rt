@@ -5,7 +5,7 @@ ghost use Rattle.std.specs.List.{list_any};
 ghost use Rattle.std.specs.List.Sorted.{IsStableBy};
 ghost use Rattle.cloud_points.specs.Flows.{all_of};
 ghost use Rattle.cloud_points.specs.declared.point.Point.{Point};
-ghost use Rattle.whole_filters.specs.Whole.{before, sorted_by, distinct, groups};
+ghost use Rattle.whole_filters.specs.Whole.{before, sorted_by, distinct, first_of_each, groups};
 
 /// A sorted view has the points of the view, in the order of the key, upwards or downwards; points of one key stay in their
 /// order; and no other list does both.
@@ -32,4 +32,12 @@ pub fn group_laws<K: Eq>()
     ensures values_once { (vs : List K) → AllPairs (λ v w. K.eq v w ≡ false) (distinct K.eq vs) }
     ensures in_order { (vs : List K) (v : K) → distinct K.eq (vs ++ v ∷ [])
         ≡ (if list_any (K.eq v) vs then distinct K.eq vs else distinct K.eq vs ++ v ∷ []) }
+{}
+
+/// Of an empty view nothing is kept. A point that comes behind a view is kept exactly where no point of that view has its key, and
+/// changes nothing else.
+pub fn first_of_each_laws<K: Eq>()
+    ensures none { (key : Point → K) → first_of_each K.eq key [] ≡ [] ∷ [] }
+    ensures one_more { (key : Point → K) (view : List Point) (p : Point) → all_of (first_of_each K.eq key (view ++ p ∷ []))
+        ≡ all_of (first_of_each K.eq key view) ++ (if list_any (λ q. K.eq (key p) (key q)) view then [] else p ∷ []) }
 {}

@@ -7,6 +7,7 @@ use crate::Views;
 use crate::keys::PointKey;
 use crate::points::Points;
 use crate::rows::Rows;
+use crate::seeded::Seeded;
 use std::alloc::{AllocError, Global};
 use std::collections::HashSet;
 
@@ -26,7 +27,7 @@ pub fn first_of_each<K: PointKey>(alloc: Global, views: Views, by: &K) -> Result
         made.set_cut();
         return Ok(made);
     }
-    made.complete = firsts_of_each(alloc, views.complete, by)?;
+    made.complete = firsts_of_each(alloc, views.complete, by, Seeded::by(views.seed))?;
     Ok(made)
 }
 
@@ -35,23 +36,30 @@ fn firsts_of_each<K: PointKey>(
     alloc: Global,
     views: Vec<Rows>,
     by: &K,
+    hashing: Seeded,
 ) -> Result<Vec<Rows>, AllocError>
     ensures { IfOk result (λ made. made.items ≡ flat_map (first_of_each K.Key.eq (K.key by.now)) views.items) }
 {
     let mut made = Vec::with_capacity(alloc, views.len())?;
     for view in views {
-        made.push(firsts_of(alloc, view, by)?)?;
+        made.push(firsts_of(alloc, view, by, hashing)?)?;
     }
     Ok(made)
 }
 
 // The points of one view that have no earlier one with their key, each copied once.
-fn firsts_of<K: PointKey>(alloc: Global, view: Rows, by: &K) -> Result<Rows, AllocError>
+fn firsts_of<K: PointKey>(
+    alloc: Global,
+    view: Rows,
+    by: &K,
+    hashing: Seeded,
+) -> Result<Rows, AllocError>
     ensures { IfOk result (λ made. made
         ≡ distinct (λ p q. K.Key.eq (K.key by.now p) (K.key by.now q)) view) }
 {
     let mut made = view.like();
-    let mut seen = HashSet::with_capacity(alloc, view.len().min(MOST_AT_FIRST))?;
+    let room = view.len().min(MOST_AT_FIRST);
+    let mut seen = HashSet::with_capacity_and_hasher(alloc, room, hashing)?;
     let mut points = Points::of(view);
     while points.has_more() {
         if seen.insert(points.first_key(by))? {

@@ -18,6 +18,9 @@ pub struct Views {
     pub(crate) complete: Vec<Rows>,
     pub(crate) last: Rows,
     pub(crate) cut: bool,
+
+    // By which the keys of points are hashed.
+    pub(crate) seed: u64,
 }
 
 impl Model for Views {
@@ -41,14 +44,25 @@ impl Views {
             complete: Vec::new(alloc),
             last: Rows::none(alloc, layout),
             cut: false,
+            seed: 0,
         }
     }
 
-    /// No views, for points of the same layout.
+    /// These views, the keys of whose points are hashed by a seed. Any seed gives the same answers. Where it can't be guessed, no
+    /// file can be made whose points collide.
+    pub fn seeded(self, seed: u64) -> Views
+        ensures { result ≡ self }
+    {
+        let mut views = self;
+        views.seed = seed;
+        views
+    }
+
+    /// No views, for points of the same layout, whose keys are hashed by the same seed.
     pub fn like(&self) -> Views
         ensures { result ≡ empty_flow }
     {
-        Views::none(self.alloc, &self.layout)
+        Views::none(self.alloc, &self.layout).seeded(self.seed)
     }
 
     /// Puts a point at the end of the open view. It is refused for want of memory alone.

@@ -187,21 +187,20 @@ fn shown_stage(alloc: Global, tree: &Tree, i: usize) -> Result<String, AllocErro
         Some(first) => *first,
         None => 0,
     };
-    let kind = stage.options.kind().name();
     format!(in alloc;
-        "{} {kind} takes {takes} from {first} {does} {name}",
-        stage.kind.name()
+        "{} takes {takes} from {first} {does} {name}",
+        stage.options.kind().name()
     )
 }
 
 /// The stages of a pipeline, as words.
 const SHOWN: [&str; 7] = [
-    "readers.las readers.las takes 0 from 0 reads a.las",
-    "filters.head filters.head takes 1 from 0 filters ",
-    "filters.merge filters.merge takes 1 from 1 filters ",
-    "filters.plug filters.plug takes 1 from 2 filters ",
-    "writers.tally writers.tally takes 1 from 3 filters ",
-    "writers.text writers.text takes 1 from 4 writes o.txt",
+    "readers.las takes 0 from 0 reads a.las",
+    "filters.head takes 1 from 0 filters ",
+    "filters.merge takes 1 from 1 filters ",
+    "filters.plug takes 1 from 2 filters ",
+    "writers.tally takes 1 from 3 filters ",
+    "writers.text takes 1 from 4 writes o.txt",
     "no stage",
 ];
 

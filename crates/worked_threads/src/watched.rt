@@ -162,4 +162,8 @@ impl Files for WatchedFiles {
     fn done_out(&mut self, out: WatchedOut) {
         self.files.done_out(out.sink);
     }
+
+    fn hash_seed(&self) -> u64 {
+        self.files.hash_seed()
+    }
 }

@@ -1,5 +1,6 @@
-use Rattle.std.proofs.Common.{◌∷◌, ◌+◌, ◌≤◌, max, length, vec_len, Ok, option_map, ap, subst, sym, ◌∙◌, arith}
+use Rattle.std.proofs.Common.{rules, ◌≡◌, ◌∷◌, ◌+◌, ◌≤◌, max, length, vec_len, Ok, Err, option_map, ap, subst, sym, ◌∙◌, arith}
 use Rattle.file_devices.specs.Told.{IsAsTold}
+use Rattle.file_devices.specs.declared.whole.WholeErr.TheVariants.{Failed as ReadFailed}
 use Rattle.run_report.specs.declared.refusal.Place.TheVariants.{PipelineFile}
 use Rattle.answer_model.specs.Runs.{file_at}
 use Rattle.run_engine.proofs.Ahead.{read-at-most}
@@ -27,3 +28,20 @@ returns-in-Ok-Some-clause-gave g c =
     let files = g.F.Files in
     let count = g.F.In.Source.faults c.read_whole-read.new.source in
     (count, subst (λ o. IsAsTold (files.counts c.done_in.new.self) (option_map (λ cs. count ∷ cs) o)) c.open_in.ensures.counts c.done_in.ensures.counts)
+
+pub returns-in-Ok-None-clause-told : goal.returns-in-Ok-None-clause-told
+returns-in-Ok-None-clause-told g c =
+    let files = g.F.Files in
+    let count = g.F.In.Source.faults c.read_whole-read.new.source in
+    (count, subst (λ o. IsAsTold (files.counts c.done_in.new.self) (option_map (λ cs. count ∷ cs) o)) c.open_in.ensures.counts c.done_in.ensures.counts)
+
+pub returns-in-Err-Failed-clause-told : goal.returns-in-Err-Failed-clause-told
+returns-in-Err-Failed-clause-told g c =
+    let files = g.F.Files in
+    let count = g.F.In.Source.faults c.read_whole-read.new.source in
+    let failed : c.read_whole-read.result ≡ Err ReadFailed = search rules in
+    let rose = c.read_whole-read.ensures.failed failed in (
+      count,
+      omega (arith, c.in-Ok.ensures.fresh.0, rose),
+      subst (λ o. IsAsTold (files.counts c.done_in.new.self) (option_map (λ cs. count ∷ cs) o)) c.open_in.ensures.counts c.done_in.ensures.counts,
+    )

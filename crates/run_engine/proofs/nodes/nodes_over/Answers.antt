@@ -38,7 +38,7 @@ new-requires-clause-leaf g c =
     let n = one_less c.loop-work.at (vec_len c.loop-work.works) (vec_len c.pop.new.self) (length c.args.works.items) now.count c.in-Some.ensures.cases in
     let lt : c.loop-work.at < length c.args.stages.now = (let a = n.0 in let b = c.requires.count in omega (arith, a, b)) in
     let start = somehow g.K.Sink.bytes c.args.stages.now c.args.works.items c.requires.starts c.loop-work.at c.in-Some.work p.0 in
-    let leaf = leaf-at g.S.Source g.K.Sink.bytes c.args.stages.now c.loop-work.at c.in-Some.work start.0 c.requires.tree c.requires.own lt start.1 in
+    let leaf = leaf-at g.S.Source g.K.Sink.bytes c.args.stages.now c.loop-work.at c.in-Some.work start.0 c.requires.tree lt start.1 in
     (λ h. c.inputs_of.ensures ∙ leaf.0 h, λ h. leaf.1 (sym c.inputs_of.ensures ∙ h))
 
 pub loop-work-preserved : goal.loop-work-preserved

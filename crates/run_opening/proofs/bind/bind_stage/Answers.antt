@@ -18,7 +18,7 @@ returns-in-Err-clause-err g c =
     let o = c.args.stage.now.options in
     let has = holds c.args.below.now.layout in
     let found = found_of o c.args.reader.now in
-    c.unbound_refusal.ensures (unbound c.args.number c.args.names.now has o found) (options-fault c.args.number c.args.names.now has o found c.in-Err.err c.in-Err.ensures.fault)
+    c.unbound_refusal.ensures.at (unbound c.args.number c.args.names.now has o found) (options-fault c.args.number c.args.names.now has o found c.in-Err.err c.in-Err.ensures.fault)
 
 pub returns-in-Ok-take_fields-clause-form : goal.returns-in-Ok-take_fields-clause-form
 returns-in-Ok-take_fields-clause-form g c = λ handed.
@@ -52,7 +52,7 @@ returns-in-Err-take_fields-clause-err g c =
     let names = c.args.names.now in
     let has = holds c.args.below.now.layout in
     let fault = found-fault c.args.number names c.bind.new.names has o (fields_found o (read_of c.in-Some.reader)) c.in-Err-take_fields.err c.in-Ok.ensures.ok c.in-Ok.ensures.names c.in-Err-take_fields.ensures.fault in
-    c.unbound_refusal-in-Err-take_fields.ensures (unbound c.args.number names has o (found_of o c.args.reader.now))
+    c.unbound_refusal-in-Err-take_fields.ensures.at (unbound c.args.number names has o (found_of o c.args.reader.now))
     (subst (λ r. IsFaultOf (unbound c.args.number names has o (found_of o r)) c.in-Err-take_fields.err) (sym c.in-Some.is) fault)
 
 pub returns-in-Ok-stage_form-clause-fits : goal.returns-in-Ok-stage_form-clause-fits
