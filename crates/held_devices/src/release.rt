@@ -10,6 +10,7 @@ ghost use Rattle.stage_kinds.specs.Held.{faults_of, held_by, op_of};
 ghost use Rattle.stage_kinds.specs.Leads.{reached_of};
 ghost use Rattle.held_devices.specs.Handing.{FiltersOut, TalliesOut, with_filter, with_tally};
 ghost use Rattle.held_devices.specs.Holding.{there, all_there, all_held, count_on, counts_on, source_counts};
+ghost use Rattle.held_devices.specs.Lending.{Settles};
 
 use file_devices::Files;
 use las_reader::LasReader;
@@ -18,10 +19,7 @@ use stage_kinds::{Held, StageWork};
 
 /// Gives back the sources of readers, from the last one on.
 pub fn give_back<F: Files>(files: &mut F, readers: Vec<Option<LasReader<F::In>>>)
-    ensures map { F.map files.new ≡ F.map files.old }
-    ensures lent { (others : ℕ) → F.lent files.old ≡ others + all_there readers.items
-        → F.lent files.new ≡ others }
-    ensures later { F.faults files.old ≤ F.faults files.new }
+    ensures settles { Settles F.Files (all_there readers.items) files.old files.new }
     ensures told { IsAsTold (F.counts files.new)
         (option_map (λ cs. all_listed (source_counts F.In.faults readers.items) ++ cs) (F.counts files.old)) }
 {
@@ -41,9 +39,7 @@ fn release_work<F: Files, P: PlugFilter, Q: PlugTally>(
     places: &mut Places<P, Q>,
     work: StageWork<F::In, F::Out, P, Q>,
 )
-    ensures map { F.map files.new ≡ F.map files.old }
-    ensures lent { (others : ℕ) → F.lent files.old ≡ others + there (op_of work) → F.lent files.new ≡ others }
-    ensures later { F.faults files.old ≤ F.faults files.new }
+    ensures settles { Settles F.Files (there (op_of work)) files.old files.new }
     ensures counted { saturating (F.faults files.old) (faults_of F.In.faults F.Out.faults work)
         ≤ F.faults files.new }
     ensures read { IsAsTold (F.read_to files.new)
@@ -68,10 +64,7 @@ pub fn release_works<F: Files, P: PlugFilter, Q: PlugTally>(
     places: &mut Places<P, Q>,
     works: Vec<StageWork<F::In, F::Out, P, Q>>,
 )
-    ensures map { F.map files.new ≡ F.map files.old }
-    ensures lent { (others : ℕ) → F.lent files.old ≡ others + all_held works.items
-        → F.lent files.new ≡ others }
-    ensures later { F.faults files.old ≤ F.faults files.new }
+    ensures settles { Settles F.Files (all_held works.items) files.old files.new }
     ensures counted { (i : ℕ) (w : work_type.StageWork F.In F.Out P Q) → slice_get works.items i ≡ Some w
         → saturating (F.faults files.old) (faults_of F.In.faults F.Out.faults w) ≤ F.faults files.new }
     ensures read { IsAsTold (F.read_to files.new)

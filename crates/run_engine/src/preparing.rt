@@ -1,6 +1,6 @@
 //! A run is prepared.
 
-ghost use Rattle.std.specs.Prelude.{◌≡◌, ◌≤◌, ◌+◌, IfOk, IfErr, OnOk, OnErr};
+ghost use Rattle.std.specs.Prelude.{IfOk, IfErr, OnErr};
 ghost use Rattle.file_devices.specs.Counts.{Rose};
 ghost use Rattle.pipeline_json.specs.Trees.{IsTree};
 ghost use Rattle.stage_options.specs.Shapes.{shapes};
@@ -8,6 +8,7 @@ ghost use Rattle.answer_model.specs.Naming.{AreBack, AreNamed};
 ghost use Rattle.plug_stages.specs.Handed.{handed_by};
 ghost use Rattle.stage_forms.specs.Out.{AreTakenOut};
 ghost use Rattle.held_devices.specs.Holding.{all_held};
+ghost use Rattle.held_devices.specs.Lending.{Lends, Settles};
 ghost use Rattle.run_outcome.specs.Cause.{IsCause, IsEarly};
 ghost use Rattle.run_outcome.specs.Least.{IsNamedBy};
 ghost use Rattle.run_opening.specs.Opening.{IsBeforePoints};
@@ -74,13 +75,9 @@ pub fn prepare<F: Files, P: PlugFilter, Q: PlugTally, T: Scheduler<StageWork<F::
     ensures back { OnErr result (AreBack P.PlugFilter Q.PlugTally stages.now places.old places.new) }
     ensures early { IfErr result IsEarly }
     ensures before { IfErr result IsBeforePoints }
-    ensures map { F.map files.new ≡ F.map files.old }
-    ensures lent_ok { IfOk result (λ job. F.lent files.new ≡ F.lent files.old + all_held job.works.items) }
-    ensures lent_err { OnErr result (F.lent files.new ≡ F.lent files.old) }
-    ensures read { OnOk result (F.read_to files.new ≡ F.read_to files.old) }
-    ensures counts { OnOk result (F.counts files.new ≡ F.counts files.old) }
+    ensures lends { IfOk result (λ job. Lends F.Files 0 (all_held job.works.items) files.old files.new) }
+    ensures settles { OnErr result (Settles F.Files 0 files.old files.new) }
     ensures least { IfErr result (IsNamedBy stages.now (F.counts files.old) (F.counts files.new)) }
-    ensures later { F.faults files.old ≤ F.faults files.new }
 {
     let works = ready_works(alloc, files, places, stages)?;
     match waiting(alloc, scheduler, stages, engine) {

@@ -1,6 +1,6 @@
 //! The works of a tree's stages at their start.
 
-ghost use Rattle.std.specs.Prelude.{◌≡◌, ◌≤◌, ◌+◌, ◌++◌, ℕ, length, set, None, Some, is_some, option_map, true, IfOk, IfErr, IfSome, OnOk, OnErr};
+ghost use Rattle.std.specs.Prelude.{◌≡◌, ◌≤◌, ◌++◌, length, set, None, Some, is_some, option_map, true, IfOk, IfErr, IfSome, OnErr};
 ghost use Rattle.answer_model.specs.Naming.{AreBack, AreNamed};
 ghost use Rattle.cloud_points.specs.Layouts.{holds};
 ghost use Rattle.file_devices.specs.Counts.{Rose, listed, saturating};
@@ -16,6 +16,7 @@ ghost use Rattle.las_reader.specs.Lists.{AreFields};
 ghost use Rattle.run_opening.specs.Begun.{AreBegun, AreMade, IsFine, IsForm, IsOpened, IsReaderOf, IsWork};
 ghost use Rattle.run_opening.specs.Taken.{AreFound, without};
 ghost use Rattle.held_devices.specs.Holding.{there, all_there, all_held};
+ghost use Rattle.held_devices.specs.Lending.{Lends, Settles};
 ghost use Rattle.file_devices.specs.Told.{IsAsTold};
 ghost use Rattle.run_outcome.specs.Cause.{CanBegin, IsCause, IsEarly};
 ghost use Rattle.run_outcome.specs.Least.{IsNamedBy};
@@ -50,12 +51,8 @@ fn open_writer<F: Files, P: PlugFilter, Q: PlugTally>(
         number e.0 e.1) }
     ensures early { IfErr result (λ e. IsEarly e.1) }
     ensures before { IfErr result (λ e. IsBeforePoints e.1) }
-    ensures map { F.map files.new ≡ F.map files.old }
-    ensures lent_ok { IfOk result (λ work. F.lent files.new ≡ F.lent files.old + there (op_of work)) }
-    ensures lent_err { IfErr result (λ e. F.lent files.new ≡ F.lent files.old + there e.0) }
-    ensures read { F.read_to files.new ≡ F.read_to files.old }
-    ensures counts { F.counts files.new ≡ F.counts files.old }
-    ensures later { F.faults files.old ≤ F.faults files.new }
+    ensures lends { IfOk result (λ work. Lends F.Files 0 (there (op_of work)) files.old files.new) }
+    ensures left { IfErr result (λ e. Lends F.Files 0 (there e.0) files.old files.new) }
 {
     let sink = match files.create(name) {
         Ok(sink) => sink,
@@ -74,11 +71,9 @@ fn open_writer<F: Files, P: PlugFilter, Q: PlugTally>(
 
 /// Gives back the sink of a file that couldn't be begun.
 fn drop_sink<F: Files>(files: &mut F, sink: Option<F::Out>)
-    ensures map { F.map files.new ≡ F.map files.old }
-    ensures lent { (others : ℕ) → F.lent files.old ≡ others + there sink → F.lent files.new ≡ others }
+    ensures settles { Settles F.Files (there sink) files.old files.new }
     ensures told { IsAsTold (F.counts files.new)
         (option_map (λ cs. listed (option_map F.Out.faults sink) ++ cs) (F.counts files.old)) }
-    ensures later { F.faults files.old ≤ F.faults files.new }
     ensures counted { IfSome sink (λ k. saturating (F.faults files.old) (F.Out.faults k) ≤ F.faults files.new) }
 {
     if let Some(sink) = sink {
@@ -171,13 +166,8 @@ fn begin_work<F: Files, P: PlugFilter, Q: PlugTally>(
     ensures none { OnErr result (there reader ≡ 0) }
     ensures early { IfErr result (λ e. IsEarly e.1) }
     ensures before { IfErr result (λ e. IsBeforePoints e.1) }
-    ensures map { F.map files.new ≡ F.map files.old }
-    ensures lent_ok { IfOk result (λ work. F.lent files.new + there reader
-        ≡ F.lent files.old + there (op_of work)) }
-    ensures lent_err { IfErr result (λ e. F.lent files.new ≡ F.lent files.old + there e.0) }
-    ensures read { F.read_to files.new ≡ F.read_to files.old }
-    ensures counts { F.counts files.new ≡ F.counts files.old }
-    ensures later { F.faults files.old ≤ F.faults files.new }
+    ensures lends { IfOk result (λ work. Lends F.Files (there reader) (there (op_of work)) files.old files.new) }
+    ensures left { IfErr result (λ e. Lends F.Files 0 (there e.0) files.old files.new) }
 {
     let Some(reader) = reader else {
         return match form {
@@ -238,15 +228,10 @@ pub(crate) fn begin_works<F: Files, P: PlugFilter, Q: PlugTally>(
         (handed_by P.PlugFilter Q.PlugTally places.old) (F.map files.old) stages.now) }
     ensures early { IfErr result IsEarly }
     ensures before { IfErr result IsBeforePoints }
-    ensures map { F.map files.new ≡ F.map files.old }
-    ensures lent_ok { IfOk result (λ works. (others : ℕ) → F.lent files.old ≡ others + all_there readers.items
-        → F.lent files.new ≡ others + all_held works.items) }
-    ensures lent_err { OnErr result ((others : ℕ)
-        → F.lent files.old ≡ others + all_there readers.items → F.lent files.new ≡ others) }
-    ensures read { OnOk result (F.read_to files.new ≡ F.read_to files.old) }
-    ensures counts { OnOk result (F.counts files.new ≡ F.counts files.old) }
+    ensures lends { IfOk result (λ works. Lends F.Files (all_there readers.items) (all_held works.items)
+        files.old files.new) }
+    ensures settles { OnErr result (Settles F.Files (all_there readers.items) files.old files.new) }
     ensures least { IfErr result (IsNamedBy stages.now (F.counts files.old) (F.counts files.new)) }
-    ensures later { F.faults files.old ≤ F.faults files.new }
 {
     let Ok(mut works) = Vec::with_capacity(alloc, stages.len()) else {
         give_back(files, readers);

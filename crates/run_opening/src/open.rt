@@ -1,11 +1,12 @@
 //! The files of a tree's readers are opened.
 
-ghost use Rattle.std.specs.Prelude.{◌≡◌, ◌≤◌, ◌+◌, ◌<◌, length, None, IfOk, IfErr, OnOk, OnErr};
+ghost use Rattle.std.specs.Prelude.{◌≡◌, ◌≤◌, length, IfOk, IfErr, OnOk, OnErr};
 ghost use Rattle.file_devices.specs.Counts.{Rose};
 ghost use Rattle.plug_stages.specs.Handed.{Handed};
 ghost use Rattle.stage_options.specs.Roles.{Reads, role_of};
 ghost use Rattle.run_opening.specs.Begun.{IsReading, IsOpened, AreOpened};
 ghost use Rattle.held_devices.specs.Holding.{there, all_there};
+ghost use Rattle.held_devices.specs.Lending.{Lends, Settles};
 ghost use Rattle.run_outcome.specs.Cause.{IsCause, IsEarly};
 ghost use Rattle.run_outcome.specs.Least.{IsNamedBy};
 ghost use Rattle.run_opening.specs.Opening.{IsBeforePoints, IsUnopened, ToldUnopened, opening_refusal};
@@ -41,13 +42,9 @@ fn open_reader<F: Files>(
         (F.map files.old) stage (Reads name.now)) }
     ensures early { IfErr result IsEarly }
     ensures before { IfErr result IsBeforePoints }
-    ensures map { F.map files.new ≡ F.map files.old }
-    ensures lent_ok { OnOk result (F.lent files.new ≡ F.lent files.old + 1) }
-    ensures lent_err { OnErr result (F.lent files.new ≡ F.lent files.old) }
-    ensures read { OnOk result (F.read_to files.new ≡ F.read_to files.old) }
-    ensures counts { OnOk result (F.counts files.new ≡ F.counts files.old) }
+    ensures lends { OnOk result (Lends F.Files 0 1 files.old files.new) }
+    ensures settles { OnErr result (Settles F.Files 0 files.old files.new) }
     ensures told { IfErr result (ToldUnopened (F.counts files.old) (F.counts files.new)) }
-    ensures later { F.faults files.old ≤ F.faults files.new }
 {
     let source = match files.open_in(name) {
         Ok(source) => source,
@@ -75,13 +72,9 @@ fn open_stage<F: Files>(
         (F.map files.old) number (role_of stage.now.options)) }
     ensures early { IfErr result IsEarly }
     ensures before { IfErr result IsBeforePoints }
-    ensures map { F.map files.new ≡ F.map files.old }
-    ensures lent_ok { IfOk result (λ reader. F.lent files.new ≡ F.lent files.old + there reader) }
-    ensures lent_err { OnErr result (F.lent files.new ≡ F.lent files.old) }
-    ensures read { OnOk result (F.read_to files.new ≡ F.read_to files.old) }
-    ensures counts { OnOk result (F.counts files.new ≡ F.counts files.old) }
+    ensures lends { IfOk result (λ reader. Lends F.Files 0 (there reader) files.old files.new) }
+    ensures settles { OnErr result (Settles F.Files 0 files.old files.new) }
     ensures told { IfErr result (ToldUnopened (F.counts files.old) (F.counts files.new)) }
-    ensures later { F.faults files.old ≤ F.faults files.new }
 {
     match stage.options.role() {
         Role::Reads(name) => Ok(Some(open_reader(alloc, files, name, number)?)),
@@ -104,13 +97,9 @@ pub(crate) fn open_readers<F: Files>(
         → IsCause (Rose (F.faults files.old) (F.faults files.new)) handed (F.map files.old) stages.now refusal) }
     ensures early { IfErr result IsEarly }
     ensures before { IfErr result IsBeforePoints }
-    ensures map { F.map files.new ≡ F.map files.old }
-    ensures lent_ok { IfOk result (λ readers. F.lent files.new ≡ F.lent files.old + all_there readers.items) }
-    ensures lent_err { OnErr result (F.lent files.new ≡ F.lent files.old) }
-    ensures read { OnOk result (F.read_to files.new ≡ F.read_to files.old) }
-    ensures counts { OnOk result (F.counts files.new ≡ F.counts files.old) }
+    ensures lends { IfOk result (λ readers. Lends F.Files 0 (all_there readers.items) files.old files.new) }
+    ensures settles { OnErr result (Settles F.Files 0 files.old files.new) }
     ensures least { IfErr result (IsNamedBy stages.now (F.counts files.old) (F.counts files.new)) }
-    ensures later { F.faults files.old ≤ F.faults files.new }
 {
     let Ok(mut readers) = Vec::with_capacity(alloc, stages.len()) else {
         return Err(Refusal::Memory);

@@ -1,6 +1,6 @@
 //! The files of a run are opened and created.
 
-ghost use Rattle.std.specs.Prelude.{◌≡◌, ◌≤◌, ◌+◌, IfOk, IfErr, OnOk, OnErr};
+ghost use Rattle.std.specs.Prelude.{IfOk, IfErr, OnErr};
 ghost use Rattle.answer_model.specs.Naming.{AreBack, AreNamed};
 ghost use Rattle.file_devices.specs.Counts.{Rose};
 ghost use Rattle.pipeline_json.specs.Trees.{IsTree};
@@ -9,6 +9,7 @@ ghost use Rattle.stage_forms.specs.Out.{AreTakenOut};
 ghost use Rattle.stage_forms.specs.Starts.{AreHandedIn};
 ghost use Rattle.stage_options.specs.Shapes.{shapes};
 ghost use Rattle.held_devices.specs.Holding.{all_held};
+ghost use Rattle.held_devices.specs.Lending.{Lends, Settles};
 ghost use Rattle.run_outcome.specs.Cause.{IsCause, IsEarly};
 ghost use Rattle.run_outcome.specs.Least.{IsNamedBy};
 ghost use Rattle.run_opening.specs.Opening.{IsBeforePoints};
@@ -50,13 +51,9 @@ pub fn ready_works<F: Files, P: PlugFilter, Q: PlugTally>(
         (handed_by P.PlugFilter Q.PlugTally places.old) (F.map files.old) stages.now) }
     ensures early { IfErr result IsEarly }
     ensures before { IfErr result IsBeforePoints }
-    ensures map { F.map files.new ≡ F.map files.old }
-    ensures lent_ok { IfOk result (λ works. F.lent files.new ≡ F.lent files.old + all_held works.items) }
-    ensures lent_err { OnErr result (F.lent files.new ≡ F.lent files.old) }
-    ensures read { OnOk result (F.read_to files.new ≡ F.read_to files.old) }
-    ensures counts { OnOk result (F.counts files.new ≡ F.counts files.old) }
+    ensures lends { IfOk result (λ works. Lends F.Files 0 (all_held works.items) files.old files.new) }
+    ensures settles { OnErr result (Settles F.Files 0 files.old files.new) }
     ensures least { IfErr result (IsNamedBy stages.now (F.counts files.old) (F.counts files.new)) }
-    ensures later { F.faults files.old ≤ F.faults files.new }
 {
     let readers = open_readers(alloc, files, stages)?;
     let bound = match bind_stages(alloc, stages, readers.as_slice()) {

@@ -36,12 +36,12 @@ loop-reader-preserved g c =
           c.in-Some.ensures.items (ap (option_map (λ r. g.F.In.Source.faults r.source)) c.in-None.is) now.told;
     }
 
-pub returns-clause-lent : goal.returns-clause-lent
-returns-clause-lent g c = λ others e.
+pub returns-clause-settles : goal.returns-clause-settles
+returns-clause-settles g c =
+    let now = c.loop-reader.invariant in
     let none = none-there c.loop-reader.readers.items (let z = c.in_default.ensures.cases.0 in let k = c.loop-reader.readers.ok in omega (arith, z, k)) in
-    let a = c.loop-reader.invariant.lent others e in
     let b : all_there c.loop-reader.readers.items ≡ 0 = ap all_there none in
-    omega (arith, a, b)
+    record { map = now.map; later = now.later; lent = λ others e. (let a = now.lent others e in omega (arith, a, b)) }
 
 pub returns-clause-told : goal.returns-clause-told
 returns-clause-told g c = told-all (g.F.Files.counts c.args.files.now) (g.F.Files.counts c.loop-reader.files) (option_map (λ r. g.F.In.Source.faults r.source)) c.args.readers.items c.loop-reader.readers.items

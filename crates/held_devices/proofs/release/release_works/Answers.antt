@@ -25,9 +25,9 @@ loop-work-preserved g c =
     let done = c.release_work.ensures in
     let sum = sum-pop (λ w. there (op_of w)) c.loop-work.works.items c.pop.new.self.items c.in-Some.work c.in-Some.ensures.items in
     record {
-      map = done.map ∙ now.map;
-      lent = λ others e. done.lent (others + all_held c.pop.new.self.items) (let a = now.lent others e in omega (arith, a, sum));
-      later = (let a = now.later in let b = done.later in omega (arith, a, b));
+      map = done.settles.map ∙ now.map;
+      lent = λ others e. done.settles.lent (others + all_held c.pop.new.self.items) (let a = now.lent others e in omega (arith, a, sum));
+      later = (let a = now.later in let b = done.settles.later in omega (arith, a, b));
       read = λ x e. read-one (g.F.Files.read_to c.args.files.now) (g.F.Files.read_to c.loop-work.files) (g.F.Files.read_to c.release_work.new.files) (reached_of g.F.In.Source.reached) c.args.works.items
           c.loop-work.works.items c.pop.new.self.items c.in-Some.work c.in-Some.ensures.items now.read done.read x e;
       told = told-one (g.F.Files.counts c.args.files.now) (g.F.Files.counts c.loop-work.files) (g.F.Files.counts c.release_work.new.files) (λ w. count_on g.F.In.Source.faults g.F.Out.Sink.faults (held_by w)) c.args.works.items
@@ -37,15 +37,15 @@ loop-work-preserved g c =
       tallies = λ used before are. tally-back c.loop-work.works.items c.pop.new.self.items c.in-Some.work c.in-Some.ensures.items used g.Q.PlugTally before c.loop-work.places.tallies.items
           c.release_work.new.places.tallies.items done.tallies (now.tallies used before are);
       released = one-released g.F.In.Source.faults g.F.Out.Sink.faults c.args.works.items (g.F.Files.faults c.args.files.now) c.loop-work.works.items c.pop.new.self.items c.in-Some.work
-          (g.F.Files.faults c.loop-work.files) (g.F.Files.faults c.release_work.new.files) c.in-Some.ensures.items now.later done.later done.counted now.released;
+          (g.F.Files.faults c.loop-work.files) (g.F.Files.faults c.release_work.new.files) c.in-Some.ensures.items now.later done.settles.later done.counted now.released;
     }
 
-pub returns-clause-lent : goal.returns-clause-lent
-returns-clause-lent g c = λ others e.
+pub returns-clause-settles : goal.returns-clause-settles
+returns-clause-settles g c =
+    let now = c.loop-work.invariant in
     let none = none-there c.loop-work.works.items (let z = c.in_default.ensures.cases.0 in let k = c.loop-work.works.ok in omega (arith, z, k)) in
-    let a = c.loop-work.invariant.lent others e in
     let b : all_held c.loop-work.works.items ≡ 0 = ap all_held none in
-    omega (arith, a, b)
+    record { map = now.map; later = now.later; lent = λ others e. (let a = now.lent others e in omega (arith, a, b)) }
 
 pub returns-clause-counted : goal.returns-clause-counted
 returns-clause-counted g c = all-released g.F.In.Source.faults g.F.Out.Sink.faults c.args.works.items (g.F.Files.faults c.args.files.now) c.loop-work.works.items (g.F.Files.faults c.loop-work.files)

@@ -23,12 +23,12 @@ pub write_each-requires : goal.write_each-requires
 write_each-requires g c = record { inside = subst (λ n. AreInside n c.in-Ok.each.items) c.requires.count c.in-Ok.ensures.inside }
 
 pub returns-in_default-clause-err : goal.returns-in_default-clause-err
-returns-in_default-clause-err g c = inl (refl, c.release_works.ensures.map)
+returns-in_default-clause-err g c = inl (refl, c.release_works.ensures.settles.map)
 
 pub returns-in_default-clause-lent : goal.returns-in_default-clause-lent
 returns-in_default-clause-lent g c = λ others e.
     let held = same-held g.P.PlugFilter g.Q.PlugTally (faults_of g.F.In.Source.faults g.F.Out.Sink.faults) c.args.works.items c.take_each.new.works.items c.take_each.ensures.later in
-    c.release_works.ensures.lent others (omega (arith, e, held))
+    c.release_works.ensures.settles.lent others (omega (arith, e, held))
 
 pub returns-in_err-keep_works-clause-err : goal.returns-in_err-keep_works-clause-err
 returns-in_err-keep_works-clause-err g c =

@@ -46,14 +46,14 @@ returns-in-Err-clause-err g c =
     broke-off g.F.Out.Sink.bytes (files.map c.args.files.now) (files.map c.loop-work.files) (files.map c.keep_work.new.files) (files.map c.release_works.new.files)
     (files.faults c.args.files.now) (files.faults c.loop-work.files) (files.faults c.keep_work.new.files) (files.faults c.release_works.new.files)
     c.args.stages.now c.args.works.items c.loop-work.at c.in-Some.work (role_of c.index-stages-at.result.options) c.in-Err.refusal
-    (role-is c.args.stages.now c.loop-work.at c.index-stages-at.result at) p.0 n.0 now.kept now.later c.release_works.ensures.later c.release_works.ensures.map c.in-Err.ensures.err
+    (role-is c.args.stages.now c.loop-work.at c.index-stages-at.result at) p.0 n.0 now.kept now.later c.release_works.ensures.settles.later c.release_works.ensures.settles.map c.in-Err.ensures.err
 
 pub returns-in-Err-clause-lent : goal.returns-in-Err-clause-lent
 returns-in-Err-clause-lent g c = λ others e.
     let sum = sum-pop (λ w. there (op_of w)) c.loop-work.works.items c.pop.new.self.items c.in-Some.work c.in-Some.ensures.items in
     let a = c.loop-work.invariant.lent others e in
     let b = c.keep_work.ensures.lent (others + all_held c.pop.new.self.items) (omega (arith, a, sum)) in
-    c.release_works.ensures.lent others b
+    c.release_works.ensures.settles.lent others b
 
 pub loop-work-preserved : goal.loop-work-preserved
 loop-work-preserved g c =

@@ -42,8 +42,8 @@ returns-in-Filters-clause-ok g c =
     (other-work s k map c.args.number o c.args.form c.args.layout.now (Filter f) (ap is_reading does) (sym (ap op_for does))
     (λ setting e laid. subst (λ form. IsStarted {S = g.row.F-In.Denot} {K = g.row.F-Out.Denot} {P = g.row.P.Denot} {Q = g.row.Q.Denot} k.bytes setting.dims form (Filter f)) (sym c.in-Filters.is ∙ e) refl) refl)
 
-pub returns-in-Filters-clause-lent_ok : goal.returns-in-Filters-clause-lent_ok
-returns-in-Filters-clause-lent_ok g c = let nothing = ap there c.in_default.is in omega (arith, nothing)
+pub returns-in-Filters-clause-lends : goal.returns-in-Filters-clause-lends
+returns-in-Filters-clause-lends g c = record { map = refl; read_to = refl; counts = refl; later = omega arith; lent = (let nothing = ap there c.in_default.is in omega (arith, nothing)) }
 
 pub returns-in-Gathers-clause-ok : goal.returns-in-Gathers-clause-ok
 returns-in-Gathers-clause-ok g c =
@@ -58,5 +58,5 @@ returns-in-Gathers-clause-ok g c =
     (λ setting e laid. subst (λ form. IsStarted {S = g.row.F-In.Denot} {K = g.row.F-Out.Denot} {P = g.row.P.Denot} {Q = g.row.Q.Denot} k.bytes setting.dims form (Collector w)) (sym c.in-Gathers.is ∙ e)
     (record { makes = c.new.ensures.making; short = c.new.ensures.short; views = c.new.ensures.views })) refl)
 
-pub returns-in-Gathers-clause-lent_ok : goal.returns-in-Gathers-clause-lent_ok
-returns-in-Gathers-clause-lent_ok g c = let nothing = ap there c.in_default.is in omega (arith, nothing)
+pub returns-in-Gathers-clause-lends : goal.returns-in-Gathers-clause-lends
+returns-in-Gathers-clause-lends g c = record { map = refl; read_to = refl; counts = refl; later = omega arith; lent = (let nothing = ap there c.in_default.is in omega (arith, nothing)) }

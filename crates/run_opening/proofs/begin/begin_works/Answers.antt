@@ -53,7 +53,7 @@ loop-reader-init g c =
       works = c.in-Ok.ensures.len;
       room = c.in-Ok.ensures.capacity;
       map = refl;
-      lent = λ others e. (let a = ap all_there turned ∙ sum-reverse there c.args.readers.items in let b : all_held c.in-Ok.works.items ≡ 0 = ap all_held empty in omega (arith, a, b, e));
+      lent = (let a = ap all_there turned ∙ sum-reverse there c.args.readers.items in let b : all_held c.in-Ok.works.items ≡ 0 = ap all_held empty in omega (arith, a, b));
       read = refl;
       counts = refl;
       later = omega arith;
@@ -89,24 +89,27 @@ returns-in-Err-clause-err g c =
     let made = Rose (files.faults c.loop-reader.files) (files.faults c.begin_work.new.files) in
     let handed = handed_by g.P.PlugFilter g.Q.PlugTally c.args.places.now in
     uncreated-cause g.F.Out.Sink.faults made (Rose (files.faults c.args.files.now) (files.faults c.release_works.new.files)) handed (files.map c.args.files.now) c.args.stages.now c.loop-reader.at c.in-Err.sink c.in-Err.refusal
-    (λ rose. (let a = now.later in let b = c.give_back-in-Err.ensures.later in let d = c.drop_sink.ensures.later in let e = c.release_works.ensures.later in omega (arith, rose, a, b, d, e)))
+    (λ rose. (let a = now.later in let b = c.give_back-in-Err.ensures.settles.later in let d = c.drop_sink.ensures.settles.later in let e = c.release_works.ensures.settles.later in omega (arith, rose, a, b, d, e)))
     (λ k is some. (
     let one : saturating (files.faults c.give_back-in-Err.new.files) (g.F.Out.Sink.faults k) ≤ files.faults c.drop_sink.new.files = subst (λ o. IfSome o (λ x. saturating (files.faults c.give_back-in-Err.new.files) (g.F.Out.Sink.faults x) ≤ files.faults c.drop_sink.new.files)) is c.drop_sink.ensures.counted in
-    let a = now.later in let b = c.begin_work.ensures.later in let d = c.give_back-in-Err.ensures.later in let e = c.release_works.ensures.later in omega (arith, some, one, a, b, d, e)))
+    let a = now.later in let b = c.in-Err.ensures.left.later in let d = c.give_back-in-Err.ensures.settles.later in let e = c.release_works.ensures.settles.later in omega (arith, some, one, a, b, d, e)))
     lt c.requires.come (ap is_writing (sym (role-is c.args.stages.now c.loop-reader.at c.index-stages-at.result at)) ∙ c.in-Err.ensures.writes) c.in-Err.ensures.err
 
-pub returns-in-Err-clause-lent_err : goal.returns-in-Err-clause-lent_err
-returns-in-Err-clause-lent_err g c = λ others e.
-    let files = g.F.Files in
+pub returns-in-Err-clause-settles : goal.returns-in-Err-clause-settles
+returns-in-Err-clause-settles g c =
     let now = c.loop-reader.invariant in
+    let here = c.in-Err.ensures.left in
+    let readers = c.give_back-in-Err.ensures.settles in
+    let sink = c.drop_sink.ensures.settles in
+    let works = c.release_works.ensures.settles in
     let sum = sum-pop there c.loop-reader.readers.items c.pop.new.self.items c.in-Some.reader c.in-Some.ensures.items in
     let back = ap all_there c.reverse-in-Err.ensures.items ∙ sum-reverse there c.pop.new.self.items in
-    let a = now.lent others e in
-    let lent = c.in-Err.ensures.lent_err in
-    let none = c.in-Err.ensures.none in
-    let b = c.give_back-in-Err.ensures.lent (others + all_held c.loop-reader.works.items + there c.in-Err.sink) (omega (arith, a, sum, back, lent, none)) in
-    let d = c.drop_sink.ensures.lent (others + all_held c.loop-reader.works.items) b in
-    c.release_works.ensures.lent others d
+    record {
+      map = works.map ∙ sink.map ∙ readers.map ∙ here.map ∙ now.map;
+      later = (let a = now.later in let b = here.later in let d = readers.later in let e = sink.later in let f = works.later in omega (arith, a, b, d, e, f));
+      lent = λ others e. works.lent others (sink.lent (others + all_held c.loop-reader.works.items)
+          (readers.lent (others + all_held c.loop-reader.works.items + there c.in-Err.sink) (let a = now.lent in let lent = here.lent in let none = c.in-Err.ensures.none in omega (arith, a, e, sum, back, lent, none))));
+    }
 
 pub returns-in-Err-clause-least : goal.returns-in-Err-clause-least
 returns-in-Err-clause-least g c =
@@ -131,7 +134,7 @@ returns-in-Err-clause-least g c =
     let work = now.begun j w l.0 e l.1 in
     (work.calm, work.device)) made c.in-Err.sink c.in-Err.refusal (files.counts c.args.files.now) (files.counts c.give_back-in-Err.new.files) (files.counts c.drop_sink.new.files) (files.counts c.release_works.new.files)
     c.in-Err.ensures.err
-    (subst (λ o. IsAsTold (files.counts c.give_back-in-Err.new.files) (option_map (λ cs. all_listed (source_counts s.faults (drop (c.loop-reader.at + 1) readers)) ++ cs) o)) (c.begin_work.ensures.counts ∙ now.counts) first)
+    (subst (λ o. IsAsTold (files.counts c.give_back-in-Err.new.files) (option_map (λ cs. all_listed (source_counts s.faults (drop (c.loop-reader.at + 1) readers)) ++ cs) o)) (c.in-Err.ensures.left.counts ∙ now.counts) first)
     c.drop_sink.ensures.told c.release_works.ensures.told
 
 pub loop-reader-preserved : goal.loop-reader-preserved
@@ -195,19 +198,19 @@ loop-reader-preserved g c =
       left_forms = λ j le. slice_get-set_other c.loop-reader.forms.items c.loop-reader.at j c.replace-form.new.dest (λ e. absurd (omega (arith, le, e))) ∙ now.left_forms j (omega (arith, le));
       works = (let a = c.push_reserved.ensures.len in let b = now.works in omega (arith, a, b));
       room = (let a = c.push_reserved.ensures.capacity in let b = now.room in omega (arith, a, b));
-      map = c.begin_work.ensures.map ∙ now.map;
-      lent = λ others e. (let a = now.lent others e in let b = c.in-Ok-begin_work.ensures.lent_ok in omega (arith, a, b, less, more));
-      read = c.begin_work.ensures.read ∙ now.read;
-      counts = c.begin_work.ensures.counts ∙ now.counts;
-      later = (let a = c.begin_work.ensures.later in let b = now.later in omega (arith, a, b));
+      map = c.in-Ok-begin_work.ensures.lends.map ∙ now.map;
+      lent = (let a = now.lent in let b = c.in-Ok-begin_work.ensures.lends.lent in omega (arith, a, b, less, more));
+      read = c.in-Ok-begin_work.ensures.lends.read_to ∙ now.read;
+      counts = c.in-Ok-begin_work.ensures.lends.counts ∙ now.counts;
+      later = (let a = c.in-Ok-begin_work.ensures.lends.later in let b = now.later in omega (arith, a, b));
     }
 
-pub returns-clause-lent_ok : goal.returns-clause-lent_ok
-returns-clause-lent_ok g c = λ others e.
+pub returns-clause-lends : goal.returns-clause-lends
+returns-clause-lends g c =
+    let now = c.loop-reader.invariant in
     let none = none-there c.loop-reader.readers.items (let z = c.in_default-pop.ensures.cases.0 in let k = c.loop-reader.readers.ok in omega (arith, z, k)) in
-    let a = c.loop-reader.invariant.lent others e in
     let b : all_there c.loop-reader.readers.items ≡ 0 = ap all_there none in
-    omega (arith, a, b)
+    record { map = now.map; read_to = now.read; counts = now.counts; later = now.later; lent = (let a = now.lent in omega (arith, a, b)) }
 
 pub begin_work-requires-clause-form : goal.begin_work-requires-clause-form
 begin_work-requires-clause-form g c =

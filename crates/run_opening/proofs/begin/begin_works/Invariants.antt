@@ -25,7 +25,7 @@ invariant-loop-reader g l =
       works : vec_len l.works ≡ l.at;
       room : length l.stages ≤ vec_capacity l.works;
       map : files.map l.files ≡ files.map l.fn.files;
-      lent : (others : ℕ) → files.lent l.fn.files ≡ others + all_there l.fn.readers.items → files.lent l.files ≡ others + all_there l.readers.items + all_held l.works.items;
+      lent : files.lent l.files + all_there l.fn.readers.items ≡ files.lent l.fn.files + all_there l.readers.items + all_held l.works.items;
       read : files.read_to l.files ≡ files.read_to l.fn.files;
       counts : files.counts l.files ≡ files.counts l.fn.files;
       later : files.faults l.fn.files ≤ files.faults l.files;

@@ -1,4 +1,4 @@
-use Rattle.std.proofs.Common.{◌≡◌, ◌<◌, length, refl, ap, sym, subst, ◌∙◌, arith}
+use Rattle.std.proofs.Common.{◌≡◌, ◌+◌, ◌<◌, length, refl, ap, sym, subst, ◌∙◌, arith}
 use Rattle.std.proofs.lemmas.Option.{slice_get_read}
 use Rattle.std.specs.Prelude.{slice_get}
 use Rattle.file_devices.specs.Counts.{Rose}
@@ -16,8 +16,16 @@ use Rattle.run_opening.proofs.Named.{unopened-named}
 use Rattle.run_opening.proofs.Opening.{are-read, unopened-cause}
 use Rattle.run_opening.proofs.open.open_readers.Goals as goal
 
-pub returns-in-Err-clause-lent_err : goal.returns-in-Err-clause-lent_err
-returns-in-Err-clause-lent_err g c = c.give_back.ensures.lent (g.F.Files.lent c.args.files.now) (c.in-Err.ensures.lent_err ∙ c.loop-i.invariant.lent)
+pub returns-in-Err-clause-settles : goal.returns-in-Err-clause-settles
+returns-in-Err-clause-settles g c =
+    let now = c.loop-i.invariant in
+    let here = c.in-Err.ensures.settles in
+    let back = c.give_back.ensures.settles in
+    record {
+      map = back.map ∙ here.map ∙ now.map;
+      later = (let a = now.later in let b = here.later in let d = back.later in omega (arith, a, b, d));
+      lent = λ others e. back.lent others (here.lent (others + all_there c.loop-i.readers.items) (let a = now.lent in omega (arith, a, e)));
+    }
 
 pub returns-in-Err-clause-err : goal.returns-in-Err-clause-err
 returns-in-Err-clause-err g c = λ handed.
@@ -30,7 +38,7 @@ returns-in-Err-clause-err g c = λ handed.
     let why = subst (λ role. IsUnopened rose (files.map c.loop-i.files) c.loop-i.i role c.in-Err.refusal) (role-is c.args.stages.now c.loop-i.i c.index-stages-i.result at) c.in-Err.ensures.err in
     subst (λ map. IsCause (Rose (files.faults c.args.files.now) (files.faults c.give_back.new.files)) handed map c.args.stages.now c.in-Err.refusal) now.map
     (cause-weaker handed (files.map c.loop-i.files) c.args.stages.now c.in-Err.refusal
-    (rose-within (files.faults c.args.files.now) (files.faults c.loop-i.files) (files.faults c.open_stage.new.files) (files.faults c.give_back.new.files) now.later c.give_back.ensures.later)
+    (rose-within (files.faults c.args.files.now) (files.faults c.loop-i.files) (files.faults c.open_stage.new.files) (files.faults c.give_back.new.files) now.later c.give_back.ensures.settles.later)
     (unopened-cause rose handed (files.map c.loop-i.files) c.args.stages.now c.loop-i.i c.in-Err.refusal lt
     (λ m e. are-read g.F.In.Source (files.map c.args.files.now) c.args.stages.now c.loop-i.readers.items c.loop-i.i size now.opened m (sym now.map ∙ e)) why))
 
@@ -64,9 +72,9 @@ loop-i-preserved g c =
       opened = λ i o e. each-push (λ j p. IsOpened g.F.In.Source (files.map c.args.files.now) j (role_at c.args.stages.now j) p) c.loop-i.readers.items c.in-Ok-open_stage.reader c.loop-i.i size now.opened one i o (ap (λ xs. slice_get xs i) (sym pushed) ∙ e);
       count = (let a = c.push_reserved.ensures.len in let b = now.count in omega (arith, a, b));
       room = (let a = c.push_reserved.ensures.capacity in let b = now.room in omega (arith, a, b));
-      map = c.open_stage.ensures.map ∙ now.map;
-      lent = (let a = c.in-Ok-open_stage.ensures.lent_ok in let b = now.lent in omega (arith, a, b, sum));
-      read = c.in-Ok-open_stage.ensures.read ∙ now.read;
-      counts = c.in-Ok-open_stage.ensures.counts ∙ now.counts;
-      later = (let a = c.open_stage.ensures.later in let b = now.later in omega (arith, a, b));
+      map = c.in-Ok-open_stage.ensures.lends.map ∙ now.map;
+      lent = (let a = c.in-Ok-open_stage.ensures.lends.lent in let b = now.lent in omega (arith, a, b, sum));
+      read = c.in-Ok-open_stage.ensures.lends.read_to ∙ now.read;
+      counts = c.in-Ok-open_stage.ensures.lends.counts ∙ now.counts;
+      later = (let a = c.in-Ok-open_stage.ensures.lends.later in let b = now.later in omega (arith, a, b));
     }

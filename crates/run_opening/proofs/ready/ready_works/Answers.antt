@@ -34,12 +34,19 @@ pub returns-in-Err-clause-before : goal.returns-in-Err-clause-before
 returns-in-Err-clause-before g c =
     unbound-before c.args.stages.now c.in_ok-readers.readers.items c.in-Err.refusal (subst (λ rs. IsUnbound c.args.stages.now rs c.in-Err.refusal) c.as_slice.ensures.value c.in-Err.ensures.err)
 
-pub returns-in-Err-clause-lent_err : goal.returns-in-Err-clause-lent_err
-returns-in-Err-clause-lent_err g c = c.give_back.ensures.lent (g.F.Files.lent c.args.files.now) c.in_ok-readers.ensures.lent_ok
+pub returns-in-Err-clause-settles : goal.returns-in-Err-clause-settles
+returns-in-Err-clause-settles g c =
+    let first = c.in_ok-readers.ensures.lends in
+    let back = c.give_back.ensures.settles in
+    record {
+      map = back.map ∙ first.map;
+      later = (let a = first.later in let b = back.later in omega (arith, a, b));
+      lent = λ others e. back.lent others (let a = first.lent in omega (arith, a, e));
+    }
 
 pub begin_works-requires-clause-made : goal.begin_works-requires-clause-made
 begin_works-requires-clause-made g c = record {
-  opened = subst (λ map. AreOpened g.F.In.Source map c.args.stages.now c.in_ok-readers.readers.items) (sym c.open_readers.ensures.map) c.in_ok-readers.ensures.ok;
+  opened = subst (λ map. AreOpened g.F.In.Source map c.args.stages.now c.in_ok-readers.readers.items) (sym c.in_ok-readers.ensures.lends.map) c.in_ok-readers.ensures.ok;
   readers_each = c.in_ok-readers.ensures.count;
   fits = c.in-Ok.ensures.fits;
   fine = subst (λ rs. AreFine rs c.in-Ok.bound.forms.items) c.as_slice.ensures.value c.in-Ok.ensures.fine;
@@ -49,7 +56,7 @@ begin_works-requires-clause-made g c = record {
 
 pub begin_works-requires-clause-come : goal.begin_works-requires-clause-come
 begin_works-requires-clause-come g c = λ m e. can-begin g.F.In.Source (handed_by g.P.PlugFilter g.Q.PlugTally c.args.places.now) (g.F.Files.map c.args.files.now) c.args.stages.now c.in_ok-readers.readers.items c.in_ok-readers.ensures.count c.in_ok-readers.ensures.ok
-    (subst (λ rs. AreNamesBound c.args.stages.now rs (length c.args.stages.now)) c.as_slice.ensures.value c.in-Ok.ensures.bound) m (sym c.open_readers.ensures.map ∙ e)
+    (subst (λ rs. AreNamesBound c.args.stages.now rs (length c.args.stages.now)) c.as_slice.ensures.value c.in-Ok.ensures.bound) m (sym c.in_ok-readers.ensures.lends.map ∙ e)
 
 pub returns-clause-ready : goal.returns-clause-ready
 returns-clause-ready g c =
@@ -61,7 +68,7 @@ returns-clause-ready g c =
     let map = files.map c.args.files.now in
     let bound = subst (λ rs. AreNamesBound stages rs (length stages)) c.as_slice.ensures.value c.in-Ok.ensures.bound in
     if-ok3 c.begin_works.result c.begin_works.ensures.ok c.begin_works.ensures.count c.begin_works.ensures.handed (λ works begun count handed.
-    let are = subst (λ m. AreBegun g.F.In.Source g.F.Out.Sink m stages readers forms layouts works.items) c.open_readers.ensures.map begun in
+    let are = subst (λ m. AreBegun g.F.In.Source g.F.Out.Sink m stages readers forms layouts works.items) c.in_ok-readers.ensures.lends.map begun in
     let starts = are-at-start g.F.In.Source g.F.Out.Sink map stages readers forms layouts works.items count c.in_ok-readers.ensures.count c.in-Ok.ensures.count c.in-Ok.ensures.as_many are (tree-down stages c.requires.tree)
     (subst (λ rs. AreForms stages rs forms) c.as_slice.ensures.value c.in-Ok.ensures.forms) c.in-Ok.ensures.fits (subst (λ rs. AreLayouts stages rs layouts) c.as_slice.ensures.value c.in-Ok.ensures.layouts) in
     are-ready g.F.In.Source g.F.Out.Sink map stages readers forms layouts works.items count c.in_ok-readers.ensures.count c.in-Ok.ensures.count c.in-Ok.ensures.as_many are
@@ -72,15 +79,29 @@ returns-clause-err g c =
     let files = g.F.Files in
     if-err c.begin_works.result c.begin_works.ensures.err (λ refusal cause.
     let handed = handed_by g.P.PlugFilter g.Q.PlugTally c.args.places.now in
-    subst (λ map. IsCause (Rose (files.faults c.args.files.now) (files.faults c.begin_works.new.files)) handed map c.args.stages.now refusal) c.open_readers.ensures.map
+    subst (λ map. IsCause (Rose (files.faults c.args.files.now) (files.faults c.begin_works.new.files)) handed map c.args.stages.now refusal) c.in_ok-readers.ensures.lends.map
     (cause-weaker handed (files.map c.open_readers.new.files) c.args.stages.now refusal
-    (rose-within (files.faults c.args.files.now) (files.faults c.open_readers.new.files) (files.faults c.begin_works.new.files) (files.faults c.begin_works.new.files) c.open_readers.ensures.later (omega arith)) cause))
+    (rose-within (files.faults c.args.files.now) (files.faults c.open_readers.new.files) (files.faults c.begin_works.new.files) (files.faults c.begin_works.new.files) c.in_ok-readers.ensures.lends.later (omega arith)) cause))
 
-pub returns-clause-lent_ok : goal.returns-clause-lent_ok
-returns-clause-lent_ok g c = if-ok c.begin_works.result c.begin_works.ensures.lent_ok (λ works lent. lent (g.F.Files.lent c.args.files.now) c.in_ok-readers.ensures.lent_ok)
+pub returns-clause-lends : goal.returns-clause-lends
+returns-clause-lends g c =
+    let first = c.in_ok-readers.ensures.lends in
+    if-ok c.begin_works.result c.begin_works.ensures.lends (λ works lends. record {
+      map = lends.map ∙ first.map;
+      read_to = lends.read_to ∙ first.read_to;
+      counts = lends.counts ∙ first.counts;
+      later = (let a = first.later in let b = lends.later in omega (arith, a, b));
+      lent = (let a = first.lent in let b = lends.lent in omega (arith, a, b));
+    })
 
-pub returns-clause-lent_err : goal.returns-clause-lent_err
-returns-clause-lent_err g c = if-on-err c.begin_works.result c.begin_works.ensures.lent_err (λ lent. lent (g.F.Files.lent c.args.files.now) c.in_ok-readers.ensures.lent_ok)
+pub returns-clause-settles : goal.returns-clause-settles
+returns-clause-settles g c =
+    let first = c.in_ok-readers.ensures.lends in
+    if-on-err c.begin_works.result c.begin_works.ensures.settles (λ settles. record {
+      map = settles.map ∙ first.map;
+      later = (let a = first.later in let b = settles.later in omega (arith, a, b));
+      lent = λ others e. settles.lent others (let a = first.lent in omega (arith, a, e));
+    })
 
 pub returns-in_err-readers-clause-back : goal.returns-in_err-readers-clause-back
 returns-in_err-readers-clause-back g c = on-err c.from_residual.result (nothing-taken g.P.PlugFilter g.Q.PlugTally c.args.stages.now c.args.places.now)
@@ -106,4 +127,4 @@ returns-in-Err-clause-least g c =
 
 pub returns-clause-least : goal.returns-clause-least
 returns-clause-least g c = if-err c.begin_works.result c.begin_works.ensures.least (λ refusal named.
-    subst (λ o. IsNamedBy c.args.stages.now o (g.F.Files.counts c.begin_works.new.files) refusal) c.in_ok-readers.ensures.counts named)
+    subst (λ o. IsNamedBy c.args.stages.now o (g.F.Files.counts c.begin_works.new.files) refusal) c.in_ok-readers.ensures.lends.counts named)

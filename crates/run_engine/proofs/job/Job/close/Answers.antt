@@ -53,7 +53,7 @@ returns-in-Err-clause-left g c = λ stop handed m ran.
     let came = subst (HaveCome s k fs ts stop stages ran.before works) c.in-Done.is ran.came in
     let found : refusal_for c.in-Done.ended.faults.items ≡ Some c.in-Err.refusal = subst (λ fs. refusal_for fs ≡ Some c.in-Err.refusal) c.as_slice.ensures.value c.in-Err.ensures.err in
     early-left c.in-Err.refusal (files.map c.args.files.now) (files.map c.release_works-in-Err.new.files) (run_of handed m stages)
-    (fault-early s k fs ts stop handed (Some m) stages ran.before works c.in-Done.ended.faults.items c.in-Done.ended.report.items came c.in-Err.refusal found) c.release_works-in-Err.ensures.map
+    (fault-early s k fs ts stop handed (Some m) stages ran.before works c.in-Done.ended.faults.items c.in-Done.ended.report.items came c.in-Err.refusal found) c.release_works-in-Err.ensures.settles.map
 
 pub returns-in-Err-clause-refused : goal.returns-in-Err-clause-refused
 returns-in-Err-clause-refused g c = λ refusal came.
@@ -61,7 +61,7 @@ returns-in-Err-clause-refused g c = λ refusal came.
     let found : refusal_for c.in-Done.ended.faults.items ≡ Some c.in-Err.refusal = subst (λ fs. refusal_for fs ≡ Some c.in-Err.refusal) c.as_slice.ensures.value c.in-Err.ensures.err in
     let both : Some c.in-Err.refusal ≡ Some refusal = sym found ∙ met in
     let same : c.in-Err.refusal ≡ refusal = cc in
-    (ap Err same, c.release_works-in-Err.ensures.map)
+    (ap Err same, c.release_works-in-Err.ensures.settles.map)
 
 pub returns-in-Err-outcome-clause-err : goal.returns-in-Err-outcome-clause-err
 returns-in-Err-outcome-clause-err g c = λ stop handed first ran.
@@ -95,14 +95,14 @@ returns-in-Err-outcome-clause-left g c = λ stop handed m ran.
     let done = c.finish-works.result.works.items in
     let unfinished = err-of (IsUnfinished faults works done) c.finish-works.result.outcome c.in-Err-outcome.refusal c.in-Err-outcome.is c.finish-works.ensures.err in
     early-left c.in-Err-outcome.refusal (files.map c.args.files.now) (files.map c.release_works-in-Err-outcome.new.files) (run_of handed m stages)
-    (unfinished-early faults works done c.in-Err-outcome.refusal unfinished) c.release_works-in-Err-outcome.ensures.map
+    (unfinished-early faults works done c.in-Err-outcome.refusal unfinished) c.release_works-in-Err-outcome.ensures.settles.map
 
 pub returns-in-Err-outcome-clause-lent : goal.returns-in-Err-outcome-clause-lent
 returns-in-Err-outcome-clause-lent g c =
     let faults = faults_of g.S.Source.faults g.K.Sink.faults in
     let works = c.args.self.works.items in
     let done = c.finish-works.result.works.items in
-    λ others h. c.release_works-in-Err-outcome.ensures.lent others (h ∙ ap (λ n. others + n) (sym (same-held faults works done c.finish-works.ensures.later)))
+    λ others h. c.release_works-in-Err-outcome.ensures.settles.lent others (h ∙ ap (λ n. others + n) (sym (same-held faults works done c.finish-works.ensures.later)))
 
 pub returns-in-Err-outcome-clause-refused : goal.returns-in-Err-outcome-clause-refused
 returns-in-Err-outcome-clause-refused g c = λ refusal came. absurd (none-came refusal c.args.self.step c.in-Done.ended c.in-Done.is c.as_slice.ensures.value c.in_default.ensures.ok came)
